@@ -1,0 +1,51 @@
+-- Bools, options, numbers, and the elements of a list after a store. Assumes nothing.
+use mathlib.Core.Path.{_≡_, refl, sym, ap, subst, _∙_}
+use mathlib.Core.Bool.{Bool, true, false, _&&_, _||_, not, cond}
+use mathlib.Core.List.{List, [], _∷_}
+use mathlib.Core.Logic.{_⊎_, inl, inr, ⊎-elim}
+use mathlib.Core.Option.{Option, none, some}
+use Prim.Native.Nat.{ℕ, zero, suc, _+_, _≤_, _<_}
+use native.Mathlib.Omega.{arith}
+use native.Mathlib.Decide.{ℕ-discrete}
+use native.Mathlib.Nat.{le-of-suc-le-suc}
+use lib.Dec.{ltb, leb, eqb}
+use lib.ListN.{length, getD, set}
+
+pub same-or : (a b : ℕ) → (a ≡ b) ⊎ (a ≡ b → ⊥)
+same-or a b = elim (ℕ-discrete a b) [ yes e ↦ inl e | no h ↦ inr h ]
+
+pub true-or : (a : Bool) → (a ≡ true) ⊎ (a ≡ false)
+true-or true = inl refl
+true-or false = inr refl
+
+pub both-true : (a b : Bool) → (a && b) ≡ true → (a ≡ true) × (b ≡ true)
+both-true true b e = (refl, e)
+both-true false true e = (e, refl)
+both-true false false e = (e, e)
+
+pub true-both : (a b : Bool) → a ≡ true → b ≡ true → (a && b) ≡ true
+true-both a b p q = rw (p, q)
+
+pub not-both : (a : Bool) → a ≡ true → a ≡ false → ⊥
+not-both a p q = let z : _≡_ {A = ℕ} 0 1 = cc in absurd (omega arith)
+
+pub option-or {ℓ} : {A : Type ℓ} (o : Option A) → (o ≡ none) ⊎ ((a : A) × (o ≡ some a))
+option-or none = inl refl
+option-or (some a) = inr (a, refl)
+
+pub some-none : {A : Type 0} {a : A} {o : Option A} → o ≡ some a → o ≡ none → ⊥
+some-none p q = let z : _≡_ {A = ℕ} 0 1 = cc in absurd (omega arith)
+
+pub some-same : {A : Type 0} {a b : A} {o : Option A} → o ≡ some a → o ≡ some b → a ≡ b
+some-same p q = cc
+
+-- an element that is not the default is inside the list
+pub inside : (l : List ℕ) (i : ℕ) → 0 < getD l i 0 → i < length l
+inside [] i h = absurd (omega arith)
+inside (a ∷ l) zero h = omega arith
+inside (a ∷ l) (suc i) h = let r = inside l i h in omega arith
+
+pub inside-some : {A : Type 0} {a : A} (l : List (Option A)) (i : ℕ) → getD l i none ≡ some a → i < length l
+inside-some [] i h = absurd (some-none h refl)
+inside-some (b ∷ l) zero h = omega arith
+inside-some (b ∷ l) (suc i) h = let r = inside-some l i h in omega arith

@@ -1,0 +1,182 @@
+-- What `is-table` says of a table's numbers, one fact a field; and the grounds 1 to 7 give it. Assumes nothing.
+use mathlib.Core.Path.{_≡_, refl, sym, ap, subst, _∙_}
+use mathlib.Core.Bool.{Bool, true, false, _&&_, _||_, not, cond}
+use mathlib.Core.List.{List, [], _∷_}
+use mathlib.Core.Logic.{_⊎_, inl, inr, ⊎-elim}
+use Prim.Native.Nat.{ℕ, zero, suc, _+_, _^_, _≤_, _<_}
+use native.Mathlib.Omega.{arith}
+use lib.Dec.{ltb, leb, eqb}
+use lib.ListN.{length, getD}
+use borrow.Author.Tests.{ltb-true, leb-true, eqb-true, lt-ltb, le-leb, ltb-false, leb-false, eqb-false, not-true}
+use Rattle.table.specs.Table.{Table, Arc, arc, table, table-of, arcs-of, is-table, arc-good, arcs-good, nodes-below, arc-count, arc-at, tail-at, head-at, length-at, longest, no-arc, most-nodes, most-arcs, most-wanted, Below}
+use Rattle.table.specs.Grounds.{Refusal, Room, refusal, no-refusal, or-else, table-refusal, columns-bad, rooms-fit, wanted-from, wanted-refusal, arc-fault, arcs-from, arcs-refusal}
+use Rattle.auction.specs.Promises.{Not-turned-down}
+use Rattle.auction.proofs.Basics.{both-true, true-both, true-or}
+
+pub record Good (t : Table) : Type 0 where
+  pub some-node : 1 ≤ t .n
+  pub few-nodes : t .n ≤ 1024
+  pub origin-in : t .origin < t .n
+  pub few-arcs : arc-count t ≤ 6000
+  pub tail-in : (i : ℕ) → i < arc-count t → tail-at t i < t .n
+  pub head-in : (i : ℕ) → i < arc-count t → head-at t i < t .n
+  pub positive : (i : ℕ) → i < arc-count t → 1 ≤ length-at t i
+  pub not-long : (i : ℕ) → i < arc-count t → length-at t i ≤ longest
+
+arc-of : (n : ℕ) (arcs : List Arc) (d : Arc) (i : ℕ) → arcs-good n arcs ≡ true → i < length arcs → arc-good n (getD arcs i d) ≡ true
+unfolding arcs-good
+arc-of n [] d i e h = absurd (omega arith)
+arc-of n (a ∷ more) d zero e h = both-true (arc-good n a) (arcs-good n more) e .0
+arc-of n (a ∷ more) d (suc i) e h = arc-of n more d i (both-true (arc-good n a) (arcs-good n more) e .1) (omega arith)
+
+node-of : (n : ℕ) (vs : List ℕ) (i : ℕ) → nodes-below n vs ≡ true → i < length vs → getD vs i 0 < n
+unfolding nodes-below
+node-of n [] i e h = absurd (omega arith)
+node-of n (v ∷ vs) zero e h = ltb-true v n (both-true (ltb v n) (nodes-below n vs) e .0)
+node-of n (v ∷ vs) (suc i) e h = node-of n vs i (both-true (ltb v n) (nodes-below n vs) e .1) (omega arith)
+
+pub record Arc-good (n : ℕ) (a : Arc) : Type 0 where
+  pub tail-in : a .tail < n
+  pub head-in : a .head < n
+  pub positive : 1 ≤ a .arc-length
+  pub not-long : a .arc-length ≤ longest
+
+arc-facts : (n : ℕ) (a : Arc) → arc-good n a ≡ true → Arc-good n a
+unfolding arc-good
+arc-facts n a e =
+    let p = both-true (ltb (a .tail) n && ltb (a .head) n) (leb 1 (a .arc-length) && leb (a .arc-length) longest) e in
+    let q = both-true (ltb (a .tail) n) (ltb (a .head) n) (p .0) in
+    let r = both-true (leb 1 (a .arc-length)) (leb (a .arc-length) longest) (p .1) in
+    record {
+      tail-in = ltb-true (a .tail) n (q .0);
+      head-in = ltb-true (a .head) n (q .1);
+      positive = leb-true 1 (a .arc-length) (r .0);
+      not-long = leb-true (a .arc-length) longest (r .1);
+    }
+
+pub good : (t : Table) (ws : List ℕ) → is-table t ws ≡ true → Good t
+unfolding is-table arc-count tail-at head-at length-at arc-at
+good t ws e =
+    let p =
+    both-true ((leb 1 (t .n) && leb (t .n) 1024) && (ltb (t .origin) (t .n) && leb (arc-count t) 6000))
+    (arcs-good (t .n) (t .arcs) && (leb (length ws) 1024 && nodes-below (t .n) ws)) e in
+    let q = both-true (leb 1 (t .n) && leb (t .n) 1024) (ltb (t .origin) (t .n) && leb (arc-count t) 6000) (p .0) in
+    let a = both-true (leb 1 (t .n)) (leb (t .n) 1024) (q .0) in
+    let b = both-true (ltb (t .origin) (t .n)) (leb (arc-count t) 6000) (q .1) in
+    let g = both-true (arcs-good (t .n) (t .arcs)) (leb (length ws) 1024 && nodes-below (t .n) ws) (p .1) .0 in
+    let at : (i : ℕ) → i < arc-count t → Arc-good (t .n) (arc-at t i) =
+    (λ i h. arc-facts (t .n) (arc-at t i) (arc-of (t .n) (t .arcs) (arc no-arc no-arc 0) i g h)) in
+    record {
+      some-node = leb-true 1 (t .n) (a .0);
+      few-nodes = leb-true (t .n) 1024 (a .1);
+      origin-in = ltb-true (t .origin) (t .n) (b .0);
+      few-arcs = leb-true (arc-count t) 6000 (b .1);
+      tail-in = λ i h. at i h .tail-in;
+      head-in = λ i h. at i h .head-in;
+      positive = λ i h. at i h .positive;
+      not-long = λ i h. at i h .not-long;
+    }
+
+pub wanted-in : (t : Table) (ws : List ℕ) → is-table t ws ≡ true → (k : ℕ) → k < length ws → getD ws k 0 < t .n
+unfolding is-table
+wanted-in t ws e k h =
+    let p =
+    both-true ((leb 1 (t .n) && leb (t .n) 1024) && (ltb (t .origin) (t .n) && leb (arc-count t) 6000))
+    (arcs-good (t .n) (t .arcs) && (leb (length ws) 1024 && nodes-below (t .n) ws)) e .1 in
+    let q = both-true (arcs-good (t .n) (t .arcs)) (leb (length ws) 1024 && nodes-below (t .n) ws) p .1 in
+    node-of (t .n) ws k (both-true (leb (length ws) 1024) (nodes-below (t .n) ws) q .1) h
+
+-- THE BRIDGE
+
+-- a refusal whose number is not 0 was not met
+passed : (b : Bool) (r : Refusal) (m p : ℕ) → cond b (refusal (suc m) p) r .number ≡ 0 → (b ≡ false) × (r .number ≡ 0)
+unfolding refusal
+passed true r m p e = absurd (omega arith)
+passed false r m p e = (refl, e)
+
+or-else-none : (a b : Refusal) → or-else a b .number ≡ 0 → (a .number ≡ 0) × (b .number ≡ 0)
+unfolding or-else
+or-else-none a b e =
+    ⊎-elim
+    (λ (h : eqb (a .number) 0 ≡ true).
+    let z = eqb-true (a .number) 0 h in
+    (z, subst (λ (c : Bool). cond c b a .number ≡ 0) h e))
+    (λ (h : eqb (a .number) 0 ≡ false).
+    absurd (eqb-false (a .number) 0 h (subst (λ (c : Bool). cond c b a .number ≡ 0) h e)))
+    (true-or (eqb (a .number) 0))
+
+either-false : (a b : Bool) → (a || b) ≡ false → (a ≡ false) × (b ≡ false)
+either-false true b e = let z : _≡_ {A = ℕ} 0 1 = cc in absurd (omega arith)
+either-false false b e = (refl, e)
+
+wanted-pass : (i n : ℕ) (ws : List ℕ) → wanted-from i n ws .number ≡ 0 → nodes-below n ws ≡ true
+unfolding wanted-from nodes-below refusal
+wanted-pass i n [] e = refl
+wanted-pass i n (w ∷ ws) e =
+    ⊎-elim
+    (λ (h : ltb w n ≡ true).
+    let r : wanted-from (suc i) n ws .number ≡ 0 = subst (λ (c : Bool). cond c (wanted-from (suc i) n ws) (refusal 5 i) .number ≡ 0) h e in
+    true-both (ltb w n) (nodes-below n ws) h (wanted-pass (suc i) n ws r))
+    (λ (h : ltb w n ≡ false).
+    let r : _≡_ {A = ℕ} 5 0 = subst (λ (c : Bool). cond c (wanted-from (suc i) n ws) (refusal 5 i) .number ≡ 0) h e in
+    absurd (omega arith))
+    (true-or (ltb w n))
+
+fault-none : (a b : Bool) → _≡_ {A = ℕ} (cond a 6 (cond b 7 0)) 0 → (a ≡ false) × (b ≡ false)
+fault-none true b e = absurd (omega arith)
+fault-none false true e = absurd (omega arith)
+fault-none false false e = (refl, refl)
+
+arc-pass : (n : ℕ) (a : Arc) → arc-fault n a ≡ 0 → a .arc-length < 2 ^ 32 → arc-good n a ≡ true
+unfolding arc-fault arc-good
+arc-pass n a e h =
+    let p = fault-none (leb n (a .tail) || leb n (a .head)) (eqb (a .arc-length) 0) e in
+    let q = either-false (leb n (a .tail)) (leb n (a .head)) (p .0) in
+    let far : a .arc-length ≡ 0 → ⊥ = eqb-false (a .arc-length) 0 (p .1) in
+    let least : 1 ≤ a .arc-length = omega arith in
+    let most : a .arc-length ≤ longest = omega arith in
+    rw (lt-ltb (a .tail) n (leb-false n (a .tail) (q .0)), lt-ltb (a .head) n (leb-false n (a .head) (q .1)), le-leb 1 (a .arc-length) least, le-leb (a .arc-length) longest most)
+
+arcs-pass : (i n : ℕ) (ts hs ls : List ℕ) → arcs-from i n (arcs-of ts hs ls) .number ≡ 0 → Below (2 ^ 32) ls → arcs-good n (arcs-of ts hs ls) ≡ true
+unfolding arcs-from arcs-good arcs-of Below arc refusal
+arcs-pass i n [] hs ls e b = refl
+arcs-pass i n (t ∷ ts) [] ls e b = refl
+arcs-pass i n (t ∷ ts) (h ∷ hs) [] e b = refl
+arcs-pass i n (t ∷ ts) (h ∷ hs) (l ∷ ls) e b =
+    ⊎-elim
+    (λ (p : eqb (arc-fault n (arc t h l)) 0 ≡ true).
+    let r : arcs-from (suc i) n (arcs-of ts hs ls) .number ≡ 0 =
+    subst (λ (c : Bool). cond c (arcs-from (suc i) n (arcs-of ts hs ls)) (refusal (arc-fault n (arc t h l)) i) .number ≡ 0) p e in
+    let fits : l < 2 ^ 32 = b 0 in
+    true-both (arc-good n (arc t h l)) (arcs-good n (arcs-of ts hs ls)) (arc-pass n (arc t h l) (eqb-true (arc-fault n (arc t h l)) 0 p) fits)
+    (arcs-pass (suc i) n ts hs ls r (λ k. b (suc k))))
+    (λ (p : eqb (arc-fault n (arc t h l)) 0 ≡ false).
+    absurd
+    (eqb-false (arc-fault n (arc t h l)) 0 p
+    (subst (λ (c : Bool). cond c (arcs-from (suc i) n (arcs-of ts hs ls)) (refusal (arc-fault n (arc t h l)) i) .number ≡ 0) p e)))
+    (true-or (eqb (arc-fault n (arc t h l)) 0))
+
+arcs-of-length : (ts hs ls : List ℕ) → length (arcs-of ts hs ls) ≤ length ts
+unfolding arcs-of
+arcs-of-length [] hs ls = omega arith
+arcs-of-length (t ∷ ts) [] ls = omega arith
+arcs-of-length (t ∷ ts) (h ∷ hs) [] = omega arith
+arcs-of-length (t ∷ ts) (h ∷ hs) (l ∷ ls) = let r = arcs-of-length ts hs ls in omega arith
+
+pub not-turned-down : Not-turned-down
+unfolding Not-turned-down table-refusal is-table table-of table arc-count wanted-refusal columns-bad arcs-refusal
+not-turned-down n o ts hs ls ws rooms fits e =
+    let p = passed (eqb n 0 || ltb most-nodes n) _ 0 0 e in
+    let q = passed (columns-bad ts hs ls) _ 1 0 (p .1) in
+    let r = passed (not (rooms-fit rooms)) _ 2 0 (q .1) in
+    let s = passed (leb n o) _ 3 0 (r .1) in
+    let w = or-else-none (wanted-refusal n ws) (arcs-refusal n (arcs-of ts hs ls)) (s .1) in
+    let x = passed (ltb most-wanted (length ws)) (wanted-from 0 n ws) 4 most-wanted (w .0) in
+    let n-facts = either-false (eqb n 0) (ltb most-nodes n) (p .0) in
+    let n-not-zero : n ≡ 0 → ⊥ = eqb-false n 0 (n-facts .0) in
+    let n-low = ltb-false most-nodes n (n-facts .1) in
+    let m-low = ltb-false most-arcs (length ts) (either-false (not (eqb (length ts) (length hs) && eqb (length hs) (length ls))) (ltb most-arcs (length ts)) (q .0) .1) in
+    let o-low = leb-false n o (s .0) in
+    let w-low = ltb-false most-wanted (length ws) (x .0) in
+    let a-low = arcs-of-length ts hs ls in
+    rw (le-leb 1 n (omega arith), le-leb n 1024 n-low, lt-ltb o n o-low, le-leb (length (arcs-of ts hs ls)) 6000 (omega arith), arcs-pass 0 n ts hs ls (w .1) fits, le-leb (length ws) 1024 w-low, wanted-pass 0 n ws (x .1))

@@ -1,0 +1,3 @@
+pub mod Auction
+pub mod HandOver
+pub mod Promises

@@ -1,0 +1,168 @@
+-- What is promised of every run, of every table that is not turned down as faulty and every wanted list. Each promise is a type; its proof, by the
+-- same name in small letters, stands in proofs/Promised.antt. Assumes nothing.
+--
+-- A table that is not turned down is one with `is-table t ws ≡ true` (the last promise). A node has been REACHED where its distance is handed over.
+use mathlib.Core.Path.{_≡_}
+use mathlib.Core.Bool.{Bool, true, false, _&&_}
+use mathlib.Core.List.{List, [], _∷_}
+use mathlib.Core.Option.{Option, none, some}
+use Prim.Native.Nat.{ℕ, suc, _+_, _*_, _-_, _/_, _^_, _≤_, _<_}
+use lib.Dec.{eqb}
+use lib.ListN.{length, getD}
+use Rattle.table.specs.Table.{Table, table-of, is-table, is-walk, walk-length, arc-count, tail-at, head-at, length-at, longest, no-arc, no-distance, Below}
+use Rattle.table.specs.Grounds.{Room, table-refusal}
+use Rattle.auction.specs.Auction.{State, Bid, auction, run, start, next, after, best, terminal, all-reached, was-reached, distance, bound-at, price-at, iterations, most-iterations}
+use Rattle.auction.specs.HandOver.{prices, tree, returned, first-missing}
+
+-- the state in which a run ends, and what is handed over from it: the walk returned to a node, a node's price, its tree entry
+unfoldable pub last-state : Table → (wanted : List ℕ) → State
+last-state t ws = auction t ws .last
+
+unfoldable pub route : Table → (wanted : List ℕ) → (v : ℕ) → List ℕ
+route t ws v = returned t (tree t (last-state t ws)) v
+
+unfoldable pub price : Table → (wanted : List ℕ) → (v : ℕ) → ℕ
+price t ws v = getD (prices t (last-state t ws)) v 0
+
+unfoldable pub link : Table → (wanted : List ℕ) → (v : ℕ) → ℕ
+link t ws v = getD (tree t (last-state t ws)) v no-arc
+
+-- THE THIRD DEMAND
+
+-- The walk returned to a reached node is a walk from the origin to it, its length is the node's distance, and no other walk there is shorter.
+pub record Shortest (t : Table) (ws : List ℕ) (v : ℕ) : Type 0 where
+  pub walk : is-walk t (route t ws v) v ≡ true
+  pub as-long : walk-length t (route t ws v) ≡ distance (last-state t ws) v
+  pub least : (other : List ℕ) → is-walk t other v ≡ true → distance (last-state t ws) v ≤ walk-length t other
+
+unfoldable pub Walk-shortest : Type 0
+Walk-shortest =
+    (t : Table) (ws : List ℕ) (v : ℕ) → is-table t ws ≡ true → was-reached (last-state t ws) v ≡ true → Shortest t ws v
+
+-- Each wanted node that has a walk is given one: it is reached, also where another wanted node has none.
+unfoldable pub Walk-given : Type 0
+Walk-given =
+    (t : Table) (ws : List ℕ) (k : ℕ) (walk : List ℕ) → is-table t ws ≡ true → k < length ws → is-walk t walk (getD ws k 0) ≡ true →
+    was-reached (last-state t ws) (getD ws k 0) ≡ true
+
+-- The prices show it. On every link the near end's price is at most the link's length plus the far end's price,
+unfoldable pub Prices-fit : Type 0
+Prices-fit =
+    (t : Table) (ws : List ℕ) (i : ℕ) → is-table t ws ≡ true → i < arc-count t →
+    price t ws (tail-at t i) ≤ length-at t i + price t ws (head-at t i)
+
+-- equal along the walks returned, and the origin's price less a node's price is the walk's length.
+unfoldable pub equal-along : Table → (wanted walk : List ℕ) → Bool
+equal-along t ws [] = true
+equal-along t ws (i ∷ is) = eqb (price t ws (tail-at t i)) (length-at t i + price t ws (head-at t i)) && equal-along t ws is
+
+pub record Shown (t : Table) (ws : List ℕ) (v : ℕ) : Type 0 where
+  pub equal : equal-along t ws (route t ws v) ≡ true
+  pub difference : price t ws (t .origin) ≡ walk-length t (route t ws v) + price t ws v
+
+unfoldable pub Prices-show : Type 0
+Prices-show =
+    (t : Table) (ws : List ℕ) (v : ℕ) → is-table t ws ≡ true → was-reached (last-state t ws) v ≡ true → Shown t ws v
+
+-- "No route" exactly when some wanted node has no walk; its place is the least index of such a node.
+unfoldable pub Has-walk : Table → (v : ℕ) → Type 0
+Has-walk t v = (walk : List ℕ) × (is-walk t walk v ≡ true)
+
+unfoldable pub No-walk : Table → (v : ℕ) → Type 0
+No-walk t v = (walk : List ℕ) → is-walk t walk v ≡ false
+
+pub record First-without-walk (t : Table) (ws : List ℕ) (place : ℕ) : Type 0 where
+  pub wanted : place < length ws
+  pub without : No-walk t (getD ws place 0)
+  pub earlier : (k : ℕ) → k < place → Has-walk t (getD ws k 0)
+
+unfoldable pub Route-to-all : Type 0
+Route-to-all =
+    (t : Table) (ws : List ℕ) → is-table t ws ≡ true → auction t ws .routed ≡ true → (k : ℕ) → k < length ws → Has-walk t (getD ws k 0)
+
+unfoldable pub No-route : Type 0
+No-route =
+    (t : Table) (ws : List ℕ) → is-table t ws ≡ true → auction t ws .routed ≡ false →
+    First-without-walk t ws (first-missing 0 ws (last-state t ws))
+
+-- The iterations are at most 2(n³ − n)/3 + 3(n − 1), whatever the lengths; and at most (n³ − n)/3 + 3(n − 1), which is sharper.
+unfoldable pub Few-iterations : Type 0
+Few-iterations = (t : Table) (ws : List ℕ) → is-table t ws ≡ true → iterations (last-state t ws) ≤ most-iterations (t .n)
+
+unfoldable pub Fewer-iterations : Type 0
+Fewer-iterations =
+    (t : Table) (ws : List ℕ) → is-table t ws ≡ true →
+    iterations (last-state t ws) ≤ (t .n * t .n * t .n - t .n) / 3 + 3 * (t .n - 1)
+
+-- The run ends by itself: at a real stop, and at the same one however much further it could have counted down.
+pub record Stopped (t : Table) (ws : List ℕ) : Type 0 where
+  pub found : auction t ws .routed ≡ true → all-reached ws (last-state t ws) ≡ true
+  pub stuck : auction t ws .routed ≡ false → next t (last-state t ws) ≡ none
+  pub missing : auction t ws .routed ≡ false → all-reached ws (last-state t ws) ≡ false
+  pub no-cap : (more : ℕ) → run (suc (most-iterations (t .n)) + more) (all-reached ws) t (start t) ≡ auction t ws
+
+unfoldable pub Ends-by-itself : Type 0
+Ends-by-itself = (t : Table) (ws : List ℕ) → is-table t ws ≡ true → Stopped t ws
+
+-- The counts are those of the auction: contractions, extensions and deletions add up to the iterations made, each the auction's own step, and none
+-- is made after every wanted node has been reached.
+pub record Counted (t : Table) (ws : List ℕ) : Type 0 where
+  pub steps : after (iterations (last-state t ws)) t ≡ some (last-state t ws)
+  pub not-before : (k : ℕ) (x : State) → k < iterations (last-state t ws) → after k t ≡ some x → all-reached ws x ≡ false
+
+unfoldable pub Iterations-counted : Type 0
+Iterations-counted = (t : Table) (ws : List ℕ) → is-table t ws ≡ true → Counted t ws
+
+-- THE SECOND DEMAND
+
+-- An arc into v ATTAINS a distance where some walk to its tail and the arc together are that long.
+pub record Attains (t : Table) (v d i : ℕ) : Type 0 where
+  pub listed : i < arc-count t
+  pub into : head-at t i ≡ v
+  pub walk : List ℕ
+  pub to-tail : is-walk t walk (tail-at t i) ≡ true
+  pub total : walk-length t walk + length-at t i ≡ d
+
+-- The link of each reached node but the origin attains its distance, and it is the earliest listed of all arcs that do.
+pub record Earliest (t : Table) (ws : List ℕ) (v : ℕ) : Type 0 where
+  pub attains : Attains t v (distance (last-state t ws) v) (link t ws v)
+  pub first : (i : ℕ) → Attains t v (distance (last-state t ws) v) i → link t ws v ≤ i
+
+unfoldable pub Earliest-link : Type 0
+Earliest-link =
+    (t : Table) (ws : List ℕ) (v : ℕ) → is-table t ws ≡ true → was-reached (last-state t ws) v ≡ true → (v ≡ t .origin → ⊥) → Earliest t ws v
+
+-- OF EVERY STATE OF A RUN
+
+-- A price is never above the least bid.
+unfoldable pub Never-above : Type 0
+Never-above =
+    (t : Table) (k : ℕ) (x : State) (b : Bid) → is-table t [] ≡ true → after k t ≡ some x → best t (terminal x) x ≡ some b →
+    price-at x (terminal x) ≤ b .value
+
+-- Nodes are reached in ascending distance, equals allowed, and a distance once reached stays.
+unfoldable pub Ascending : Type 0
+Ascending =
+    (t : Table) (k : ℕ) (x y : State) (u v : ℕ) → is-table t [] ≡ true → after k t ≡ some x → next t x ≡ some y →
+    was-reached x u ≡ true → was-reached x v ≡ false → was-reached y v ≡ true →
+    (distance y u ≡ distance x u) × (distance y u ≤ distance y v)
+
+-- A reached distance is at most (n − 1)(2³² − 1), so it is never 2⁶⁴ − 1; price and bound of a node together are at most n(2³² − 1). So no sum of
+-- the run passes 64 bits.
+unfoldable pub Small-distances : Type 0
+Small-distances =
+    (t : Table) (k : ℕ) (x : State) (v : ℕ) → is-table t [] ≡ true → after k t ≡ some x → was-reached x v ≡ true →
+    (distance x v ≤ (t .n - 1) * longest) × (distance x v < no-distance)
+
+unfoldable pub Small-sums : Type 0
+Small-sums =
+    (t : Table) (k : ℕ) (x : State) (v d : ℕ) → is-table t [] ≡ true → after k t ≡ some x → bound-at x v ≡ some d →
+    price-at x v + d ≤ t .n * longest
+
+-- FOR EVERY TABLE NOT TURNED DOWN
+
+-- Where none of the grounds 1 to 7 applies to columns whose lengths are 32 bits each, the table is one that the promises speak of.
+unfoldable pub Not-turned-down : Type 0
+Not-turned-down =
+    (n o : ℕ) (tails heads lengths wanted : List ℕ) (rooms : List Room) → Below (2 ^ 32) lengths →
+    table-refusal n o tails heads lengths wanted rooms .number ≡ 0 → is-table (table-of n o tails heads lengths) wanted ≡ true
