@@ -1,0 +1,124 @@
+-- A node's outgoing arcs: the arcs that a list jumps over leave other nodes, so they offer nothing and bid nothing. Assumes nothing.
+use mathlib.Core.Path.{_≡_, refl, sym, ap, ap₂, subst, _∙_}
+use mathlib.Core.Bool.{Bool, true, false, _&&_, cond}
+use mathlib.Core.List.{List}
+use mathlib.Core.Logic.{_⊎_, inl, inr, ⊎-elim}
+use mathlib.Core.Option.{Option, none, some}
+use Prim.Native.Nat.{ℕ, zero, suc, _+_, _-_, _≤_, _<_}
+use native.Mathlib.Omega.{arith}
+use native.Mathlib.Nat.{add-zero, add-suc}
+use lib.Dec.{ltb, leb, eqb}
+use lib.ListN.{length, getD}
+use borrow.Author.Tests.{eqb-true, eqb-false, eq-eqb, ne-eqb, leb-true, leb-false, le-leb, lt-leb}
+use Rattle.table.specs.Table.{Table, arc-count, tail-at, head-at, length-at, no-arc, most-arcs}
+use Rattle.auction.specs.Auction.{State, Bid, bid, offer, offers, takes, best-from, to-child, with-bid, lower-bid, price-at}
+use Rattle.auction.proofs.Basics.{same-or, true-or}
+use Rattle.solver.specs.Lists.{next-out, Linked, Listed}
+use Rattle.solver.specs.Steps.{lower-of}
+
+-- an arc out of v at a position from i on, or none
+pub record Found (t : Table) (k i v p : ℕ) : Type 0 where
+  pub from : i ≤ p
+  pub inside : (p ≡ no-arc → ⊥) → (p < i + k) × (tail-at t p ≡ v)
+
+module _ (t : Table) (v : ℕ) where
+  next-here : (k i : ℕ) → tail-at t i ≡ v → next-out (suc k) i t v ≡ i
+  unfolding next-out
+  next-here k i e = rw (eq-eqb (tail-at t i) v e)
+
+  next-past : (k i : ℕ) → (tail-at t i ≡ v → ⊥) → next-out (suc k) i t v ≡ next-out k (suc i) t v
+  unfolding next-out
+  next-past k i d = rw (ne-eqb (tail-at t i) v d)
+
+  pub found : (k i : ℕ) → i + k ≤ most-arcs → Found t k i v (next-out k i t v)
+  unfolding next-out
+  found zero i h = record { from = omega arith; inside = λ d. absurd (d refl) }
+  found (suc k) i h =
+      ⊎-elim
+        (λ (e : tail-at t i ≡ v).
+        subst (λ (q : ℕ). Found t (suc k) i v q) (sym (next-here k i e)) (record { from = omega arith; inside = λ d. (omega arith, e) }))
+        (λ (d : tail-at t i ≡ v → ⊥).
+        let r = found k (suc i) (omega arith) in
+        subst (λ (q : ℕ). Found t (suc k) i v q) (sym (next-past k i d))
+          (record { from = omega (arith, r .from); inside = λ e. (omega (arith, r .inside e .0), r .inside e .1) }))
+        (same-or (tail-at t i) v)
+
+  -- an arc that leaves another node changes nothing
+  offer-other : (i : ℕ) (x : State) → (tail-at t i ≡ v → ⊥) → offer t v i x ≡ x
+  unfolding offer takes
+  offer-other i x d = rw (ne-eqb (tail-at t i) v d)
+
+  bid-other : (i : ℕ) (x : State) (b : Bid) (later : Option Bid) → (tail-at t i ≡ v → ⊥) → with-bid (to-child t v i x) b later ≡ later
+  unfolding to-child with-bid
+  bid-other i x b later d = rw (ne-eqb (tail-at t i) v d)
+
+  -- the arcs that are jumped over
+  pub offers-skip : (k i : ℕ) (x : State) → i + k ≤ most-arcs →
+      offers k i t v x ≡ offers (i + k - next-out k i t v) (next-out k i t v) t v x
+  unfolding offers next-out
+  offers-skip zero i x h =
+      let z : i + 0 - no-arc ≡ 0 = omega arith in
+      sym (ap (λ m. offers m no-arc t v x) z)
+  offers-skip (suc k) i x h =
+      ⊎-elim
+        (λ (e : tail-at t i ≡ v).
+        let z : i + suc k - i ≡ suc k = omega arith in
+        rw (eq-eqb (tail-at t i) v e) (sym (ap (λ m. offers m i t v x) z)))
+        (λ (d : tail-at t i ≡ v → ⊥).
+        let z : suc i + k ≡ i + suc k = omega arith in
+        let r = offers-skip k (suc i) x (omega arith) in
+        rw (ne-eqb (tail-at t i) v d, offer-other i x d)
+          (subst (λ (m : ℕ). offers k (suc i) t v x ≡ offers (m - next-out k (suc i) t v) (next-out k (suc i) t v) t v x) z r))
+        (same-or (tail-at t i) v)
+
+  pub bids-skip : (k i : ℕ) (x : State) → i + k ≤ most-arcs →
+      best-from k i t v x ≡ best-from (i + k - next-out k i t v) (next-out k i t v) t v x
+  unfolding best-from next-out
+  bids-skip zero i x h =
+      let z : i + 0 - no-arc ≡ 0 = omega arith in
+      sym (ap (λ m. best-from m no-arc t v x) z)
+  bids-skip (suc k) i x h =
+      ⊎-elim
+        (λ (e : tail-at t i ≡ v).
+        let z : i + suc k - i ≡ suc k = omega arith in
+        rw (eq-eqb (tail-at t i) v e) (sym (ap (λ m. best-from m i t v x) z)))
+        (λ (d : tail-at t i ≡ v → ⊥).
+        let z : suc i + k ≡ i + suc k = omega arith in
+        let r = bids-skip k (suc i) x (omega arith) in
+        rw (ne-eqb (tail-at t i) v d, bid-other i x (bid (length-at t i + price-at x (head-at t i)) i) (best-from k (suc i) t v x) d)
+          (subst (λ (m : ℕ). best-from k (suc i) t v x ≡ best-from (m - next-out k (suc i) t v) (next-out k (suc i) t v) t v x) z r))
+        (same-or (tail-at t i) v)
+
+-- the lower of bids: it does not matter which two are compared first
+lower-bid-same : (a b : Bid) (c : Option Bid) → lower-bid a (some (lower-bid b c)) ≡ lower-bid (lower-bid a (some b)) c
+unfolding lower-bid
+lower-bid-same a b none = refl
+lower-bid-same a b (some c) =
+    ⊎-elim
+      (λ (p : leb (b .value) (c .value) ≡ true).
+      ⊎-elim
+        (λ (q : leb (a .value) (b .value) ≡ true).
+        let h : a .value ≤ c .value = omega (arith, leb-true (b .value) (c .value) p, leb-true (a .value) (b .value) q) in
+        rw (p, q, le-leb (a .value) (c .value) h))
+        (λ (q : leb (a .value) (b .value) ≡ false). rw (p, q, p))
+        (true-or (leb (a .value) (b .value))))
+      (λ (p : leb (b .value) (c .value) ≡ false).
+      ⊎-elim
+        (λ (q : leb (a .value) (b .value) ≡ true). rw (p, q))
+        (λ (q : leb (a .value) (b .value) ≡ false).
+        let h : c .value < a .value = omega (arith, leb-false (b .value) (c .value) p, leb-false (a .value) (b .value) q) in
+        rw (p, q, p, lt-leb (a .value) (c .value) h))
+        (true-or (leb (a .value) (b .value))))
+      (true-or (leb (b .value) (c .value)))
+
+pub lower-of-none : (a : Option Bid) → lower-of a none ≡ a
+unfolding lower-of lower-bid
+lower-of-none none = refl
+lower-of-none (some a) = refl
+
+pub lower-of-bid : (a : Option Bid) (child : Bool) (b : Bid) (later : Option Bid) →
+    lower-of (lower-of a (with-bid child b none)) later ≡ lower-of a (with-bid child b later)
+unfolding lower-of with-bid lower-bid
+lower-of-bid a false b later = ap (λ o. lower-of o later) (lower-of-none a)
+lower-of-bid none true b later = refl
+lower-of-bid (some a) true b later = ap some (sym (lower-bid-same a b later))

@@ -1,0 +1,3 @@
+pub mod Arrays
+pub mod Arcs
+pub mod Offering

@@ -1,0 +1,100 @@
+-- Whether an offered bound is kept, and what offering one arc leaves. Assumes nothing.
+use mathlib.Core.Path.{_≡_, refl, sym, ap, ap₂, subst, _∙_}
+use mathlib.Core.Bool.{Bool, true, false, _&&_, _||_, not, cond}
+use mathlib.Core.List.{List}
+use mathlib.Core.Logic.{⊎-elim}
+use mathlib.Core.Option.{Option, none, some}
+use Prim.Native.Nat.{ℕ, zero, suc, _+_, _≤_, _<_}
+use native.Mathlib.Omega.{arith}
+use lib.Dec.{ltb, eqb}
+use lib.ListN.{length, getD, set}
+use lib.Seq.{getD-set-other}
+use borrow.Author.Tests.{lt-ltb, le-ltb, eq-eqb, ne-eqb}
+use Rattle.table.specs.Table.{Table, tail-at, head-at, length-at, no-arc, no-distance}
+use Rattle.auction.specs.Auction.{State, improves, takes, offer, distance, was-reached, bound-at, kept-at, with-kept, or-zero}
+use Rattle.auction.proofs.Basics.{same-or}
+use Rattle.solver.specs.declared.state.Progress.{Progress}
+use Rattle.solver.specs.Seen.{bound-of, arc-of, seen}
+use Rattle.solver.specs.Steps.{Offered}
+use Rattle.solver.proofs.Arrays.{some-bound, some-arc, no-bound, no-kept, seen-bound, seen-kept, seen-status, store-kept}
+
+-- WHETHER A BOUND IS KEPT
+module _ (o i b k : ℕ) (fits : o < no-distance) where
+  equal-lower : o ≡ b → improves o i (bound-of b) (arc-of k) ≡ ltb i (or-zero (arc-of k))
+  unfolding improves
+  equal-lower e = rw (some-bound b (λ z. omega arith), le-ltb o b (omega arith), eq-eqb o b e)
+
+  -- equal bounds, and a lower position than the kept arc's
+  pub equal-before : o ≡ b → i < k → not (eqb k no-arc) ≡ improves o i (bound-of b) (arc-of k)
+  unfolding or-zero
+  equal-before e h =
+      ⊎-elim
+        (λ (z : k ≡ no-arc). rw (equal-lower e, no-kept k z, eq-eqb k no-arc z) (sym (le-ltb i 0 (omega arith))))
+        (λ (z : k ≡ no-arc → ⊥). rw (equal-lower e, some-arc k z, ne-eqb k no-arc z) (sym (lt-ltb i k h)))
+        (same-or k no-arc)
+
+  pub equal-after : o ≡ b → k ≤ i → ltb i k ≡ improves o i (bound-of b) (arc-of k)
+  unfolding or-zero
+  equal-after e h =
+      ⊎-elim
+        (λ (z : k ≡ no-arc). rw (equal-lower e, no-kept k z, le-ltb i k h) (sym (le-ltb i 0 (omega arith))))
+        (λ (z : k ≡ no-arc → ⊥). rw (equal-lower e, some-arc k z))
+        (same-or k no-arc)
+
+  or-false : (a : Bool) → a ≡ (a || false)
+  or-false true = refl
+  or-false false = refl
+
+  pub unequal : (o ≡ b → ⊥) → ltb o b ≡ improves o i (bound-of b) (arc-of k)
+  unfolding improves
+  unequal d =
+      ⊎-elim
+        (λ (z : b ≡ no-distance). rw (no-bound b z) (lt-ltb o b (omega arith)))
+        (λ (z : b ≡ no-distance → ⊥). rw (some-bound b z, ne-eqb o b d) (or-false (ltb o b)))
+        (same-or b no-distance)
+
+-- ONE ARC OFFERED
+offer-is : (t : Table) (v i j d : ℕ) (x : State) → tail-at t i ≡ v → head-at t i ≡ j → distance x v + length-at t i ≡ d →
+    offer t v i x ≡ cond (not (was-reached x j) && improves d i (bound-at x j) (kept-at x j)) (with-kept j i d x) x
+unfolding offer takes
+offer-is t v i j d x et eh ed = rw (eq-eqb (tail-at t i) v et, eh, ed)
+
+module _ (j : ℕ) (p u b k s : List ℕ) (g : Progress) where
+  as-said : (o i : ℕ) (a : Bool) → j < length b → j < length k → improves o i (bound-of (getD b j 0)) (arc-of (getD k j 0)) ≡ a →
+      improves o i (bound-at (seen p u b k s g) j) (kept-at (seen p u b k s g) j) ≡ a
+  as-said o i a hb hk e = rw (seen-bound p u b k s g j hb, seen-kept p u b k s g j hk) e
+
+  unreached-here : getD s j 0 ≡ 0 → was-reached (seen p u b k s g) j ≡ false
+  unfolding was-reached
+  unreached-here e = rw (seen-status p u b k s g j) (le-ltb 0 (getD s j 0) (omega arith))
+
+  reached-here : (getD s j 0 ≡ 0 → ⊥) → was-reached (seen p u b k s g) j ≡ true
+  unfolding was-reached
+  reached-here d = rw (seen-status p u b k s g j) (lt-ltb 0 (getD s j 0) (omega arith))
+
+module _ {j i o : ℕ} {b k s : List ℕ} (hb : j < length b) (hk : j < length k) where
+  pub offered-kept : o < no-distance → i < no-arc → getD s j 0 ≡ 0 →
+      improves o i (bound-of (getD b j 0)) (arc-of (getD k j 0)) ≡ true → Offered j i o b k s (set b j o) (set k j i)
+  offered-kept fits low e better =
+      record {
+        as-defined = λ t v p u g et eh ed.
+          store-kept p u b k s g j i o (λ z. omega arith) (λ z. omega arith)
+          ∙ sym (rw (offer-is t v i j o (seen p u b k s g) et eh ed, unreached-here j p u b k s g e, as-said j p u b k s g o i true hb hk better));
+        fixed = λ v h. getD-set-other b j v o 0 (λ z. let q = ap (λ m. getD s m 0) z in omega arith);
+      }
+
+  pub offered-dropped : improves o i (bound-of (getD b j 0)) (arc-of (getD k j 0)) ≡ false → getD s j 0 ≡ 0 → Offered j i o b k s b k
+  offered-dropped worse e =
+      record {
+        as-defined = λ t v p u g et eh ed.
+          sym (rw (offer-is t v i j o (seen p u b k s g) et eh ed, unreached-here j p u b k s g e, as-said j p u b k s g o i false hb hk worse));
+        fixed = λ v h. refl;
+      }
+
+  pub offered-reached : (getD s j 0 ≡ 0 → ⊥) → Offered j i o b k s b k
+  offered-reached d =
+      record {
+        as-defined = λ t v p u g et eh ed.
+          sym (rw (offer-is t v i j o (seen p u b k s g) et eh ed, reached-here j p u b k s g d));
+        fixed = λ v h. refl;
+      }

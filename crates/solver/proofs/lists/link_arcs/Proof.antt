@@ -1,0 +1,104 @@
+use Rattle.solver.proofs.lists.link_arcs.Statement.{statement}
+use Rattle.solver.proofs.lists.link_arcs.Tie as tie
+use Rattle.solver.proofs.lists.link_arcs.Reads as reads
+use Rattle.solver.proofs.lists.link_arcs.Lts as lts
+use Rattle.solver.proofs.lists.narrow.Reads as narrow-reads
+use Rattle.solver.proofs.wide.Reads as wide-reads
+
+abbrev Inv-loop : tie.InvT-loop
+Inv-loop tails first₀ next₀ p₀ first next p = ?
+
+abbrev μ-loop : tie.MeasureT-loop
+μ-loop tails first₀ next₀ p₀ first next p = ?
+
+-- src/lists.rt:25:5
+loop-holds : tie.Need-loop-holds Inv-loop μ-loop
+loop-holds c = ?
+
+-- src/lists.rt:26:13
+sub-p : tie.Need-sub-p Inv-loop μ-loop
+sub-p c = ?
+
+-- src/lists.rt:27:22
+mul-wide : tie.Need-mul-wide Inv-loop μ-loop
+mul-wide c = ?
+
+-- src/lists.rt:27:22
+shared-slice-read-wide : tie.Need-shared-slice-read-wide Inv-loop μ-loop
+shared-slice-read-wide c = ?
+
+-- src/lists.rt:27:13
+wide-requires : tie.Need-wide-requires Inv-loop μ-loop
+wide-requires c κs = ?
+
+-- src/lists.rt:28:19
+mul-next : tie.Need-mul-next Inv-loop μ-loop
+mul-next c = ?
+
+-- src/lists.rt:28:19
+slice-read-next : tie.Need-slice-read-next Inv-loop μ-loop
+slice-read-next c = ?
+
+-- src/lists.rt:28:9
+mul-next-2 : tie.Need-mul-next-2 Inv-loop μ-loop
+mul-next-2 c = ?
+
+-- src/lists.rt:28:9
+slice-write-next : tie.Need-slice-write-next Inv-loop μ-loop
+slice-write-next c = ?
+
+-- src/lists.rt:29:20
+narrow-requires : tie.Need-narrow-requires Inv-loop μ-loop
+narrow-requires c κs = ?
+
+-- src/lists.rt:29:9
+mul-first : tie.Need-mul-first Inv-loop μ-loop
+mul-first c = ?
+
+-- src/lists.rt:29:9
+slice-write-first : tie.Need-slice-write-first Inv-loop μ-loop
+slice-write-first c = ?
+
+-- src/lists.rt:25:5
+loop-less : tie.Need-loop-less Inv-loop μ-loop
+loop-less c = ?
+
+-- src/lists.rt:25:5
+loop-again : tie.Need-loop-again Inv-loop μ-loop
+loop-again c = ?
+
+-- src/lists.rt:18:1
+same-length : tie.Need-same-length Inv-loop μ-loop
+same-length c = ?
+
+-- src/lists.rt:18:1
+same-length-2 : tie.Need-same-length-2 Inv-loop μ-loop
+same-length-2 c = ?
+
+-- src/lists.rt:18:1
+returns : tie.Need-returns Inv-loop μ-loop
+returns c = ?
+
+pub link-arcs-spec : {M : Type 1} → statement M
+link-arcs-spec =
+    tie.close
+    (tie.spec
+    Inv-loop
+    μ-loop
+    loop-holds
+    sub-p
+    mul-wide
+    shared-slice-read-wide
+    wide-requires
+    mul-next
+    slice-read-next
+    mul-next-2
+    slice-write-next
+    narrow-requires
+    mul-first
+    slice-write-first
+    loop-less
+    loop-again
+    same-length
+    same-length-2
+    returns)

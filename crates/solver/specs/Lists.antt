@@ -1,0 +1,38 @@
+-- The columns of a table and the lists of each node's outgoing arcs, in table order. Assumes nothing: these are definitions.
+use mathlib.Core.Path.{_≡_}
+use mathlib.Core.Bool.{cond}
+use mathlib.Core.List.{List}
+use Prim.Native.Nat.{ℕ, zero, suc, _-_, _≤_, _<_}
+use lib.Dec.{eqb}
+use lib.ListN.{length, getD}
+use Rattle.table.specs.Table.{Table, arc-count, tail-at, head-at, length-at, no-arc, most-arcs}
+
+-- the first of the `left` positions from `position` on whose arc leaves node v, or no arc
+unfoldable pub next-out : (left position : ℕ) → Table → (v : ℕ) → ℕ
+next-out zero i t v = no-arc
+next-out (suc k) i t v = cond (eqb (tail-at t i) v) i (next-out k (suc i) t v)
+
+-- the column holds the tails of the table
+pub record Tails (t : Table) (tails : List ℕ) : Type 0 where
+  pub count : length tails ≡ arc-count t
+  pub tail : (i : ℕ) → i < arc-count t → getD tails i 0 ≡ tail-at t i
+
+-- `first` gives for each node, and `next` for each arc, the position of the next arc with the same tail
+pub record Linked (t : Table) (first next : List ℕ) : Type 0 where
+  pub first-count : length first ≡ t .n
+  pub next-count : length next ≡ arc-count t
+  pub first-arc : (v : ℕ) → v < t .n → getD first v 0 ≡ next-out (arc-count t) 0 t v
+  pub next-arc : (i : ℕ) → i < arc-count t → getD next i 0 ≡ next-out (arc-count t - suc i) (suc i) t (tail-at t i)
+
+-- what an iteration looks at: the heads and the lengths of a table whose arcs lead to its nodes, and the lists of outgoing arcs
+pub record Listed (t : Table) (heads lengths first next : List ℕ) : Type 0 where
+  pub few : arc-count t ≤ most-arcs
+  pub head-count : length heads ≡ arc-count t
+  pub length-count : length lengths ≡ arc-count t
+  pub head : (i : ℕ) → i < arc-count t → getD heads i 0 ≡ head-at t i
+  pub head-in : (i : ℕ) → i < arc-count t → head-at t i < t .n
+  pub arc-length : (i : ℕ) → i < arc-count t → getD lengths i 0 ≡ length-at t i
+  pub linked : Linked t first next
+
+unfoldable pub Some-table : (heads lengths first next : List ℕ) → Type 0
+Some-table hs ls first next = (t : Table) × Listed t hs ls first next

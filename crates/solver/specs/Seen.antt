@@ -1,0 +1,42 @@
+-- Which state of the auction the run's arrays hold. Assumes nothing: these are definitions.
+use mathlib.Core.Path.{_≡_}
+use mathlib.Core.Bool.{cond}
+use mathlib.Core.List.{List, [], _∷_, map}
+use mathlib.Core.Option.{Option, none, some}
+use Prim.Native.Nat.{ℕ, zero, suc, _*_}
+use lib.Dec.{eqb}
+use lib.ListN.{length, getD}
+use Rattle.table.specs.Table.{no-arc, no-distance, most-nodes, longest}
+use Rattle.auction.specs.Auction.{State, state, Bid, bid}
+use Rattle.solver.specs.declared.state.Progress.{Progress}
+
+-- a number that stands for a bound, for a kept arc, for the least bid; one that stands for none
+unfoldable pub bound-of : ℕ → Option ℕ
+bound-of b = cond (eqb b no-distance) none (some b)
+
+unfoldable pub arc-of : ℕ → Option ℕ
+arc-of k = cond (eqb k no-arc) none (some k)
+
+unfoldable pub bid-of : (value by-arc : ℕ) → Option Bid
+bid-of b i = cond (eqb i no-arc) none (some (bid b i))
+
+-- the first `depth` entries of the path's array, the last of them first
+unfoldable pub nodes-of : (depth : ℕ) → (path : List ℕ) → List ℕ
+nodes-of zero p = []
+nodes-of (suc k) p = getD p k 0 ∷ nodes-of k p
+
+-- the state that the arrays and the progress hold
+unfoldable pub seen : (path price bound kept status : List ℕ) → Progress → State
+seen p u b k s g =
+    state (nodes-of (g .depth) p) u (map bound-of b) (map arc-of k) s (g .contractions) (g .extensions) (g .deletions)
+
+-- the arrays have an entry for each of n nodes
+pub record Sized (n : ℕ) (price bound kept status : List ℕ) : Type 0 where
+  pub prices : length price ≡ n
+  pub bounds : length bound ≡ n
+  pub kepts : length kept ≡ n
+  pub statuses : length status ≡ n
+
+-- no price and no distance of a run is greater
+abbrev pub greatest-sum : ℕ
+greatest-sum = most-nodes * longest

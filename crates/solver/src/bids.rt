@@ -1,0 +1,61 @@
+// The least bid of a node's children.
+ghost use mathlib.Core.Path.{_≡_};
+ghost use mathlib.Core.List.{List};
+ghost use mathlib.Core.Option.{none};
+ghost use Prim.Native.Nat.{ℕ, _+_, _≤_, _<_};
+ghost use lib.ListN.{length, getD};
+ghost use Rattle.table.specs.Table.{Table, tail-at, head-at, length-at, no-arc};
+ghost use Rattle.auction.specs.Auction.{bid, with-bid, to-child, price-at, best};
+ghost use Rattle.solver.specs.declared.state.Progress.{Progress};
+ghost use Rattle.solver.specs.Seen.{bid-of, seen, greatest-sum};
+ghost use Rattle.solver.specs.Lists.{Listed, Some-table};
+ghost use Rattle.solver.specs.Steps.{lower-of};
+use super::state::State;
+use super::{long, wide};
+use table::NO_ARC;
+
+// A bid's value and the position of the child's kept arc; no arc where there is no child.
+pub struct LeastBid {
+    pub value: u64,
+    pub arc: u16,
+}
+
+// The lower of the bids met so far and the one over the arc at a position, where that leads to a child.
+fn lower_bid(least: LeastBid, position: u16, head: usize, length: u32, price: &[u64], kept: &[u16], status: &[u8]) -> LeastBid
+    requires { ⌜ (head < lib.ListN.length (now price)) × ((head < lib.ListN.length (now kept)) × (head < lib.ListN.length (now status))) ⌝ }
+    requires { ⌜ (position < no-arc) × (getD (now price) head 0 ≤ greatest-sum) ⌝ }
+    ensures { λ r. ⌜ ((t : Table) (path bound : List ℕ) (g : Progress) → head-at t position ≡ head → length-at t position ≡ length → bid-of (r .value) (r .arc) ≡ lower-of (bid-of (least .value) (least .arc)) (with-bid (to-child t (tail-at t position) position (seen path (now (price .entry)) bound (now (kept .entry)) (now (status .entry)) g)) (bid (length + getD (now (price .entry)) head 0) position) none)) ⌝ }
+{
+    if kept[head] != position || status[head] == State::DELETED {
+        return least;
+    }
+    let value = long(length) + price[head];
+    if least.arc != NO_ARC && least.value <= value {
+        return least;
+    }
+    LeastBid {
+        value: value,
+        arc: position,
+    }
+}
+
+// The least bid of a node's children, the lowest position among equals.
+pub fn least_bid(v: usize, heads: &[u16], lengths: &[u32], first: &[u16], next: &[u16], price: &[u64], kept: &[u16], status: &[u8]) -> LeastBid
+    requires { ⌜ Some-table (now heads) (now lengths) (now first) (now next) ⌝ }
+    requires { ⌜ (length (now price) ≡ length (now first)) × ((length (now kept) ≡ length (now first)) × (length (now status) ≡ length (now first))) ⌝ }
+    requires { ⌜ (v < length (now first)) × ((u : ℕ) → getD (now price) u 0 ≤ greatest-sum) ⌝ }
+    ensures { λ r. ⌜ ((t : Table) (path bound : List ℕ) (g : Progress) → Listed t (now (heads .entry)) (now (lengths .entry)) (now (first .entry)) (now (next .entry)) → bid-of (r .value) (r .arc) ≡ best t v (seen path (now (price .entry)) bound (now (kept .entry)) (now (status .entry)) g)) ⌝ }
+{
+    let mut least = LeastBid {
+        value: 0,
+        arc: NO_ARC,
+    };
+    let mut p = first[v];
+    while p != NO_ARC {
+        let i = wide(p);
+        let head = wide(heads[i]);
+        least = lower_bid(least, p, head, lengths[i], price, kept, status);
+        p = next[i];
+    }
+    least
+}

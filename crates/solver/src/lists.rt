@@ -1,0 +1,31 @@
+// The lists of each node's outgoing arcs.
+ghost use mathlib.Core.Path.{_≡_};
+ghost use Prim.Native.Nat.{ℕ, _≤_, _<_};
+ghost use lib.ListN.{length, getD};
+ghost use Rattle.table.specs.Table.{Table, no-arc, most-arcs};
+ghost use Rattle.solver.specs.Lists.{Tails, Linked};
+use super::wide;
+
+// A position as it stands in a list.
+fn narrow(position: usize) -> u16
+    requires { ⌜ position ≤ most-arcs ⌝ }
+    ensures { λ r. ⌜ r ≡ position ⌝ }
+{
+    position as u16
+}
+
+// Links the arcs with the same tail in table order, from the last arc to the first.
+pub fn link_arcs(tails: &[u16], first: &mut [u16], next: &mut [u16])
+    requires { ⌜ (length (now next) ≡ length (now tails)) × (length (now tails) ≤ most-arcs) ⌝ }
+    requires { ⌜ ((i : ℕ) → i < length (now tails) → getD (now tails) i 0 < length (now first)) ⌝ }
+    requires { ⌜ ((v : ℕ) → v < length (now first) → getD (now first) v 0 ≡ no-arc) ⌝ }
+    ensures { λ _. ⌜ ((t : Table) → t .n ≡ length (now (first .entry)) → Tails t (now (tails .entry)) → Linked t (now (first .exit)) (now (next .exit))) ⌝ }
+{
+    let mut p = tails.len();
+    while 0 < p {
+        p = p - 1;
+        let v = wide(tails[p]);
+        next[p] = first[v];
+        first[v] = narrow(p);
+    }
+}

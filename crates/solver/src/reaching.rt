@@ -1,0 +1,68 @@
+// Reaching a node: its outgoing arcs are offered to their heads, in table order.
+ghost use mathlib.Core.Path.{_≡_};
+ghost use mathlib.Core.List.{List};
+ghost use Prim.Native.Nat.{ℕ, _+_, _≤_, _<_};
+ghost use lib.ListN.{length, getD};
+ghost use Rattle.table.specs.Table.{Table, arc-count, no-arc, no-distance};
+ghost use Rattle.auction.specs.Auction.{improves, offers, reach};
+ghost use Rattle.solver.specs.declared.state.Progress.{Progress};
+ghost use Rattle.solver.specs.Seen.{bound-of, arc-of, seen, greatest-sum};
+ghost use Rattle.solver.specs.Lists.{Listed, Some-table};
+ghost use Rattle.solver.specs.Steps.{Offered};
+use super::state::State;
+use super::{long, wide};
+use table::NO_ARC;
+
+// Whether a bound offered by the arc at a position is to be kept: it is smaller, or equal and from a lower position.
+fn improves(offered: u64, position: u16, bound: u64, kept: u16) -> bool
+    requires { ⌜ offered < no-distance ⌝ }
+    ensures { λ r. ⌜ r ≡ improves offered position (bound-of bound) (arc-of kept) ⌝ }
+{
+    if offered == bound {
+        return position < kept && kept != NO_ARC;
+    }
+    offered < bound
+}
+
+// Offers one arc to its head.
+fn offer(head: usize, position: u16, offered: u64, bound: &mut [u64], kept: &mut [u16], status: &[u8])
+    requires { ⌜ (head < length (now bound)) × ((head < length (now kept)) × (head < length (now status))) ⌝ }
+    requires { ⌜ (offered < no-distance) × (position < no-arc) ⌝ }
+    ensures { λ _. ⌜ Offered head position offered (now (bound .entry)) (now (kept .entry)) (now (status .entry)) (now (bound .exit)) (now (kept .exit)) ⌝ }
+{
+    if status[head] == State::UNREACHED {
+        if improves(offered, position, bound[head], kept[head]) {
+            bound[head] = offered;
+            kept[head] = position;
+        }
+    }
+}
+
+// Offers every arc out of a reached node, whose distance is given.
+fn offer_arcs(v: usize, distance: u64, heads: &[u16], lengths: &[u32], first: &[u16], next: &[u16], bound: &mut [u64], kept: &mut [u16], status: &[u8])
+    requires { ⌜ Some-table (now heads) (now lengths) (now first) (now next) ⌝ }
+    requires { ⌜ (length (now bound) ≡ length (now first)) × ((length (now kept) ≡ length (now first)) × (length (now status) ≡ length (now first))) ⌝ }
+    requires { ⌜ (v < length (now first)) × ((distance ≤ greatest-sum) × ((0 < getD (now status) v 0) × (getD (now bound) v 0 ≡ distance))) ⌝ }
+    ensures { λ _. ⌜ ((t : Table) (path price : List ℕ) (g : Progress) → Listed t (now (heads .entry)) (now (lengths .entry)) (now (first .entry)) (now (next .entry)) → seen path price (now (bound .exit)) (now (kept .exit)) (now (status .entry)) g ≡ offers (arc-count t) 0 t v (seen path price (now (bound .entry)) (now (kept .entry)) (now (status .entry)) g)) ⌝ }
+{
+    let mut p = first[v];
+    while p != NO_ARC {
+        let i = wide(p);
+        let head = wide(heads[i]);
+        let offered = distance + long(lengths[i]);
+        offer(head, p, offered, bound, kept, status);
+        p = next[i];
+    }
+}
+
+// Marks a node as reached, which fixes its distance, and offers its arcs.
+pub fn reach(v: usize, heads: &[u16], lengths: &[u32], first: &[u16], next: &[u16], bound: &mut [u64], kept: &mut [u16], status: &mut [u8])
+    requires { ⌜ Some-table (now heads) (now lengths) (now first) (now next) ⌝ }
+    requires { ⌜ (length (now bound) ≡ length (now first)) × ((length (now kept) ≡ length (now first)) × (length (now status) ≡ length (now first))) ⌝ }
+    requires { ⌜ (v < length (now first)) × (getD (now bound) v 0 ≤ greatest-sum) ⌝ }
+    ensures { λ _. ⌜ ((t : Table) (path price : List ℕ) (g : Progress) → Listed t (now (heads .entry)) (now (lengths .entry)) (now (first .entry)) (now (next .entry)) → seen path price (now (bound .exit)) (now (kept .exit)) (now (status .exit)) g ≡ reach t v (seen path price (now (bound .entry)) (now (kept .entry)) (now (status .entry)) g)) ⌝ }
+{
+    status[v] = State::REACHED;
+    let distance = bound[v];
+    offer_arcs(v, distance, heads, lengths, first, next, bound, kept, status);
+}

@@ -1,0 +1,59 @@
+// The state of a run: arrays that a run lends to small functions, and numbers that travel by value.
+ghost use mathlib.Core.Path.{_≡_};
+ghost use mathlib.Core.List.{List};
+ghost use Prim.Native.Nat.{ℕ, _≤_, _<_};
+ghost use lib.ListN.{take};
+ghost use Rattle.table.specs.Table.{Table};
+ghost use Rattle.auction.specs.Auction.{fresh};
+ghost use Rattle.solver.specs.Seen.{seen};
+use table::{NO_ARC, NO_DISTANCE};
+
+// How many nodes are on the path, and the three counts.
+pub struct Progress {
+    pub depth: usize,
+    pub contractions: u64,
+    pub extensions: u64,
+    pub deletions: u64,
+}
+
+// The path from the origin on; for each node its price, bound, kept arc and status; the progress.
+pub struct State {
+    pub path: [u16; 1024],
+    pub price: [u64; 1024],
+    pub bound: [u64; 1024],
+    pub kept: [u16; 1024],
+    pub status: [u8; 1024],
+    pub progress: Progress,
+}
+
+impl State {
+    pub const UNREACHED: u8 = 0;
+    pub const REACHED: u8 = 1;
+    pub const DELETED: u8 = 2;
+
+    // The state before anything is reached, for any number of nodes above the origin.
+    pub fn fresh(origin: u16) -> State
+        requires { ⌜ origin < 1024 ⌝ }
+        ensures { λ r. ⌜ ((t : Table) → t .origin ≡ origin → t .origin < t .n → t .n ≤ 1024 → seen (take (t .n) (r .path)) (take (t .n) (r .price)) (take (t .n) (r .bound)) (take (t .n) (r .kept)) (take (t .n) (r .status)) (r .progress) ≡ fresh t) ⌝ }
+    {
+        let at = super::wide(origin);
+        let mut path: [u16; 1024] = [0; 1024];
+        path[0] = origin;
+        let mut bound: [u64; 1024] = [NO_DISTANCE; 1024];
+        bound[at] = 0;
+        let progress = Progress {
+            depth: 1,
+            contractions: 0,
+            extensions: 0,
+            deletions: 0,
+        };
+        State {
+            path: path,
+            price: [0; 1024],
+            bound: bound,
+            kept: [NO_ARC; 1024],
+            status: [State::UNREACHED; 1024],
+            progress: progress,
+        }
+    }
+}
