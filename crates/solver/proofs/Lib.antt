@@ -1,3 +1,4 @@
 pub mod Arrays
 pub mod Arcs
 pub mod Offering
+pub mod Linking

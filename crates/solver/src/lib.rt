@@ -1,5 +1,6 @@
 // The code of the auction's run. Each function's contract equates what it does with the auction's definitions: specs/Seen.antt says
 ghost use mathlib.Core.Path.{_≡_};
+ghost use Prim.Native.Nat.{_<_};
 // which state of the auction the arrays hold.
 mod bids;
 mod lists;
@@ -8,14 +9,16 @@ mod state;
 
 // A 16-bit node number or position as an index.
 fn wide(x: u16) -> usize
-    ensures { λ r. ⌜ r ≡ x ⌝ }
+    ensures same { λ r. ⌜ r ≡ x ⌝ }
+    ensures low { λ r. ⌜ r < 65536 ⌝ }
 {
     x as usize
 }
 
 // A 32-bit length in 64 bits.
 fn long(x: u32) -> u64
-    ensures { λ r. ⌜ r ≡ x ⌝ }
+    ensures same { λ r. ⌜ r ≡ x ⌝ }
+    ensures low { λ r. ⌜ r < 4294967296 ⌝ }
 {
     x as u64
 }

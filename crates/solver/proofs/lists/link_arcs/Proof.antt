@@ -1,3 +1,9 @@
+-- The arcs from p on are linked; p falls to 0. Assumes nothing.
+use Prim.Native.Nat.{_≤_, _<_, _-_}
+use borrow.Author.Needs.{needs}
+use native.Mathlib.Omega.{arith}
+use lib.ListN.{length, length-set}
+use Rattle.solver.proofs.Linking.{Linking, begins, goes-on, ends}
 use Rattle.solver.proofs.lists.link_arcs.Statement.{statement}
 use Rattle.solver.proofs.lists.link_arcs.Tie as tie
 use Rattle.solver.proofs.lists.link_arcs.Reads as reads
@@ -6,78 +12,82 @@ use Rattle.solver.proofs.lists.narrow.Reads as narrow-reads
 use Rattle.solver.proofs.wide.Reads as wide-reads
 
 abbrev Inv-loop : tie.InvT-loop
-Inv-loop tails first₀ next₀ p₀ first next p = ?
+Inv-loop tails first₀ next₀ p₀ first next p = Linking tails first₀ first next p
 
 abbrev μ-loop : tie.MeasureT-loop
-μ-loop tails first₀ next₀ p₀ first next p = ?
+μ-loop tails first₀ next₀ p₀ first next p = p
 
 -- src/lists.rt:25:5
 loop-holds : tie.Need-loop-holds Inv-loop μ-loop
-loop-holds c = ?
+loop-holds c = begins (c .before .before .before .pre .0 .0) (c .before .before .before .pre .1 .1)
 
 -- src/lists.rt:26:13
 sub-p : tie.Need-sub-p Inv-loop μ-loop
-sub-p c = ?
+sub-p c = omega arith
 
 -- src/lists.rt:27:22
 mul-wide : tie.Need-mul-wide Inv-loop μ-loop
-mul-wide c = ?
+mul-wide c = search needs
 
 -- src/lists.rt:27:22
 shared-slice-read-wide : tie.Need-shared-slice-read-wide Inv-loop μ-loop
-shared-slice-read-wide c = ?
+shared-slice-read-wide c = omega (arith, c .before .before .loop .inv .low)
 
 -- src/lists.rt:27:13
 wide-requires : tie.Need-wide-requires Inv-loop μ-loop
-wide-requires c κs = ?
+wide-requires c κs = search needs
 
 -- src/lists.rt:28:19
 mul-next : tie.Need-mul-next Inv-loop μ-loop
-mul-next c = ?
+mul-next c = search needs
 
 -- src/lists.rt:28:19
 slice-read-next : tie.Need-slice-read-next Inv-loop μ-loop
-slice-read-next c = ?
+slice-read-next c = 
+    let l = c .before .before .before .before .loop in
+    omega (arith, l .inv .low, l .inv .first-long, c .before .wide .ensures .0, c .before .before .before .before .before .before .before .before .pre .1 .0 (l .p - 1) (omega (arith, l .inv .low)))
 
 -- src/lists.rt:28:9
 mul-next-2 : tie.Need-mul-next-2 Inv-loop μ-loop
-mul-next-2 c = ?
+mul-next-2 c = search needs
 
 -- src/lists.rt:28:9
 slice-write-next : tie.Need-slice-write-next Inv-loop μ-loop
-slice-write-next c = ?
+slice-write-next c = omega (arith, c .before .before .before .before .loop .inv .low, c .before .before .before .before .loop .inv .next-long)
 
 -- src/lists.rt:29:20
 narrow-requires : tie.Need-narrow-requires Inv-loop μ-loop
-narrow-requires c κs = ?
+narrow-requires c κs = omega (arith, c .before .before .before .before .loop .inv .low, c .before .before .before .before .before .before .before .before .pre .0 .1)
 
 -- src/lists.rt:29:9
 mul-first : tie.Need-mul-first Inv-loop μ-loop
-mul-first c = ?
+mul-first c = search needs
 
 -- src/lists.rt:29:9
 slice-write-first : tie.Need-slice-write-first Inv-loop μ-loop
-slice-write-first c = ?
+slice-write-first c = 
+    let l = c .before .before .before .before .before .loop in
+    omega (arith, l .inv .low, l .inv .first-long, c .before .before .wide .ensures .0, c .before .before .before .before .before .before .before .before .before .pre .1 .0 (l .p - 1) (omega (arith, l .inv .low)))
 
 -- src/lists.rt:25:5
 loop-less : tie.Need-loop-less Inv-loop μ-loop
-loop-less c = ?
+loop-less c = omega arith
 
 -- src/lists.rt:25:5
 loop-again : tie.Need-loop-again Inv-loop μ-loop
-loop-again c = ?
+loop-again c = goes-on (c .before .before .wide .result) (c .narrow .result) (c .before .before .before .before .before .loop .inv) (c .before .before .before .before .loop-test .taken) (c .before .before .wide .ensures .0) (c .narrow .ensures) (c .before .before .before .before .before .before .before .before .before .pre .1 .0)
 
 -- src/lists.rt:18:1
 same-length : tie.Need-same-length Inv-loop μ-loop
-same-length c = ?
+same-length c = c .before .loop .inv .first-long
 
 -- src/lists.rt:18:1
 same-length-2 : tie.Need-same-length-2 Inv-loop μ-loop
-same-length-2 c = ?
+same-length-2 c = omega (arith, c .before .loop .inv .next-long)
 
 -- src/lists.rt:18:1
 returns : tie.Need-returns Inv-loop μ-loop
-returns c = ?
+returns c = ends (c .before .loop .inv) (c .loop-test .left)
 
 pub link-arcs-spec : {M : Type 1} → statement M
 link-arcs-spec =

@@ -26,7 +26,7 @@ array-write-bound c = search needs
 
 -- src/state.rt:35:5
 returns : tie.Need-returns
-returns c = λ t eo h l. fresh-seen 1024 t (c .before .args .origin) (c .wide .result) _ (c .wide .ensures) eo h l refl refl refl refl
+returns c = λ t eo h l. fresh-seen 1024 t (c .before .args .origin) (c .wide .result) _ (c .wide .ensures .0) eo h l refl refl refl refl
 
 pub fresh-spec : {M : Type 1} → statement M
 fresh-spec =
