@@ -122,3 +122,80 @@ unfolding lower-of with-bid lower-bid
 lower-of-bid a false b later = ap (λ o. lower-of o later) (lower-of-none a)
 lower-of-bid none true b later = refl
 lower-of-bid (some a) true b later = ap some (sym (lower-bid-same a b later))
+
+-- ALONG A LIST: p is the position of an arc out of v, or no arc
+pub record On-list (t : Table) (v p : ℕ) : Type 0 where
+  pub inside : (p ≡ no-arc → ⊥) → (p < arc-count t) × (tail-at t p ≡ v)
+
+module _ {t : Table} {hs ls first next : List ℕ} (here : Listed t hs ls first next) (v : ℕ) where
+  pub on-first : v < t .n → On-list t v (getD first v 0)
+  on-first h =
+      subst (λ (q : ℕ). On-list t v q) (sym (here .linked .first-arc v h))
+        (record {
+          inside = λ d.
+            let f = found t v (arc-count t) 0 (omega (arith, here .few)) .inside d in
+            (omega (arith, f .0), f .1);
+        })
+
+  module _ {p : ℕ} (at : On-list t v p) (some-arc : p ≡ no-arc → ⊥) where
+    next-is : getD next p 0 ≡ next-out (arc-count t - suc p) (suc p) t v
+    next-is =
+        here .linked .next-arc p (at .inside some-arc .0)
+        ∙ ap (λ w. next-out (arc-count t - suc p) (suc p) t w) (at .inside some-arc .1)
+
+    past : suc p + (arc-count t - suc p) ≡ arc-count t
+    past = omega (arith, at .inside some-arc .0)
+
+    pub on-next : On-list t v (getD next p 0) × (p < getD next p 0)
+    on-next =
+        let f = found t v (arc-count t - suc p) (suc p) (omega (arith, past, here .few)) in
+        subst (λ (q : ℕ). On-list t v q × (p < q)) (sym next-is)
+          (record { inside = λ d. (omega (arith, f .inside d .0, past), f .inside d .1) }, omega (arith, f .from))
+
+    here-left : arc-count t - p ≡ suc (arc-count t - suc p)
+    here-left = omega (arith, at .inside some-arc .0)
+
+    pub offers-next : (x : State) →
+        offers (arc-count t - p) p t v x ≡ offers (arc-count t - getD next p 0) (getD next p 0) t v (offer t v p x)
+    unfolding offers
+    offers-next x =
+        rw (here-left, next-is)
+          (subst (λ (m : ℕ). offers (arc-count t - suc p) (suc p) t v (offer t v p x)
+            ≡ offers (m - next-out (arc-count t - suc p) (suc p) t v) (next-out (arc-count t - suc p) (suc p) t v) t v (offer t v p x)) past
+            (offers-skip t v (arc-count t - suc p) (suc p) (offer t v p x) (omega (arith, past, here .few))))
+
+    pub bids-next : (x : State) →
+        best-from (arc-count t - p) p t v x
+        ≡ with-bid (to-child t v p x) (bid (length-at t p + price-at x (head-at t p)) p) (best-from (arc-count t - getD next p 0) (getD next p 0) t v x)
+    unfolding best-from
+    bids-next x =
+        rw (here-left, next-is)
+          (ap (λ later. with-bid (to-child t v p x) (bid (length-at t p + price-at x (head-at t p)) p) later)
+            (subst (λ (m : ℕ). best-from (arc-count t - suc p) (suc p) t v x
+              ≡ best-from (m - next-out (arc-count t - suc p) (suc p) t v) (next-out (arc-count t - suc p) (suc p) t v) t v x) past
+              (bids-skip t v (arc-count t - suc p) (suc p) x (omega (arith, past, here .few)))))
+
+  none-left : (p : ℕ) → p ≡ no-arc → arc-count t - p ≡ 0
+  none-left p e = omega (arith, here .few)
+
+  pub offers-first : (x : State) → v < t .n → offers (arc-count t - getD first v 0) (getD first v 0) t v x ≡ offers (arc-count t) 0 t v x
+  offers-first x h =
+      let z : 0 + arc-count t ≡ arc-count t = omega arith in
+      rw (here .linked .first-arc v h)
+        (sym (subst (λ (m : ℕ). offers (arc-count t) 0 t v x ≡ offers (m - next-out (arc-count t) 0 t v) (next-out (arc-count t) 0 t v) t v x) z
+          (offers-skip t v (arc-count t) 0 x (omega (arith, here .few)))))
+
+  pub bids-first : (x : State) → v < t .n → best-from (arc-count t - getD first v 0) (getD first v 0) t v x ≡ best-from (arc-count t) 0 t v x
+  bids-first x h =
+      let z : 0 + arc-count t ≡ arc-count t = omega arith in
+      rw (here .linked .first-arc v h)
+        (sym (subst (λ (m : ℕ). best-from (arc-count t) 0 t v x ≡ best-from (m - next-out (arc-count t) 0 t v) (next-out (arc-count t) 0 t v) t v x) z
+          (bids-skip t v (arc-count t) 0 x (omega (arith, here .few)))))
+
+  pub offers-done : (p : ℕ) (x : State) → p ≡ no-arc → offers (arc-count t - p) p t v x ≡ x
+  unfolding offers
+  offers-done p x e = ap (λ m. offers m p t v x) (none-left p e)
+
+  pub bids-done : (p : ℕ) (x : State) → p ≡ no-arc → best-from (arc-count t - p) p t v x ≡ none
+  unfolding best-from
+  bids-done p x e = ap (λ m. best-from m p t v x) (none-left p e)

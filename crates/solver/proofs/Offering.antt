@@ -4,19 +4,21 @@ use mathlib.Core.Bool.{Bool, true, false, _&&_, _||_, not, cond}
 use mathlib.Core.List.{List}
 use mathlib.Core.Logic.{⊎-elim}
 use mathlib.Core.Option.{Option, none, some}
-use Prim.Native.Nat.{ℕ, zero, suc, _+_, _≤_, _<_}
+use Prim.Native.Nat.{ℕ, zero, suc, _+_, _-_, _≤_, _<_}
 use native.Mathlib.Omega.{arith}
 use lib.Dec.{ltb, eqb}
 use lib.ListN.{length, getD, set}
 use lib.Seq.{getD-set-other}
 use borrow.Author.Tests.{lt-ltb, le-ltb, eq-eqb, ne-eqb}
-use Rattle.table.specs.Table.{Table, tail-at, head-at, length-at, no-arc, no-distance}
-use Rattle.auction.specs.Auction.{State, improves, takes, offer, distance, was-reached, bound-at, kept-at, with-kept, or-zero}
+use Rattle.table.specs.Table.{Table, arc-count, tail-at, head-at, length-at, no-arc, no-distance}
+use Rattle.auction.specs.Auction.{State, improves, takes, offer, offers, reach, distance, was-reached, bound-at, kept-at, with-kept, or-zero}
 use Rattle.auction.proofs.Basics.{same-or}
 use Rattle.solver.specs.declared.state.Progress.{Progress}
-use Rattle.solver.specs.Seen.{bound-of, arc-of, seen}
+use Rattle.solver.specs.Seen.{bound-of, arc-of, seen, greatest-sum}
+use Rattle.solver.specs.Lists.{Listed, Some-table}
 use Rattle.solver.specs.Steps.{Offered}
-use Rattle.solver.proofs.Arrays.{some-bound, some-arc, no-bound, no-kept, seen-bound, seen-kept, seen-status, store-kept}
+use Rattle.solver.proofs.Arrays.{some-bound, some-arc, no-bound, no-kept, seen-bound, seen-kept, seen-status, store-kept, seen-distance, store-status}
+use Rattle.solver.proofs.Arcs.{On-list, on-first, on-next, offers-first, offers-next, offers-done}
 
 -- WHETHER A BOUND IS KEPT
 module _ (o i b k : ℕ) (fits : o < no-distance) where
@@ -98,3 +100,77 @@ module _ {j i o : ℕ} {b k s : List ℕ} (hb : j < length b) (hk : j < length k
           sym (rw (offer-is t v i j o (seen p u b k s g) et eh ed, reached-here j p u b k s g d));
         fixed = λ v h. refl;
       }
+
+-- ALL ARCS OUT OF A NODE: those from p on are left to offer
+pub record Left-over (t : Table) (v : ℕ) (bound₀ kept₀ status bound kept : List ℕ) (p : ℕ) : Type 0 where
+  pub on-list : On-list t v p
+  pub rest : (path price : List ℕ) (g : Progress) →
+    offers (arc-count t - p) p t v (seen path price bound kept status g) ≡ offers (arc-count t) 0 t v (seen path price bound₀ kept₀ status g)
+
+pub record Offering (heads lengths first next : List ℕ) (v d : ℕ) (bound₀ kept₀ status bound kept : List ℕ) (p : ℕ) : Type 0 where
+  pub bounds-long : length bound ≡ length bound₀
+  pub kepts-long : length kept ≡ length kept₀
+  pub distance-stays : getD bound v 0 ≡ d
+  pub left-over : (t : Table) → Listed t heads lengths first next → Left-over t v bound₀ kept₀ status bound kept p
+
+module _ {hs ls first next : List ℕ} {v d : ℕ} {b₀ k₀ s : List ℕ} where
+  pub begins : v < length first → getD b₀ v 0 ≡ d → Offering hs ls first next v d b₀ k₀ s b₀ k₀ (getD first v 0)
+  begins h e =
+      record {
+        bounds-long = refl;
+        kepts-long = refl;
+        distance-stays = e;
+        left-over = λ t here.
+          let below : v < t .n = omega (arith, here .linked .first-count) in
+          record {
+            on-list = on-first here v below;
+            rest = λ path price g. offers-first here v (seen path price b₀ k₀ s g) below;
+          };
+      }
+
+  module _ {b k : List ℕ} {p : ℕ} (inv : Offering hs ls first next v d b₀ k₀ s b k p) where
+    pub goes-on : {b′ k′ : List ℕ} (i j o : ℕ) → i ≡ p → j ≡ getD hs p 0 → o ≡ d + getD ls p 0 → (p ≡ no-arc → ⊥) → d < no-distance → v < length b₀ →
+        0 < getD s v 0 → length b′ ≡ length b → length k′ ≡ length k → Offered j p o b k s b′ k′ →
+        Offering hs ls first next v d b₀ k₀ s b′ k′ (getD next i 0)
+    goes-on i j o ei ej eo more fits inside reached lb lk now-offered =
+        record {
+          bounds-long = lb ∙ inv .bounds-long;
+          kepts-long = lk ∙ inv .kepts-long;
+          distance-stays = now-offered .fixed v reached ∙ inv .distance-stays;
+          left-over = λ t here.
+            let l = inv .left-over t here in
+            let at = l .on-list .inside more in
+            record {
+              on-list = rw ei (on-next here v (l .on-list) more .0);
+              rest = λ path price g.
+                let x = seen path price b k s g in
+                let far : distance x v ≡ d =
+                    seen-distance path price b k s g v (omega (arith, inv .bounds-long)) (λ z. omega (arith, inv .distance-stays)) ∙ inv .distance-stays in
+                let e = now-offered .as-defined t v path price g (at .1) (sym (here .head p (at .0)) ∙ sym ej)
+                    (omega (arith, far, here .arc-length p (at .0))) in
+                rw (ei, e) (sym (offers-next here v (l .on-list) more x) ∙ l .rest path price g);
+            };
+        }
+
+    pub ends : p ≡ no-arc → (t : Table) (path price : List ℕ) (g : Progress) → Listed t hs ls first next →
+        seen path price b k s g ≡ offers (arc-count t) 0 t v (seen path price b₀ k₀ s g)
+    ends e t path price g here =
+        sym (offers-done here v p (seen path price b k s g) e) ∙ inv .left-over t here .rest path price g
+
+    -- what a read of an arc needs
+    pub record Readable (t : Table) : Type 0 where
+      pub listed : Listed t hs ls first next
+      pub inside : p < arc-count t
+      pub head-in : getD hs p 0 < t .n
+
+    pub readable : Some-table hs ls first next → (p ≡ no-arc → ⊥) → (t : Table) × Readable t
+    unfolding Some-table
+    readable any more =
+        let t = any .0 in
+        let here = any .1 in
+        let at = inv .left-over t here .on-list .inside more .0 in
+        (t, record { listed = here; inside = at; head-in = omega (arith, here .head p at, here .head-in p at) })
+
+    pub rises : Some-table hs ls first next → (p ≡ no-arc → ⊥) → p < getD next p 0
+    unfolding Some-table
+    rises any more = on-next (any .1) v (inv .left-over (any .0) (any .1) .on-list) more .1

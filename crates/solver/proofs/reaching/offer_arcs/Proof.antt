@@ -1,3 +1,12 @@
+use mathlib.Core.Path.{ap, _∙_}
+-- The arcs from p on are left to offer; p rises along the node's list. Assumes nothing.
+use mathlib.Core.Path.{_≡_}
+use Prim.Native.Nat.{_+_, _≤_, _<_, _-_}
+use borrow.Author.Needs.{needs}
+use native.Mathlib.Omega.{arith}
+use lib.ListN.{length, getD}
+use Rattle.table.specs.Table.{Table, no-arc}
+use Rattle.solver.proofs.Offering.{Offering, begins, goes-on, ends, Readable, readable, rises}
 use Rattle.solver.proofs.reaching.offer_arcs.Statement.{statement}
 use Rattle.solver.proofs.reaching.offer_arcs.Tie as tie
 use Rattle.solver.proofs.reaching.offer_arcs.Reads as reads
@@ -7,86 +16,116 @@ use Rattle.solver.proofs.reaching.offer.Reads as offer-reads
 use Rattle.solver.proofs.wide.Reads as wide-reads
 
 abbrev Inv-loop : tie.InvT-loop
-Inv-loop v distance heads lengths first next bound₀ kept₀ status p₀ bound kept p = ?
+Inv-loop v distance heads lengths first next bound₀ kept₀ status p₀ bound kept p = (Offering heads lengths first next v distance bound₀ kept₀ status bound kept p) × (p ≤ no-arc)
 
 abbrev μ-loop : tie.MeasureT-loop
-μ-loop v distance heads lengths first next bound₀ kept₀ status p₀ bound kept p = ?
+μ-loop v distance heads lengths first next bound₀ kept₀ status p₀ bound kept p = no-arc - p
+
+-- the arc at p can be read
+inside : (c : tie.In-loop Inv-loop μ-loop) → (t : Table) × Readable (c .before .loop .inv .0) t
+inside c = readable (c .before .loop .inv .0) (c .before .before .before .before .before .before .before .before .before .before .pre .0) (c .loop-test .taken)
 
 -- src/reaching.rt:48:17
 mul-p : tie.Need-mul-p Inv-loop μ-loop
-mul-p c = ?
+mul-p c = search needs
 
 -- src/reaching.rt:48:17
 shared-slice-read-p : tie.Need-shared-slice-read-p Inv-loop μ-loop
-shared-slice-read-p c = ?
+shared-slice-read-p c = omega (arith, c .before .before .before .before .before .before .before .before .pre .1 .1 .0)
 
 -- src/reaching.rt:49:5
 loop-holds : tie.Need-loop-holds Inv-loop μ-loop
-loop-holds c = ?
+loop-holds c = (begins (c .before .before .before .before .before .before .before .before .pre .1 .1 .0) (c .before .before .before .before .before .before .before .before .pre .1 .1 .1 .1 .1), omega (arith, c .shared-slice-known6 .given (c .before .before .before .before .before .before .before .before .args .v)))
 
 -- src/reaching.rt:50:13
 wide-requires : tie.Need-wide-requires Inv-loop μ-loop
-wide-requires c κs = ?
+wide-requires c κs = search needs
 
 -- src/reaching.rt:51:25
 mul-wide : tie.Need-mul-wide Inv-loop μ-loop
-mul-wide c = ?
+mul-wide c = search needs
 
 -- src/reaching.rt:51:25
 shared-slice-read-wide : tie.Need-shared-slice-read-wide Inv-loop μ-loop
-shared-slice-read-wide c = ?
+shared-slice-read-wide c = 
+    let r = inside (c .before .before) .1 in omega (arith, c .before .wide .ensures .0, r .inside, r .listed .head-count)
 
 -- src/reaching.rt:51:13
 wide-requires-2 : tie.Need-wide-requires-2 Inv-loop μ-loop
-wide-requires-2 c κs = ?
+wide-requires-2 c κs = search needs
 
 -- src/reaching.rt:52:39
 mul-long : tie.Need-mul-long Inv-loop μ-loop
-mul-long c = ?
+mul-long c = omega (arith, c .before .before .wide .ensures .1)
 
 -- src/reaching.rt:52:39
 shared-slice-read-long : tie.Need-shared-slice-read-long Inv-loop μ-loop
-shared-slice-read-long c = ?
+shared-slice-read-long c = 
+    let r = inside (c .before .before .before .before) .1 in omega (arith, c .before .before .before .wide .ensures .0, r .inside, r .listed .length-count)
 
 -- src/reaching.rt:52:34
 long-requires : tie.Need-long-requires Inv-loop μ-loop
-long-requires c κs = ?
+long-requires c κs = search needs
 
 -- src/reaching.rt:52:23
 add-offered : tie.Need-add-offered Inv-loop μ-loop
-add-offered c = ?
+add-offered c = omega (arith, c .before .before .before .before .before .before .before .before .before .before .before .before .before .before .before .pre .1 .1 .1 .0, c .long .ensures .1)
 
 -- src/reaching.rt:53:9
 offer-requires : tie.Need-offer-requires Inv-loop μ-loop
-offer-requires c κs = ?
+offer-requires c κs = 
+    let r = inside (c .before .before .before .before .before .before .before) .1 in
+    let s = c .before .before .before .before .before .before .before .before .before .before .before .before .before .before .before .before .before in
+    let head : c .before .before .before .before .wide2 .result ≡ getD (s .args .heads .now) (c .before .before .before .before .before .before .before .before .loop .p) 0 =
+        c .before .before .before .before .wide2 .ensures .0 ∙ ap (λ i. getD (s .args .heads .now) i 0) (c .before .before .before .before .before .before .wide .ensures .0) in
+    let below = r .head-in in
+    let lengths = s .pre .1 .0 in
+    let n = r .listed .linked .first-count in
+    let l = c .before .before .before .before .before .before .before .before .loop .inv in
+    ( (omega (arith, head, below, n, lengths .0, l .0 .bounds-long)
+      , (omega (arith, head, below, n, lengths .1 .0, l .0 .kepts-long), omega (arith, head, below, n, lengths .1 .1)))
+    , (omega (arith, s .pre .1 .1 .1 .0, c .before .before .long .ensures .1), omega (arith, l .1, c .before .before .before .before .before .before .before .loop-test .taken)))
 
 -- src/reaching.rt:54:13
 mul-p-2 : tie.Need-mul-p-2 Inv-loop μ-loop
-mul-p-2 c = ?
+mul-p-2 c = omega (arith, c .before .before .before .before .before .before .before .before .before .before .before .wide .ensures .1)
 
 -- src/reaching.rt:54:13
 shared-slice-read-p-2 : tie.Need-shared-slice-read-p-2 Inv-loop μ-loop
-shared-slice-read-p-2 c = ?
+shared-slice-read-p-2 c = 
+    let r = inside (c .before .before .before .before .before .before .before .before .before .before .before .before .before) .1 in omega (arith, c .before .before .before .before .before .before .before .before .before .before .before .before .wide .ensures .0, r .inside, r .listed .linked .next-count)
 
 -- src/reaching.rt:49:5
 loop-less : tie.Need-loop-less Inv-loop μ-loop
-loop-less c = ?
+loop-less c = 
+    let s = c .before .before .before .before .before .before .before .before .before .before .before .before .before .before .before .before .before .before .before .before .before .before .before in
+    let n = s .args .next .now in
+    let same : getD n (c .before .before .before .before .before .before .before .before .before .before .before .before .wide .result) 0 ≡ getD n (c .before .before .before .before .before .before .before .before .before .before .before .before .before .before .loop .p) 0 = ap (λ i. getD n i 0) (c .before .before .before .before .before .before .before .before .before .before .before .before .wide .ensures .0) in
+    let up = rises (c .before .before .before .before .before .before .before .before .before .before .before .before .before .before .loop .inv .0) (s .pre .0) (c .before .before .before .before .before .before .before .before .before .before .before .before .before .loop-test .taken) in
+    omega (arith, same, up, c .shared-slice-known9 .given (c .before .before .before .before .before .before .before .before .before .before .before .before .wide .result))
 
 -- src/reaching.rt:49:5
 loop-again : tie.Need-loop-again Inv-loop μ-loop
-loop-again c = ?
+loop-again c = 
+    let s = c .before .before .before .before .before .before .before .before .before .before .before .before .before .before .before .before .before .before .before .before .before .before .before in
+    ( goes-on (c .before .before .before .before .before .before .before .before .before .before .before .before .before .before .loop .inv .0) (c .before .before .before .before .before .before .before .before .before .before .before .before .wide .result) (c .before .before .before .before .before .before .before .before .before .before .wide2 .result) _ (c .before .before .before .before .before .before .before .before .before .before .before .before .wide .ensures .0)
+      (c .before .before .before .before .before .before .before .before .before .before .wide2 .ensures .0 ∙ ap (λ i. getD (s .args .heads .now) i 0) (c .before .before .before .before .before .before .before .before .before .before .before .before .wide .ensures .0))
+      (ap (λ a. s .args .distance + a) (c .before .before .before .before .before .before .before .before .long .ensures .0 ∙ ap (λ i. getD (s .args .lengths .now) i 0) (c .before .before .before .before .before .before .before .before .before .before .before .before .wide .ensures .0)))
+      (c .before .before .before .before .before .before .before .before .before .before .before .before .before .loop-test .taken) (omega (arith, s .pre .1 .1 .1 .0)) (omega (arith, s .pre .1 .1 .0, s .pre .1 .0 .0))
+      (s .pre .1 .1 .1 .1 .0) (c .before .before .before .before .before .offer .kept .1 .1 .1 .0) (c .before .before .before .before .before .offer .kept .1 .1 .1 .1 .0) (c .before .before .before .before .before .offer .ensures)
+    , omega (arith, c .shared-slice-known9 .given (c .before .before .before .before .before .before .before .before .before .before .before .before .wide .result)))
 
 -- src/reaching.rt:42:1
 same-length : tie.Need-same-length Inv-loop μ-loop
-same-length c = ?
+same-length c = c .before .loop .inv .0 .bounds-long
 
 -- src/reaching.rt:42:1
 same-length-2 : tie.Need-same-length-2 Inv-loop μ-loop
-same-length-2 c = ?
+same-length-2 c = c .before .loop .inv .0 .kepts-long
 
 -- src/reaching.rt:42:1
 returns : tie.Need-returns Inv-loop μ-loop
-returns c = ?
+returns c = ends (c .before .loop .inv .0) (c .loop-test .left)
 
 pub offer-arcs-spec : {M : Type 1} → statement M
 offer-arcs-spec =
