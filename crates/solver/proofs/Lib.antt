@@ -2,3 +2,4 @@ pub mod Arrays
 pub mod Arcs
 pub mod Offering
 pub mod Linking
+pub mod Bidding

@@ -1,0 +1,67 @@
+-- The status is stored first, as the definition has it. Assumes nothing.
+use Prim.Native.Nat.{_<_}
+use mathlib.Core.Path.{refl, _∙_}
+use native.Mathlib.Omega.{arith}
+use lib.ListN.{length-set}
+use lib.Seq.{getD-set-same}
+use Rattle.auction.specs.Auction.{state, reach, with-status}
+use Rattle.solver.specs.Seen.{seen}
+use borrow.Author.Needs.{needs}
+use Rattle.solver.proofs.reaching.reach.Statement.{statement}
+use Rattle.solver.proofs.reaching.reach.Tie as tie
+use Rattle.solver.proofs.reaching.reach.Reads as reads
+use Rattle.solver.proofs.reaching.reach.Lts as lts
+use Rattle.solver.proofs.reaching.offer_arcs.Reads as offer-arcs-reads
+
+-- src/reaching.rt:65:5
+slice-write-status : tie.Need-slice-write-status
+slice-write-status c = search needs
+
+-- src/reaching.rt:66:20
+mul-distance : tie.Need-mul-distance
+mul-distance c = search needs
+
+-- src/reaching.rt:66:20
+slice-read-distance : tie.Need-slice-read-distance
+slice-read-distance c = search needs
+
+-- src/reaching.rt:67:5
+offer-arcs-requires : tie.Need-offer-arcs-requires
+offer-arcs-requires c κs = 
+    let s = c .before .before .before .before .before .before .before .before .before .before .before in
+    let v = s .args .v in
+    let status = s .args .status .now in
+    let inside : v < lib.ListN.length status = omega (arith, s .pre .1 .1 .0, s .pre .1 .0 .1 .1) in
+    ( s .pre .0
+    , ((s .pre .1 .0 .0, (s .pre .1 .0 .1 .0, length-set status v 1 ∙ s .pre .1 .0 .1 .1))
+      , (s .pre .1 .1 .0, (s .pre .1 .1 .1, (omega (arith, getD-set-same status v 1 0 inside), refl)))))
+
+-- src/reaching.rt:59:1
+same-length : tie.Need-same-length
+same-length c = search needs
+
+-- src/reaching.rt:59:1
+same-length-2 : tie.Need-same-length-2
+same-length-2 c = search needs
+
+-- src/reaching.rt:59:1
+same-length-3 : tie.Need-same-length-3
+same-length-3 c = search needs
+
+-- src/reaching.rt:59:1
+returns : tie.Need-returns
+unfolding reach with-status seen state
+returns c = λ t path price g here. c .before .before .before .before .offer-arcs .ensures t path price g here
+
+pub reach-spec : {M : Type 1} → statement M
+reach-spec =
+    tie.close
+    (tie.spec
+    slice-write-status
+    mul-distance
+    slice-read-distance
+    offer-arcs-requires
+    same-length
+    same-length-2
+    same-length-3
+    returns)
