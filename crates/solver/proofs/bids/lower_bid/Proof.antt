@@ -1,3 +1,14 @@
+-- The arc leads to a child, or the least bid stays. Assumes nothing.
+use mathlib.Core.Path.{_≡_, sym, ap, _∙_, subst}
+use mathlib.Core.Logic.{inl, inr, ⊎-elim}
+use Prim.Native.Nat.{ℕ, _+_, _≤_, _<_}
+use native.Mathlib.Omega.{arith}
+use lib.ListN.{getD}
+use borrow.Author.Tests.{eqb-true, eqb-false, leb-true, leb-false}
+use Rattle.auction.specs.Auction.{to-child, bid}
+use Rattle.table.specs.Table.{tail-at}
+use Rattle.solver.specs.Seen.{seen, bid-of}
+use Rattle.solver.proofs.Bidding.{no-child, a-child, stays, not-lower, lower}
 use borrow.Author.Needs.{needs}
 use Rattle.solver.proofs.bids.lower_bid.Statement.{statement}
 use Rattle.solver.proofs.bids.lower_bid.Tie as tie
@@ -19,7 +30,13 @@ shared-slice-read-if2 c = search needs
 
 -- src/bids.rt:30:9
 returns : tie.Need-returns
-returns c = ?
+returns c = 
+    λ t path bound g at long.
+    let s = c .before .before .before .before .before in
+    let a = s .args in
+    stays (a .least .value) (a .least .arc) _ _
+      (no-child t (a .position) (a .head) path (a .price .now) bound (a .kept .now) (a .status .now) g at (s .pre .0 .1 .0)
+        (⊎-elim (λ w. inl (w .taken)) (λ w. inr (eqb-true _ _ (w .2 .taken))) (c .if1 .came)))
 
 -- src/bids.rt:32:17
 long-requires : tie.Need-long-requires
@@ -39,11 +56,27 @@ add-value c = search needs
 
 -- src/bids.rt:34:9
 returns-2 : tie.Need-returns-2
-returns-2 c = ?
+returns-2 c = 
+    λ t path bound g at long.
+    let s = c .before .before .before .before .before .before .before .before .before .before .before .before .before in
+    let a = s .args in
+    let child = a-child t (a .position) (a .head) path (a .price .now) bound (a .kept .now) (a .status .now) g at (s .pre .0 .1 .0) (c .before .before .before .before .before .before .before .before .if1 .left) (s .pre .1 .0) (eqb-false _ _ (c .before .before .before .before .before .before .if2 .left)) in
+    not-lower (a .least .value) (a .least .arc) _ (a .position) _ child (c .before .before .if3 .taken) (omega (arith, leb-true (a .least .value) (c .before .before .before .before .before .long .result + getD (a .price .now) (a .head) 0) (c .if4 .taken), c .before .before .before .before .before .long .ensures .0))
 
 -- src/bids.rt:24:1
 returns-3 : tie.Need-returns-3
-returns-3 c = ?
+returns-3 c = 
+    λ t path bound g at long.
+    let s = c .before .before .before .before .before .before .before .before .before .before .before in
+    let a = s .args in
+    let child = a-child t (a .position) (a .head) path (a .price .now) bound (a .kept .now) (a .status .now) g at (s .pre .0 .1 .0) (c .before .before .before .before .before .before .if1 .left) (s .pre .1 .0) (eqb-false _ _ (c .before .before .before .before .if2 .left)) in
+    let bids = getD (a .price .now) (a .head) 0 in
+    ap (λ m. bid-of (m + bids) (a .position)) (c .before .before .before .long .ensures .0)
+    ∙ lower (a .least .value) (a .least .arc) (a .length + bids) (a .position) _ child (s .pre .1 .0)
+      (⊎-elim
+        (λ w. inr (omega (arith, leb-false (a .least .value) (c .before .before .before .long .result + bids) (w .2 .left), c .before .before .before .long .ensures .0)))
+        (λ w. inl (w .left))
+        (c .if3 .came))
 
 pub lower-bid-spec : {M : Type 1} → statement M
 lower-bid-spec =
