@@ -13,7 +13,7 @@ use borrow.Author.Tests.{eqb-true, eqb-false, eq-eqb, ne-eqb, leb-true, leb-fals
 use Rattle.table.specs.Table.{Table, arc-count, tail-at, head-at, length-at, no-arc, most-arcs}
 use Rattle.auction.specs.Auction.{State, Bid, bid, offer, offers, takes, best-from, to-child, with-bid, lower-bid, price-at}
 use Rattle.auction.proofs.Basics.{same-or, true-or}
-use Rattle.solver.specs.Lists.{next-out, Linked, Listed}
+use Rattle.solver.specs.Lists.{next-out, Linked, Listed, Some-table}
 use Rattle.solver.specs.Steps.{lower-of}
 
 -- an arc out of v at a position from i on, or none
@@ -199,3 +199,26 @@ module _ {t : Table} {hs ls first next : List ℕ} (here : Listed t hs ls first 
   pub bids-done : (p : ℕ) (x : State) → p ≡ no-arc → best-from (arc-count t - p) p t v x ≡ none
   unfolding best-from
   bids-done p x e = ap (λ m. best-from m p t v x) (none-left p e)
+
+-- what a read of the arc at p needs
+pub record Readable (hs ls first next : List ℕ) (p : ℕ) : Type 0 where
+  pub of : Table
+  pub listed : Listed of hs ls first next
+  pub inside : p < arc-count of
+  pub head-in : getD hs p 0 < of .n
+  pub rises : p < getD next p 0
+
+pub readable : {hs ls first next : List ℕ} {v p : ℕ} → ((t : Table) → Listed t hs ls first next → On-list t v p) → Some-table hs ls first next →
+    (p ≡ no-arc → ⊥) → Readable hs ls first next p
+unfolding Some-table
+readable {hs} {ls} {first} {next} {v} {p} walk any more =
+    let here = any .1 in
+    let on = walk (any .0) here in
+    let at = on .inside more .0 in
+    record {
+      of = any .0;
+      listed = here;
+      inside = at;
+      head-in = omega (arith, here .head p at, here .head-in p at);
+      rises = on-next here v on more .1;
+    }

@@ -15,7 +15,7 @@ use Rattle.auction.specs.Auction.{State, improves, takes, offer, offers, reach,
 use Rattle.auction.proofs.Basics.{same-or}
 use Rattle.solver.specs.declared.state.Progress.{Progress}
 use Rattle.solver.specs.Seen.{bound-of, arc-of, seen, greatest-sum}
-use Rattle.solver.specs.Lists.{Listed, Some-table}
+use Rattle.solver.specs.Lists.{Listed}
 use Rattle.solver.specs.Steps.{Offered}
 use Rattle.solver.proofs.Arrays.{some-bound, some-arc, no-bound, no-kept, seen-bound, seen-kept, seen-status, store-kept, seen-distance, store-status}
 use Rattle.solver.proofs.Arcs.{On-list, on-first, on-next, offers-first, offers-next, offers-done}
@@ -156,21 +156,3 @@ module _ {hs ls first next : List ℕ} {v d : ℕ} {b₀ k₀ s : List ℕ} wher
         seen path price b k s g ≡ offers (arc-count t) 0 t v (seen path price b₀ k₀ s g)
     ends e t path price g here =
         sym (offers-done here v p (seen path price b k s g) e) ∙ inv .left-over t here .rest path price g
-
-    -- what a read of an arc needs
-    pub record Readable (t : Table) : Type 0 where
-      pub listed : Listed t hs ls first next
-      pub inside : p < arc-count t
-      pub head-in : getD hs p 0 < t .n
-
-    pub readable : Some-table hs ls first next → (p ≡ no-arc → ⊥) → (t : Table) × Readable t
-    unfolding Some-table
-    readable any more =
-        let t = any .0 in
-        let here = any .1 in
-        let at = inv .left-over t here .on-list .inside more .0 in
-        (t, record { listed = here; inside = at; head-in = omega (arith, here .head p at, here .head-in p at) })
-
-    pub rises : Some-table hs ls first next → (p ≡ no-arc → ⊥) → p < getD next p 0
-    unfolding Some-table
-    rises any more = on-next (any .1) v (inv .left-over (any .0) (any .1) .on-list) more .1

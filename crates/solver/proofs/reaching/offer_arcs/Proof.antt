@@ -5,8 +5,9 @@ use Prim.Native.Nat.{_+_, _≤_, _<_, _-_}
 use borrow.Author.Needs.{needs}
 use native.Mathlib.Omega.{arith}
 use lib.ListN.{length, getD}
-use Rattle.table.specs.Table.{Table, no-arc}
-use Rattle.solver.proofs.Offering.{Offering, begins, goes-on, ends, Readable, readable, rises}
+use Rattle.table.specs.Table.{no-arc}
+use Rattle.solver.proofs.Offering.{Offering, begins, goes-on, ends}
+use Rattle.solver.proofs.Arcs.{Readable, readable}
 use Rattle.solver.proofs.reaching.offer_arcs.Statement.{statement}
 use Rattle.solver.proofs.reaching.offer_arcs.Tie as tie
 use Rattle.solver.proofs.reaching.offer_arcs.Reads as reads
@@ -22,8 +23,9 @@ abbrev μ-loop : tie.MeasureT-loop
 μ-loop v distance heads lengths first next bound₀ kept₀ status p₀ bound kept p = no-arc - p
 
 -- the arc at p can be read
-inside : (c : tie.In-loop Inv-loop μ-loop) → (t : Table) × Readable (c .before .loop .inv .0) t
-inside c = readable (c .before .loop .inv .0) (c .before .before .before .before .before .before .before .before .before .before .pre .0) (c .loop-test .taken)
+inside : (c : tie.In-loop Inv-loop μ-loop) → 
+    let a = c .before .before .before .before .before .before .before .before .before .before .args in Readable (a .heads .now) (a .lengths .now) (a .first .now) (a .next .now) (c .before .loop .p)
+inside c = readable (λ t here. c .before .loop .inv .0 .left-over t here .on-list) (c .before .before .before .before .before .before .before .before .before .before .pre .0) (c .loop-test .taken)
 
 -- src/reaching.rt:48:17
 mul-p : tie.Need-mul-p Inv-loop μ-loop
@@ -48,7 +50,7 @@ mul-wide c = search needs
 -- src/reaching.rt:51:25
 shared-slice-read-wide : tie.Need-shared-slice-read-wide Inv-loop μ-loop
 shared-slice-read-wide c = 
-    let r = inside (c .before .before) .1 in omega (arith, c .before .wide .ensures .0, r .inside, r .listed .head-count)
+    let r = inside (c .before .before) in omega (arith, c .before .wide .ensures .0, r .inside, r .listed .head-count)
 
 -- src/reaching.rt:51:13
 wide-requires-2 : tie.Need-wide-requires-2 Inv-loop μ-loop
@@ -61,7 +63,7 @@ mul-long c = omega (arith, c .before .before .wide .ensures .1)
 -- src/reaching.rt:52:39
 shared-slice-read-long : tie.Need-shared-slice-read-long Inv-loop μ-loop
 shared-slice-read-long c = 
-    let r = inside (c .before .before .before .before) .1 in omega (arith, c .before .before .before .wide .ensures .0, r .inside, r .listed .length-count)
+    let r = inside (c .before .before .before .before) in omega (arith, c .before .before .before .wide .ensures .0, r .inside, r .listed .length-count)
 
 -- src/reaching.rt:52:34
 long-requires : tie.Need-long-requires Inv-loop μ-loop
@@ -74,7 +76,7 @@ add-offered c = omega (arith, c .before .before .before .before .before .before 
 -- src/reaching.rt:53:9
 offer-requires : tie.Need-offer-requires Inv-loop μ-loop
 offer-requires c κs = 
-    let r = inside (c .before .before .before .before .before .before .before) .1 in
+    let r = inside (c .before .before .before .before .before .before .before) in
     let s = c .before .before .before .before .before .before .before .before .before .before .before .before .before .before .before .before .before in
     let head : c .before .before .before .before .wide2 .result ≡ getD (s .args .heads .now) (c .before .before .before .before .before .before .before .before .loop .p) 0 =
         c .before .before .before .before .wide2 .ensures .0 ∙ ap (λ i. getD (s .args .heads .now) i 0) (c .before .before .before .before .before .before .wide .ensures .0) in
@@ -93,7 +95,7 @@ mul-p-2 c = omega (arith, c .before .before .before .before .before .before .bef
 -- src/reaching.rt:54:13
 shared-slice-read-p-2 : tie.Need-shared-slice-read-p-2 Inv-loop μ-loop
 shared-slice-read-p-2 c = 
-    let r = inside (c .before .before .before .before .before .before .before .before .before .before .before .before .before) .1 in omega (arith, c .before .before .before .before .before .before .before .before .before .before .before .before .wide .ensures .0, r .inside, r .listed .linked .next-count)
+    let r = inside (c .before .before .before .before .before .before .before .before .before .before .before .before .before) in omega (arith, c .before .before .before .before .before .before .before .before .before .before .before .before .wide .ensures .0, r .inside, r .listed .linked .next-count)
 
 -- src/reaching.rt:49:5
 loop-less : tie.Need-loop-less Inv-loop μ-loop
@@ -101,7 +103,7 @@ loop-less c =
     let s = c .before .before .before .before .before .before .before .before .before .before .before .before .before .before .before .before .before .before .before .before .before .before .before in
     let n = s .args .next .now in
     let same : getD n (c .before .before .before .before .before .before .before .before .before .before .before .before .wide .result) 0 ≡ getD n (c .before .before .before .before .before .before .before .before .before .before .before .before .before .before .loop .p) 0 = ap (λ i. getD n i 0) (c .before .before .before .before .before .before .before .before .before .before .before .before .wide .ensures .0) in
-    let up = rises (c .before .before .before .before .before .before .before .before .before .before .before .before .before .before .loop .inv .0) (s .pre .0) (c .before .before .before .before .before .before .before .before .before .before .before .before .before .loop-test .taken) in
+    let up = inside (c .before .before .before .before .before .before .before .before .before .before .before .before .before) .rises in
     omega (arith, same, up, c .shared-slice-known9 .given (c .before .before .before .before .before .before .before .before .before .before .before .before .wide .result))
 
 -- src/reaching.rt:49:5
