@@ -1,13 +1,17 @@
 -- What the small functions of the run leave behind. Assumes nothing: these are definitions.
 use mathlib.Core.Path.{_≡_}
+use mathlib.Core.Bool.{true}
 use mathlib.Core.List.{List}
 use mathlib.Core.Option.{Option, none, some}
-use Prim.Native.Nat.{ℕ, _+_, _<_}
-use lib.ListN.{getD}
-use Rattle.table.specs.Table.{Table, tail-at, head-at, length-at}
-use Rattle.auction.specs.Auction.{State, Bid, offer, distance, lower-bid}
+use Prim.Native.Nat.{ℕ, _+_, _≤_, _<_}
+use lib.Dec.{eqb}
+use lib.ListN.{length, getD}
+use Rattle.table.specs.Table.{Table, is-table, tail-at, head-at, length-at, no-arc}
+use Rattle.auction.specs.Auction.{State, Bid, offer, distance, lower-bid, start, auction, ended, iterations}
+use Rattle.auction.specs.HandOver.{first-missing}
 use Rattle.solver.specs.declared.state.Progress.{Progress}
-use Rattle.solver.specs.Seen.{seen}
+use Rattle.solver.specs.Seen.{seen, greatest-sum}
+use Rattle.solver.specs.Lists.{Listed}
 
 -- One arc has been offered to its head: the state is the one that `offer` gives, and no bound of a reached node has changed.
 pub record Offered (head position bound : ℕ) (bounds kept status bounds′ kept′ : List ℕ) : Type 0 where
@@ -20,3 +24,24 @@ pub record Offered (head position bound : ℕ) (bounds kept status bounds′ kep
 unfoldable pub lower-of : Option Bid → Option Bid → Option Bid
 lower-of none b = b
 lower-of (some a) b = some (lower-bid a b)
+
+-- What an iteration may rely on: a node that is not the origin has no child only where it can be deleted; the least bid's arc is listed, its child
+-- has a bound, and the path has room for it where it is extended.
+pub record Can-step (v origin value arc depth : ℕ) (heads path price bound : List ℕ) : Type 0 where
+  pub no-stop : arc ≡ no-arc → v ≡ origin → ⊥
+  pub listed : (arc ≡ no-arc → ⊥) → arc < length heads
+  pub room : (arc ≡ no-arc → ⊥) → value ≤ getD price v 0 → depth < length path
+  pub bounded : (arc ≡ no-arc → ⊥) → getD bound (getD heads arc 0) 0 ≤ greatest-sum
+
+-- The arrays hold the auction's start, for a table and a wanted list that are not turned down.
+pub record Begun (t : Table) (ws : List ℕ) (origin : ℕ) (heads lengths first next : List ℕ) (x : State) : Type 0 where
+  pub listed : Listed t heads lengths first next
+  pub origin-is : t .origin ≡ origin
+  pub good : is-table t ws ≡ true
+  pub begun : x ≡ start t
+
+-- The run has ended: every wanted node has been reached exactly where none is missing, and the first missing one is known.
+pub record Ran (t : Table) (ws : List ℕ) (missing : ℕ) (x : State) : Type 0 where
+  pub ended-so : auction t ws ≡ ended (eqb missing (length ws)) x
+  pub first-so : missing ≡ first-missing 0 ws x
+  pub few : iterations x < 4294967296

@@ -6,6 +6,8 @@ mod bids;
 mod lists;
 mod reaching;
 mod state;
+mod run;
+mod steps;
 
 // A 16-bit node number or position as an index.
 fn wide(x: u16) -> usize

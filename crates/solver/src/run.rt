@@ -1,0 +1,67 @@
+// The run: iterations until every wanted node has been reached, or the origin has no children.
+ghost use mathlib.Core.Path.{_≡_};
+ghost use mathlib.Core.Bool.{true};
+ghost use mathlib.Core.List.{List};
+ghost use Prim.Native.Nat.{ℕ, _+_, _≤_, _<_};
+ghost use lib.ListN.{length, getD, drop};
+ghost use Rattle.table.specs.Table.{Table, table-of, is-table};
+ghost use Rattle.auction.specs.Auction.{State, fresh};
+ghost use Rattle.auction.specs.HandOver.{first-missing};
+ghost use Rattle.solver.specs.Seen.{seen, Sized};
+ghost use Rattle.solver.specs.Steps.{Begun, Ran};
+use super::bids::least_bid;
+use super::lists::link_arcs;
+use super::reaching::reach;
+use super::state::{Progress, State};
+use super::steps::step;
+use super::wide;
+use table::NO_ARC;
+
+// Where a run has ended: the index of the first wanted node that was not reached, which is their number where all were; the counts.
+pub struct Ended {
+    pub missing: usize,
+    pub progress: Progress,
+}
+
+// The index of the first wanted node, from an index on, that has not been reached.
+fn first_unreached(from: usize, wanted: &[u16], status: &[u8]) -> usize
+    requires { ⌜ (from ≤ length (now wanted)) × ((k : ℕ) → k < length (now wanted) → getD (now wanted) k 0 < length (now status)) ⌝ }
+    ensures { λ r. ⌜ (r ≤ length (now (wanted .entry))) × ((x : State) → x .status ≡ now (status .entry) → r ≡ first-missing from (drop from (now (wanted .entry))) x) ⌝ }
+{
+    let mut w = from;
+    while w < wanted.len() {
+        let v = wide(wanted[w]);
+        if status[v] == State::UNREACHED {
+            return w;
+        }
+        w = w + 1;
+    }
+    w
+}
+
+// The iterations. The loop has no cap: it ends because the auction does.
+fn iterate(begun: Progress, origin: usize, wanted: &[u16], heads: &[u16], lengths: &[u32], first: &[u16], next: &[u16], path: &mut [u16], price: &mut [u64], bound: &mut [u64], kept: &mut [u16], status: &mut [u8]) -> Ended
+    requires { ⌜ ((t : Table) × Begun t (now wanted) origin (now heads) (now lengths) (now first) (now next) (seen (now path) (now price) (now bound) (now kept) (now status) begun)) ⌝ }
+    requires { ⌜ (length (now path) ≡ length (now first)) × Sized (length (now first)) (now price) (now bound) (now kept) (now status) ⌝ }
+    ensures { λ r. ⌜ ((t : Table) → Begun t (now (wanted .entry)) origin (now (heads .entry)) (now (lengths .entry)) (now (first .entry)) (now (next .entry)) (seen (now (path .entry)) (now (price .entry)) (now (bound .entry)) (now (kept .entry)) (now (status .entry)) begun) → Ran t (now (wanted .entry)) (r .missing) (seen (now (path .exit)) (now (price .exit)) (now (bound .exit)) (now (kept .exit)) (now (status .exit)) (r .progress))) ⌝ }
+{
+    let mut g = begun;
+    let mut w = first_unreached(0, wanted, status);
+    while w < wanted.len() {
+        let depth = g.depth;
+        let v = wide(path[depth - 1]);
+        let least = least_bid(v, heads, lengths, first, next, price, kept, status);
+        if least.arc == NO_ARC && v == origin {
+            return Ended {
+                missing: w,
+                progress: g,
+            };
+        }
+        g = step(g, v, least, origin, heads, lengths, first, next, path, price, bound, kept, status);
+        w = first_unreached(w, wanted, status);
+    }
+    Ended {
+        missing: w,
+        progress: g,
+    }
+}

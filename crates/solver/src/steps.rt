@@ -1,0 +1,97 @@
+// An iteration: a deletion, a contraction or an extension at the terminal node.
+ghost use mathlib.Core.Path.{_≡_};
+ghost use mathlib.Core.List.{List};
+ghost use mathlib.Core.Option.{some};
+ghost use Prim.Native.Nat.{ℕ, _+_, _≤_, _<_};
+ghost use lib.ListN.{length, getD};
+ghost use Rattle.table.specs.Table.{Table};
+ghost use Rattle.auction.specs.Auction.{deletion, contraction, extension, iteration};
+ghost use Rattle.solver.specs.Seen.{bid-of, seen, greatest-sum};
+ghost use Rattle.solver.specs.Lists.{Listed, Some-table};
+ghost use Rattle.solver.specs.Steps.{Can-step};
+use super::bids::LeastBid;
+use super::reaching::reach;
+use super::state::{Progress, State};
+use super::wide;
+use table::NO_ARC;
+
+// A node without children is deleted and leaves the path.
+fn delete(g: Progress, v: usize, status: &mut [u8]) -> Progress
+    requires { ⌜ (1 ≤ g .depth) × ((v < length (now status)) × (g .deletions < 4294967296)) ⌝ }
+    ensures { λ r. ⌜ ((path price bound kept : List ℕ) → seen path price bound kept (now (status .exit)) r ≡ deletion v (seen path price bound kept (now (status .entry)) g)) ⌝ }
+{
+    status[v] = State::DELETED;
+    Progress {
+        depth: g.depth - 1,
+        contractions: g.contractions,
+        extensions: g.extensions,
+        deletions: g.deletions + 1,
+    }
+}
+
+// A node's price becomes the least bid. It leaves the path, unless it is the origin.
+fn contract(g: Progress, v: usize, origin: usize, value: u64, price: &mut [u64]) -> Progress
+    requires { ⌜ (1 ≤ g .depth) × ((v < length (now price)) × (g .contractions < 4294967296)) ⌝ }
+    ensures { λ r. ⌜ ((t : Table) (path bound kept status : List ℕ) → t .origin ≡ origin → seen path (now (price .exit)) bound kept status r ≡ contraction t v value (seen path (now (price .entry)) bound kept status g)) ⌝ }
+{
+    price[v] = value;
+    let contractions = g.contractions + 1;
+    if v == origin {
+        return Progress {
+            depth: g.depth,
+            contractions: contractions,
+            extensions: g.extensions,
+            deletions: g.deletions,
+        };
+    }
+    Progress {
+        depth: g.depth - 1,
+        contractions: contractions,
+        extensions: g.extensions,
+        deletions: g.deletions,
+    }
+}
+
+// The path is extended by a child, which is reached where it has not been reached before.
+fn extend(g: Progress, child: u16, heads: &[u16], lengths: &[u32], first: &[u16], next: &[u16], path: &mut [u16], bound: &mut [u64], kept: &mut [u16], status: &mut [u8]) -> Progress
+    requires { ⌜ Some-table (now heads) (now lengths) (now first) (now next) ⌝ }
+    requires { ⌜ (length (now bound) ≡ length (now first)) × ((length (now kept) ≡ length (now first)) × (length (now status) ≡ length (now first))) ⌝ }
+    requires { ⌜ (child < length (now first)) × ((getD (now bound) child 0 ≤ greatest-sum) × ((g .depth < length (now path)) × (g .extensions < 4294967296))) ⌝ }
+    ensures { λ r. ⌜ ((t : Table) (price : List ℕ) → Listed t (now (heads .entry)) (now (lengths .entry)) (now (first .entry)) (now (next .entry)) → seen (now (path .exit)) price (now (bound .exit)) (now (kept .exit)) (now (status .exit)) r ≡ extension t child (seen (now (path .entry)) price (now (bound .entry)) (now (kept .entry)) (now (status .entry)) g)) ⌝ }
+{
+    let depth = g.depth;
+    path[depth] = child;
+    let longer = Progress {
+        depth: depth + 1,
+        contractions: g.contractions,
+        extensions: g.extensions + 1,
+        deletions: g.deletions,
+    };
+    let v = wide(child);
+    if status[v] != State::UNREACHED {
+        return longer;
+    }
+    reach(v, heads, lengths, first, next, bound, kept, status);
+    longer
+}
+
+// One iteration at the terminal node, whose least bid is given.
+pub fn step(g: Progress, v: usize, least: LeastBid, origin: usize, heads: &[u16], lengths: &[u32], first: &[u16], next: &[u16], path: &mut [u16], price: &mut [u64], bound: &mut [u64], kept: &mut [u16], status: &mut [u8]) -> Progress
+    requires { ⌜ Some-table (now heads) (now lengths) (now first) (now next) ⌝ }
+    requires { ⌜ (length (now price) ≡ length (now first)) × ((length (now bound) ≡ length (now first)) × ((length (now kept) ≡ length (now first)) × (length (now status) ≡ length (now first)))) ⌝ }
+    requires { ⌜ (v < length (now first)) × ((1 ≤ g .depth) × (g .contractions + g .extensions + g .deletions < 4294967296)) ⌝ }
+    requires { ⌜ Can-step v origin (least .value) (least .arc) (g .depth) (now heads) (now path) (now price) (now bound) ⌝ }
+    ensures { λ r. ⌜ ((t : Table) → Listed t (now (heads .entry)) (now (lengths .entry)) (now (first .entry)) (now (next .entry)) → t .origin ≡ origin → iteration (bid-of (least .value) (least .arc)) t v (seen (now (path .entry)) (now (price .entry)) (now (bound .entry)) (now (kept .entry)) (now (status .entry)) g) ≡ some (seen (now (path .exit)) (now (price .exit)) (now (bound .exit)) (now (kept .exit)) (now (status .exit)) r)) ⌝ }
+{
+    let arc = least.arc;
+    if arc == NO_ARC {
+        return delete(g, v, status);
+    }
+    let value = least.value;
+    if price[v] < value {
+        return contract(g, v, origin, value, price);
+    }
+    let i = wide(arc);
+    let child = heads[i];
+    extend(g, child, heads, lengths, first, next, path, bound, kept, status)
+}
