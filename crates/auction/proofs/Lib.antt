@@ -1,3 +1,14 @@
 pub mod Basics
 pub mod Sums
 pub mod Good
+pub mod Effects
+pub mod Offers
+pub mod Sound
+pub mod Reaching
+pub mod Bids
+pub mod Potential
+pub mod Stages
+pub mod Counting
+pub mod Steps
+pub mod Extending
+pub mod Run

@@ -1,0 +1,92 @@
+-- What is counted in a state, and what the counts come to. Assumes nothing.
+use mathlib.Core.Path.{_≡_, refl, sym, ap, subst, _∙_}
+use mathlib.Core.Bool.{Bool, true, false, cond}
+use mathlib.Core.List.{List}
+use mathlib.Core.Logic.{_⊎_, inl, inr, ⊎-elim}
+use Prim.Native.Nat.{ℕ, zero, suc, _+_, _*_, _-_, _/_, _≤_, _<_}
+use native.Mathlib.Omega.{arith}
+use lib.Dec.{eqb}
+use lib.ListN.{length}
+use borrow.Author.Tests.{eq-eqb, ne-eqb}
+use Rattle.table.specs.Table.{Table}
+use Rattle.auction.specs.Auction.{State, price-at, status-at, distance, terminal, iterations, most-iterations}
+use Rattle.auction.specs.HandOver.{reached-count}
+use Rattle.auction.proofs.Basics.{same-or}
+use Rattle.auction.proofs.Sums.{total, total-le, total-same, total-const, total-one, only-at, only-same, only-other}
+use Rattle.auction.proofs.Good.{Good}
+use Rattle.auction.proofs.Sound.{Nodes, Sound, top-status, reached-low}
+use Rattle.auction.proofs.Potential.{slack, stages}
+use Rattle.auction.proofs.Stages.{stages-most, sharper, demanded}
+
+-- 1 for a deleted node, else 0
+unfoldable pub one-if-deleted : State → (v : ℕ) → ℕ
+one-if-deleted x v = cond (eqb (status-at x v) 2) 1 0
+
+pub deleted-one : (x : State) (v : ℕ) → status-at x v ≡ 2 → one-if-deleted x v ≡ 1
+unfolding one-if-deleted
+deleted-one x v e = rw (eq-eqb (status-at x v) 2 e)
+
+pub undeleted-none : (x : State) (v : ℕ) → (status-at x v ≡ 2 → ⊥) → one-if-deleted x v ≡ 0
+unfolding one-if-deleted
+undeleted-none x v h = rw (ne-eqb (status-at x v) 2 h)
+
+pub same-deleted : (x y : State) (v : ℕ) → status-at y v ≡ status-at x v → one-if-deleted y v ≡ one-if-deleted x v
+unfolding one-if-deleted
+same-deleted x y v e = rw e
+
+pub record Counts (t : Table) (x : State) (dep : ℕ → ℕ) : Type 0 where
+  -- contractions so far, and those that the slack left allows
+  pub contracted : x .contractions + total (t .n) (slack t x dep) ≤ stages (t .n) (reached-count t x)
+  pub deleted : x .deletions ≡ total (t .n) (one-if-deleted x)
+  -- each extension is undone by a contraction or a deletion, or still on the path
+  pub extended : suc (x .extensions) ≤ length (x .path) + (x .contractions + x .deletions)
+
+-- the invariant and the counts, with the depths that they speak of
+pub record Invariant (t : Table) (x : State) : Type 0 where
+  pub depth : ℕ → ℕ
+  pub sound : Sound t x depth
+  pub counts : Counts t x depth
+
+-- what a step from x to y does: it is counted, reached nodes keep their distance, and a node that is reached is at the origin's price
+pub record Stepped (t : Table) (x y : State) : Type 0 where
+  pub invariant : Invariant t y
+  pub counted : iterations y ≡ suc (iterations x)
+  pub stays : (v : ℕ) → 0 < status-at x v → 0 < status-at y v
+  pub distances : (v : ℕ) → 0 < status-at x v → distance y v ≡ distance x v
+  pub arrives : (v : ℕ) → status-at x v ≡ 0 → 0 < status-at y v → distance y v ≡ price-at x (t .origin)
+
+module _ {t : Table} (g : Good t) {x : State} {dep : ℕ → ℕ} (s : Sound t x dep) (c : Counts t x dep) where
+  deletions-low : suc (x .deletions) ≤ t .n
+  deletions-low =
+      let o = t .origin in
+      let a =
+      total-le (t .n) (λ v. one-if-deleted x v + only-at o 1 v) (λ v. 1)
+      (λ v l.
+      ⊎-elim
+      (λ (e : v ≡ o).
+      omega
+      (arith, only-same o 1 v e, undeleted-none x v (λ (d : status-at x v ≡ 2). omega (arith, ap (status-at x) e, s .nodes .origin-status))))
+      (λ (d : v ≡ o → ⊥).
+      ⊎-elim (λ (q : status-at x v ≡ 2). omega (arith, only-other o 1 v d, deleted-one x v q))
+      (λ (q : status-at x v ≡ 2 → ⊥). omega (arith, only-other o 1 v d, undeleted-none x v q))
+      (same-or (status-at x v) 2))
+      (same-or v o)) in
+      omega (arith, a, c .deleted, total-one (t .n) (one-if-deleted x) o 1 (g .origin-in), total-const (t .n) 1)
+
+  pub path-short : length (x .path) ≤ t .n
+  unfolding terminal
+  path-short =
+      omega
+      (arith, s .path-depth, s .nodes .shallow (terminal x) (omega (arith, top-status (s .nodes) (x .path) (s .chain))), reached-low t x)
+
+  counted : iterations x ≤ 2 * stages (t .n) (t .n) + 3 * (t .n - 1)
+  unfolding iterations
+  counted =
+      omega
+      (arith, c .contracted, stages-most (t .n) (reached-count t x) (reached-low t x), deletions-low, c .extended, path-short)
+
+  pub fewer : iterations x ≤ (t .n * t .n * t .n - t .n) / 3 + 3 * (t .n - 1)
+  fewer = omega (arith, counted, sharper (t .n) (g .some-node))
+
+  pub few : iterations x ≤ most-iterations (t .n)
+  few = omega (arith, counted, demanded (t .n) (g .some-node))
