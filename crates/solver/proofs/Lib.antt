@@ -3,3 +3,5 @@ pub mod Arcs
 pub mod Offering
 pub mod Linking
 pub mod Bidding
+pub mod Stepping
+pub mod Wanted

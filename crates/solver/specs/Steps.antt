@@ -5,7 +5,7 @@ use mathlib.Core.List.{List}
 use mathlib.Core.Option.{Option, none, some}
 use Prim.Native.Nat.{ℕ, _+_, _≤_, _<_}
 use lib.Dec.{eqb}
-use lib.ListN.{length, getD}
+use lib.ListN.{length, getD, drop}
 use Rattle.table.specs.Table.{Table, is-table, tail-at, head-at, length-at, no-arc}
 use Rattle.auction.specs.Auction.{State, Bid, offer, distance, lower-bid, start, auction, ended, iterations}
 use Rattle.auction.specs.HandOver.{first-missing}
@@ -45,3 +45,8 @@ pub record Ran (t : Table) (ws : List ℕ) (missing : ℕ) (x : State) : Type 0 
   pub ended-so : auction t ws ≡ ended (eqb missing (length ws)) x
   pub first-so : missing ≡ first-missing 0 ws x
   pub few : iterations x < 4294967296
+
+-- The index of the first wanted node, from an index on, that has not been reached.
+pub record First-from (from : ℕ) (ws status : List ℕ) (r : ℕ) : Type 0 where
+  pub low : r ≤ length ws
+  pub first : (x : State) → x .status ≡ status → r ≡ first-missing from (drop from ws) x

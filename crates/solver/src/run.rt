@@ -3,12 +3,11 @@ ghost use mathlib.Core.Path.{_≡_};
 ghost use mathlib.Core.Bool.{true};
 ghost use mathlib.Core.List.{List};
 ghost use Prim.Native.Nat.{ℕ, _+_, _≤_, _<_};
-ghost use lib.ListN.{length, getD, drop};
+ghost use lib.ListN.{length, getD};
 ghost use Rattle.table.specs.Table.{Table, table-of, is-table};
-ghost use Rattle.auction.specs.Auction.{State, fresh};
-ghost use Rattle.auction.specs.HandOver.{first-missing};
+ghost use Rattle.auction.specs.Auction.{fresh};
 ghost use Rattle.solver.specs.Seen.{seen, Sized};
-ghost use Rattle.solver.specs.Steps.{Begun, Ran};
+ghost use Rattle.solver.specs.Steps.{Begun, Ran, First-from};
 use super::bids::least_bid;
 use super::lists::link_arcs;
 use super::reaching::reach;
@@ -26,7 +25,7 @@ pub struct Ended {
 // The index of the first wanted node, from an index on, that has not been reached.
 fn first_unreached(from: usize, wanted: &[u16], status: &[u8]) -> usize
     requires { ⌜ (from ≤ length (now wanted)) × ((k : ℕ) → k < length (now wanted) → getD (now wanted) k 0 < length (now status)) ⌝ }
-    ensures { λ r. ⌜ (r ≤ length (now (wanted .entry))) × ((x : State) → x .status ≡ now (status .entry) → r ≡ first-missing from (drop from (now (wanted .entry))) x) ⌝ }
+    ensures { λ r. ⌜ First-from from (now (wanted .entry)) (now (status .entry)) r ⌝ }
 {
     let mut w = from;
     while w < wanted.len() {

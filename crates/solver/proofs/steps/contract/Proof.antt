@@ -1,3 +1,5 @@
+-- The path loses its first node, unless that is the origin. Assumes nothing.
+use Rattle.solver.proofs.Stepping.{contracted-origin, contracted-other}
 use borrow.Author.Needs.{needs}
 use Rattle.solver.proofs.steps.contract.Statement.{statement}
 use Rattle.solver.proofs.steps.contract.Tie as tie
@@ -22,7 +24,9 @@ same-length c = search needs
 
 -- src/steps.rt:40:9
 returns : tie.Need-returns
-returns c = ?
+returns c = 
+    λ t path bound kept status eo.
+    let a = c .before .before .args in contracted-origin path (a .price .now) bound kept status (a .g) t (a .v) (a .origin) (a .value) eo (c .if1 .taken)
 
 -- src/steps.rt:48:16
 sub-t7 : tie.Need-sub-t7
@@ -34,7 +38,10 @@ same-length-2 c = search needs
 
 -- src/steps.rt:33:1
 returns-2 : tie.Need-returns-2
-returns-2 c = ?
+returns-2 c = 
+    λ t path bound kept status eo.
+    let a = c .before .before .before .args in
+    contracted-other path (a .price .now) bound kept status (a .g) t (a .v) (a .origin) (a .value) eo (c .before .if1 .left) (c .before .before .before .pre .0)
 
 pub contract-spec : {M : Type 1} → statement M
 contract-spec =

@@ -1,3 +1,5 @@
+-- The path loses its first node. Assumes nothing.
+use Rattle.solver.proofs.Stepping.{deleted-so}
 use borrow.Author.Needs.{needs}
 use Rattle.solver.proofs.steps.delete.Statement.{statement}
 use Rattle.solver.proofs.steps.delete.Tie as tie
@@ -22,7 +24,9 @@ same-length c = search needs
 
 -- src/steps.rt:19:1
 returns : tie.Need-returns
-returns c = ?
+returns c = 
+    λ path price bound kept.
+    let s = c .before .before in deleted-so path price bound kept (s .args .status .now) (s .args .g) (s .args .v) (s .pre .0)
 
 pub delete-spec : {M : Type 1} → statement M
 delete-spec = tie.close (tie.spec slice-write-status sub-t5 add-t6 same-length returns)

@@ -1,3 +1,15 @@
+-- The bid picks the kind of iteration, as in the definition. Assumes nothing.
+use mathlib.Core.Path.{_≡_, ap, sym, subst, _∙_}
+use mathlib.Core.Option.{some}
+use native.Mathlib.Omega.{arith}
+use Prim.Native.Nat.{ℕ, _≤_, _<_}
+use lib.ListN.{length, getD}
+use Rattle.auction.specs.Auction.{extension}
+use Rattle.table.specs.Table.{arc-count, head-at}
+use Rattle.solver.specs.Lists.{Some-table}
+use Rattle.solver.specs.Seen.{seen, greatest-sum}
+use Rattle.solver.proofs.Arrays.{seen-price}
+use Rattle.solver.proofs.Stepping.{is-deletion, is-contraction, is-extension}
 use borrow.Author.Needs.{needs}
 use Rattle.solver.proofs.steps.step.Statement.{statement}
 use Rattle.solver.proofs.steps.step.Tie as tie
@@ -18,7 +30,12 @@ same-length c = search needs
 
 -- src/steps.rt:88:9
 returns : tie.Need-returns
-returns c = ?
+returns c = 
+    λ t here eo.
+    let s = c .before .before .before .before .before .before .before .before .before .before .before .before .before .before in
+    let a = s .args in
+    is-deletion t (a .v) (a .least .value) (a .least .arc) _ (c .before .before .before .before .if1 .taken) (λ z. s .pre .1 .1 .1 .no-stop (c .before .before .before .before .if1 .taken) (z ∙ eo))
+    ∙ ap some (sym (c .before .before .delete .ensures (a .path .now) (a .price .now) (a .bound .now) (a .kept .now)))
 
 -- src/steps.rt:91:8
 mul-if2 : tie.Need-mul-if2
@@ -38,7 +55,13 @@ same-length-2 c = search needs
 
 -- src/steps.rt:92:9
 returns-2 : tie.Need-returns-2
-returns-2 c = ?
+returns-2 c = 
+    λ t here eo.
+    let s = c .before .before .before .before .before .before .before .before .before .before .before .before .before .before .before .before in
+    let a = s .args in
+    is-contraction t (a .v) (a .least .value) (a .least .arc) _ (c .before .before .before .before .before .before .if1 .left)
+      (subst (λ (m : ℕ). m < a .least .value) (sym (seen-price (a .path .now) (a .price .now) (a .bound .now) (a .kept .now) (a .status .now) (a .g) (a .v))) (c .before .before .before .before .if2 .taken))
+    ∙ ap some (sym (c .before .before .contract .ensures t (a .path .now) (a .bound .now) (a .kept .now) (a .status .now) eo))
 
 -- src/steps.rt:94:9
 wide-requires : tie.Need-wide-requires
@@ -50,11 +73,26 @@ mul-child c = search needs
 
 -- src/steps.rt:95:17
 shared-slice-read-child : tie.Need-shared-slice-read-child
-shared-slice-read-child c = ?
+shared-slice-read-child c = 
+    let s = c .before .before .before .before .before .before .before .before .before .before .before .before .before .before in omega (arith, c .before .wide .ensures .0, s .pre .1 .1 .1 .listed (c .before .before .before .before .if1 .left))
 
 -- src/steps.rt:96:5
 extend-requires : tie.Need-extend-requires
-extend-requires c κs = ?
+unfolding Some-table
+extend-requires c κs = 
+    let s = c .before .before .before .before .before .before .before .before .before .before .before .before .before .before .before .before .before .before in
+    let a = s .args in
+    let any = c .before .before .before .before .before .before .before .before .if1 .left in
+    let can = s .pre .1 .1 .1 in
+    let same : getD (a .heads .now) (c .before .before .before .before .before .wide .result) 0 ≡ getD (a .heads .now) (a .least .arc) 0 = ap (λ i. getD (a .heads .now) i 0) (c .before .before .before .before .before .wide .ensures .0) in
+    let here = s .pre .0 .1 in
+    let inside : a .least .arc < arc-count (s .pre .0 .0) = omega (arith, can .listed any, here .head-count) in
+    let lengths = s .pre .1 .0 in
+    ( s .pre .0
+    , (lengths .1
+      , (omega (arith, same, here .head (a .least .arc) inside, here .head-in (a .least .arc) inside, here .linked .first-count)
+        , (subst (λ (j : ℕ). getD (a .bound .now) j 0 ≤ greatest-sum) (sym same) (can .bounded any)
+          , (can .room any (c .before .before .before .before .before .before .if2 .left), omega (arith, s .pre .1 .1 .0 .1 .1))))))
 
 -- src/steps.rt:79:1
 same-length-3 : tie.Need-same-length-3
@@ -74,7 +112,19 @@ same-length-6 c = search needs
 
 -- src/steps.rt:79:1
 returns-3 : tie.Need-returns-3
-returns-3 c = ?
+returns-3 c = 
+    λ t here eo.
+    let s = c .before .before .before .before .before .before .before .before .before .before .before .before .before .before .before .before .before .before .before .before .before .before .before .before .before .before .before in
+    let a = s .args in
+    let any = c .before .before .before .before .before .before .before .before .before .before .before .before .before .before .before .before .before .if1 .left in
+    let x = seen (a .path .now) (a .price .now) (a .bound .now) (a .kept .now) (a .status .now) (a .g) in
+    let inside : a .least .arc < arc-count t = omega (arith, s .pre .1 .1 .1 .listed any, here .head-count) in
+    let child : head-at t (a .least .arc) ≡ getD (a .heads .now) (c .before .before .before .before .before .before .before .before .before .before .before .before .before .before .wide .result) 0 =
+        sym (ap (λ i. getD (a .heads .now) i 0) (c .before .before .before .before .before .before .before .before .before .before .before .before .before .before .wide .ensures .0) ∙ here .head (a .least .arc) inside) in
+    is-extension t (a .v) (a .least .value) (a .least .arc) _ any
+      (subst (λ (m : ℕ). a .least .value ≤ m) (sym (seen-price (a .path .now) (a .price .now) (a .bound .now) (a .kept .now) (a .status .now) (a .g) (a .v))) (c .before .before .before .before .before .before .before .before .before .before .before .before .before .before .before .if2 .left))
+    ∙ ap (λ j. some (extension t j x)) child
+    ∙ ap some (sym (c .before .before .before .before .before .before .before .before .extend .ensures t (a .price .now) here))
 
 pub step-spec : {M : Type 1} → statement M
 step-spec =
