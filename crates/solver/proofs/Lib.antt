@@ -5,3 +5,4 @@ pub mod Linking
 pub mod Bidding
 pub mod Stepping
 pub mod Wanted
+pub mod Iterating

@@ -64,3 +64,21 @@ fn iterate(begun: Progress, origin: usize, wanted: &[u16], heads: &[u16], length
         progress: g,
     }
 }
+
+// The whole run, from the fresh state that is lent to the state where it ends. The number of nodes is that of the lent entries.
+pub fn run(begun: Progress, origin: u16, tails: &[u16], heads: &[u16], lengths: &[u32], wanted: &[u16], path: &mut [u16], price: &mut [u64], bound: &mut [u64], kept: &mut [u16], status: &mut [u8]) -> Ended
+    requires { ⌜ (length (now heads) ≡ length (now tails)) × (length (now lengths) ≡ length (now tails)) ⌝ }
+    requires { ⌜ is-table (table-of (length (now status)) origin (now tails) (now heads) (now lengths)) (now wanted) ≡ true ⌝ }
+    requires { ⌜ (length (now path) ≡ length (now status)) × Sized (length (now status)) (now price) (now bound) (now kept) (now status) ⌝ }
+    requires { ⌜ seen (now path) (now price) (now bound) (now kept) (now status) begun ≡ fresh (table-of (length (now status)) origin (now tails) (now heads) (now lengths)) ⌝ }
+    ensures { λ r. ⌜ Ran (table-of (length (now (status .entry))) origin (now (tails .entry)) (now (heads .entry)) (now (lengths .entry))) (now (wanted .entry)) (r .missing) (seen (now (path .exit)) (now (price .exit)) (now (bound .exit)) (now (kept .exit)) (now (status .exit)) (r .progress)) ⌝ }
+{
+    let n = status.len();
+    let m = tails.len();
+    let at = wide(origin);
+    let mut first: [u16; 1024] = [NO_ARC; 1024];
+    let mut next: [u16; 6000] = [NO_ARC; 6000];
+    link_arcs(tails, &mut first[..n], &mut next[..m]);
+    reach(at, heads, lengths, &first[..n], &next[..m], bound, kept, status);
+    iterate(begun, at, wanted, heads, lengths, &first[..n], &next[..m], path, price, bound, kept, status)
+}
