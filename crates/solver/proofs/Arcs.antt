@@ -35,13 +35,13 @@ module _ (t : Table) (v : ℕ) where
   found zero i h = record { from = omega arith; inside = λ d. absurd (d refl) }
   found (suc k) i h =
       ⊎-elim
-        (λ (e : tail-at t i ≡ v).
-        subst (λ (q : ℕ). Found t (suc k) i v q) (sym (next-here k i e)) (record { from = omega arith; inside = λ d. (omega arith, e) }))
-        (λ (d : tail-at t i ≡ v → ⊥).
-        let r = found k (suc i) (omega arith) in
-        subst (λ (q : ℕ). Found t (suc k) i v q) (sym (next-past k i d))
-          (record { from = omega (arith, r .from); inside = λ e. (omega (arith, r .inside e .0), r .inside e .1) }))
-        (same-or (tail-at t i) v)
+      (λ (e : tail-at t i ≡ v).
+      subst (λ (q : ℕ). Found t (suc k) i v q) (sym (next-here k i e)) (record { from = omega arith; inside = λ d. (omega arith, e) }))
+      (λ (d : tail-at t i ≡ v → ⊥).
+      let r = found k (suc i) (omega arith) in
+      subst (λ (q : ℕ). Found t (suc k) i v q) (sym (next-past k i d))
+      (record { from = omega (arith, r .from); inside = λ e. (omega (arith, r .inside e .0), r .inside e .1) }))
+      (same-or (tail-at t i) v)
 
   -- an arc that leaves another node changes nothing
   offer-other : (i : ℕ) (x : State) → (tail-at t i ≡ v → ⊥) → offer t v i x ≡ x
@@ -61,15 +61,15 @@ module _ (t : Table) (v : ℕ) where
       sym (ap (λ m. offers m no-arc t v x) z)
   offers-skip (suc k) i x h =
       ⊎-elim
-        (λ (e : tail-at t i ≡ v).
-        let z : i + suc k - i ≡ suc k = omega arith in
-        rw (eq-eqb (tail-at t i) v e) (sym (ap (λ m. offers m i t v x) z)))
-        (λ (d : tail-at t i ≡ v → ⊥).
-        let z : suc i + k ≡ i + suc k = omega arith in
-        let r = offers-skip k (suc i) x (omega arith) in
-        rw (ne-eqb (tail-at t i) v d, offer-other i x d)
-          (subst (λ (m : ℕ). offers k (suc i) t v x ≡ offers (m - next-out k (suc i) t v) (next-out k (suc i) t v) t v x) z r))
-        (same-or (tail-at t i) v)
+      (λ (e : tail-at t i ≡ v).
+      let z : i + suc k - i ≡ suc k = omega arith in
+      rw (eq-eqb (tail-at t i) v e) (sym (ap (λ m. offers m i t v x) z)))
+      (λ (d : tail-at t i ≡ v → ⊥).
+      let z : suc i + k ≡ i + suc k = omega arith in
+      let r = offers-skip k (suc i) x (omega arith) in
+      rw (ne-eqb (tail-at t i) v d, offer-other i x d)
+      (subst (λ (m : ℕ). offers k (suc i) t v x ≡ offers (m - next-out k (suc i) t v) (next-out k (suc i) t v) t v x) z r))
+      (same-or (tail-at t i) v)
 
   pub bids-skip : (k i : ℕ) (x : State) → i + k ≤ most-arcs →
       best-from k i t v x ≡ best-from (i + k - next-out k i t v) (next-out k i t v) t v x
@@ -79,15 +79,15 @@ module _ (t : Table) (v : ℕ) where
       sym (ap (λ m. best-from m no-arc t v x) z)
   bids-skip (suc k) i x h =
       ⊎-elim
-        (λ (e : tail-at t i ≡ v).
-        let z : i + suc k - i ≡ suc k = omega arith in
-        rw (eq-eqb (tail-at t i) v e) (sym (ap (λ m. best-from m i t v x) z)))
-        (λ (d : tail-at t i ≡ v → ⊥).
-        let z : suc i + k ≡ i + suc k = omega arith in
-        let r = bids-skip k (suc i) x (omega arith) in
-        rw (ne-eqb (tail-at t i) v d, bid-other i x (bid (length-at t i + price-at x (head-at t i)) i) (best-from k (suc i) t v x) d)
-          (subst (λ (m : ℕ). best-from k (suc i) t v x ≡ best-from (m - next-out k (suc i) t v) (next-out k (suc i) t v) t v x) z r))
-        (same-or (tail-at t i) v)
+      (λ (e : tail-at t i ≡ v).
+      let z : i + suc k - i ≡ suc k = omega arith in
+      rw (eq-eqb (tail-at t i) v e) (sym (ap (λ m. best-from m i t v x) z)))
+      (λ (d : tail-at t i ≡ v → ⊥).
+      let z : suc i + k ≡ i + suc k = omega arith in
+      let r = bids-skip k (suc i) x (omega arith) in
+      rw (ne-eqb (tail-at t i) v d, bid-other i x (bid (length-at t i + price-at x (head-at t i)) i) (best-from k (suc i) t v x) d)
+      (subst (λ (m : ℕ). best-from k (suc i) t v x ≡ best-from (m - next-out k (suc i) t v) (next-out k (suc i) t v) t v x) z r))
+      (same-or (tail-at t i) v)
 
 -- the lower of bids: it does not matter which two are compared first
 lower-bid-same : (a b : Bid) (c : Option Bid) → lower-bid a (some (lower-bid b c)) ≡ lower-bid (lower-bid a (some b)) c
@@ -95,21 +95,21 @@ unfolding lower-bid
 lower-bid-same a b none = refl
 lower-bid-same a b (some c) =
     ⊎-elim
-      (λ (p : leb (b .value) (c .value) ≡ true).
-      ⊎-elim
-        (λ (q : leb (a .value) (b .value) ≡ true).
-        let h : a .value ≤ c .value = omega (arith, leb-true (b .value) (c .value) p, leb-true (a .value) (b .value) q) in
-        rw (p, q, le-leb (a .value) (c .value) h))
-        (λ (q : leb (a .value) (b .value) ≡ false). rw (p, q, p))
-        (true-or (leb (a .value) (b .value))))
-      (λ (p : leb (b .value) (c .value) ≡ false).
-      ⊎-elim
-        (λ (q : leb (a .value) (b .value) ≡ true). rw (p, q))
-        (λ (q : leb (a .value) (b .value) ≡ false).
-        let h : c .value < a .value = omega (arith, leb-false (b .value) (c .value) p, leb-false (a .value) (b .value) q) in
-        rw (p, q, p, lt-leb (a .value) (c .value) h))
-        (true-or (leb (a .value) (b .value))))
-      (true-or (leb (b .value) (c .value)))
+    (λ (p : leb (b .value) (c .value) ≡ true).
+    ⊎-elim
+    (λ (q : leb (a .value) (b .value) ≡ true).
+    let h : a .value ≤ c .value = omega (arith, leb-true (b .value) (c .value) p, leb-true (a .value) (b .value) q) in
+    rw (p, q, le-leb (a .value) (c .value) h))
+    (λ (q : leb (a .value) (b .value) ≡ false). rw (p, q, p))
+    (true-or (leb (a .value) (b .value))))
+    (λ (p : leb (b .value) (c .value) ≡ false).
+    ⊎-elim
+    (λ (q : leb (a .value) (b .value) ≡ true). rw (p, q))
+    (λ (q : leb (a .value) (b .value) ≡ false).
+    let h : c .value < a .value = omega (arith, leb-false (b .value) (c .value) p, leb-false (a .value) (b .value) q) in
+    rw (p, q, p, lt-leb (a .value) (c .value) h))
+    (true-or (leb (a .value) (b .value))))
+    (true-or (leb (b .value) (c .value)))
 
 pub lower-of-none : (a : Option Bid) → lower-of a none ≡ a
 unfolding lower-of lower-bid
@@ -131,11 +131,11 @@ module _ {t : Table} {hs ls first next : List ℕ} (here : Listed t hs ls first 
   pub on-first : v < t .n → On-list t v (getD first v 0)
   on-first h =
       subst (λ (q : ℕ). On-list t v q) (sym (here .linked .first-arc v h))
-        (record {
-          inside = λ d.
+      (record {
+        inside = λ d.
             let f = found t v (arc-count t) 0 (omega (arith, here .few)) .inside d in
             (omega (arith, f .0), f .1);
-        })
+      })
 
   module _ {p : ℕ} (at : On-list t v p) (some-arc : p ≡ no-arc → ⊥) where
     next-is : getD next p 0 ≡ next-out (arc-count t - suc p) (suc p) t v
@@ -150,7 +150,7 @@ module _ {t : Table} {hs ls first next : List ℕ} (here : Listed t hs ls first 
     on-next =
         let f = found t v (arc-count t - suc p) (suc p) (omega (arith, past, here .few)) in
         subst (λ (q : ℕ). On-list t v q × (p < q)) (sym next-is)
-          (record { inside = λ d. (omega (arith, f .inside d .0, past), f .inside d .1) }, omega (arith, f .from))
+        (record { inside = λ d. (omega (arith, f .inside d .0, past), f .inside d .1) }, omega (arith, f .from))
 
     here-left : arc-count t - p ≡ suc (arc-count t - suc p)
     here-left = omega (arith, at .inside some-arc .0)
@@ -160,9 +160,9 @@ module _ {t : Table} {hs ls first next : List ℕ} (here : Listed t hs ls first 
     unfolding offers
     offers-next x =
         rw (here-left, next-is)
-          (subst (λ (m : ℕ). offers (arc-count t - suc p) (suc p) t v (offer t v p x)
-            ≡ offers (m - next-out (arc-count t - suc p) (suc p) t v) (next-out (arc-count t - suc p) (suc p) t v) t v (offer t v p x)) past
-            (offers-skip t v (arc-count t - suc p) (suc p) (offer t v p x) (omega (arith, past, here .few))))
+        (subst (λ (m : ℕ). offers (arc-count t - suc p) (suc p) t v (offer t v p x)
+        ≡ offers (m - next-out (arc-count t - suc p) (suc p) t v) (next-out (arc-count t - suc p) (suc p) t v) t v (offer t v p x)) past
+        (offers-skip t v (arc-count t - suc p) (suc p) (offer t v p x) (omega (arith, past, here .few))))
 
     pub bids-next : (x : State) →
         best-from (arc-count t - p) p t v x
@@ -170,10 +170,10 @@ module _ {t : Table} {hs ls first next : List ℕ} (here : Listed t hs ls first 
     unfolding best-from
     bids-next x =
         rw (here-left, next-is)
-          (ap (λ later. with-bid (to-child t v p x) (bid (length-at t p + price-at x (head-at t p)) p) later)
-            (subst (λ (m : ℕ). best-from (arc-count t - suc p) (suc p) t v x
-              ≡ best-from (m - next-out (arc-count t - suc p) (suc p) t v) (next-out (arc-count t - suc p) (suc p) t v) t v x) past
-              (bids-skip t v (arc-count t - suc p) (suc p) x (omega (arith, past, here .few)))))
+        (ap (λ later. with-bid (to-child t v p x) (bid (length-at t p + price-at x (head-at t p)) p) later)
+        (subst (λ (m : ℕ). best-from (arc-count t - suc p) (suc p) t v x
+        ≡ best-from (m - next-out (arc-count t - suc p) (suc p) t v) (next-out (arc-count t - suc p) (suc p) t v) t v x) past
+        (bids-skip t v (arc-count t - suc p) (suc p) x (omega (arith, past, here .few)))))
 
   none-left : (p : ℕ) → p ≡ no-arc → arc-count t - p ≡ 0
   none-left p e = omega (arith, here .few)
@@ -182,15 +182,15 @@ module _ {t : Table} {hs ls first next : List ℕ} (here : Listed t hs ls first 
   offers-first x h =
       let z : 0 + arc-count t ≡ arc-count t = omega arith in
       rw (here .linked .first-arc v h)
-        (sym (subst (λ (m : ℕ). offers (arc-count t) 0 t v x ≡ offers (m - next-out (arc-count t) 0 t v) (next-out (arc-count t) 0 t v) t v x) z
-          (offers-skip t v (arc-count t) 0 x (omega (arith, here .few)))))
+      (sym (subst (λ (m : ℕ). offers (arc-count t) 0 t v x ≡ offers (m - next-out (arc-count t) 0 t v) (next-out (arc-count t) 0 t v) t v x) z
+      (offers-skip t v (arc-count t) 0 x (omega (arith, here .few)))))
 
   pub bids-first : (x : State) → v < t .n → best-from (arc-count t - getD first v 0) (getD first v 0) t v x ≡ best-from (arc-count t) 0 t v x
   bids-first x h =
       let z : 0 + arc-count t ≡ arc-count t = omega arith in
       rw (here .linked .first-arc v h)
-        (sym (subst (λ (m : ℕ). best-from (arc-count t) 0 t v x ≡ best-from (m - next-out (arc-count t) 0 t v) (next-out (arc-count t) 0 t v) t v x) z
-          (bids-skip t v (arc-count t) 0 x (omega (arith, here .few)))))
+      (sym (subst (λ (m : ℕ). best-from (arc-count t) 0 t v x ≡ best-from (m - next-out (arc-count t) 0 t v) (next-out (arc-count t) 0 t v) t v x) z
+      (bids-skip t v (arc-count t) 0 x (omega (arith, here .few)))))
 
   pub offers-done : (p : ℕ) (x : State) → p ≡ no-arc → offers (arc-count t - p) p t v x ≡ x
   unfolding offers

@@ -101,7 +101,7 @@ path-begins (suc m) (suc n) o h l = refl
 pub fresh-seen : (m : ℕ) (t : Table) (o at : ℕ) (g : Progress) → at ≡ o → t .origin ≡ o → t .origin < t .n → t .n ≤ m →
     (g .depth ≡ 1) → (g .contractions ≡ 0) → (g .extensions ≡ 0) → (g .deletions ≡ 0) →
     seen (take (t .n) (set (replicate m 0) 0 o)) (take (t .n) (replicate m 0)) (take (t .n) (set (replicate m no-distance) at 0))
-      (take (t .n) (replicate m no-arc)) (take (t .n) (replicate m 0)) g ≡ fresh t
+    (take (t .n) (replicate m no-arc)) (take (t .n) (replicate m 0)) g ≡ fresh t
 unfolding seen fresh nodes-of
 fresh-seen m t o at g ea eo h l ed ec ee ex =
     let n = t .n in

@@ -30,9 +30,9 @@ module _ (t : Table) (i j : ℕ) (p u b k s : List ℕ) (g : Progress) (at : hea
   unfolding is-kept
   not-kept x d =
       ⊎-elim
-        (λ (e : getD k j 0 ≡ no-arc). rw (no-kept (getD k j 0) e))
-        (λ (e : getD k j 0 ≡ no-arc → ⊥). rw (some-arc (getD k j 0) e) (ne-eqb (getD k j 0) i d))
-        (same-or (getD k j 0) no-arc)
+      (λ (e : getD k j 0 ≡ no-arc). rw (no-kept (getD k j 0) e))
+      (λ (e : getD k j 0 ≡ no-arc → ⊥). rw (some-arc (getD k j 0) e) (ne-eqb (getD k j 0) i d))
+      (same-or (getD k j 0) no-arc)
 
   and-false : (a : Bool) → (a && false) ≡ false
   and-false true = refl
@@ -42,9 +42,9 @@ module _ (t : Table) (i j : ℕ) (p u b k s : List ℕ) (g : Progress) (at : hea
   no-child e =
       child-is
       ∙ ⊎-elim
-        (λ (d : getD k j 0 ≡ i → ⊥). rw (not-kept (seen p u b k s g) d))
-        (λ (d : getD s j 0 ≡ 2). rw (eq-eqb (getD s j 0) 2 d) (and-false (is-kept (seen p u b k s g) i (arc-of (getD k j 0)))))
-        e
+      (λ (d : getD k j 0 ≡ i → ⊥). rw (not-kept (seen p u b k s g) d))
+      (λ (d : getD s j 0 ≡ 2). rw (eq-eqb (getD s j 0) 2 d) (and-false (is-kept (seen p u b k s g) i (arc-of (getD k j 0)))))
+      e
 
   pub a-child : getD k j 0 ≡ i → i < no-arc → (getD s j 0 ≡ 2 → ⊥) → to-child t (tail-at t i) i (seen p u b k s g) ≡ true
   unfolding is-kept
@@ -65,18 +65,18 @@ module _ (value arc fresh i : ℕ) (child : Bool) (e : child ≡ true) where
   unfolding with-bid lower-of lower-bid bid
   lower low c =
       rw (e, some-bid fresh i (λ z. omega arith))
-        (⊎-elim
-          (λ (z : arc ≡ no-arc). rw (no-bid value arc z))
-          (λ (z : fresh < value).
-          ⊎-elim (λ (q : arc ≡ no-arc). rw (no-bid value arc q)) (λ (q : arc ≡ no-arc → ⊥). rw (some-bid value arc q, lt-leb value fresh z))
-            (same-or arc no-arc))
-          c)
+      (⊎-elim
+      (λ (z : arc ≡ no-arc). rw (no-bid value arc z))
+      (λ (z : fresh < value).
+      ⊎-elim (λ (q : arc ≡ no-arc). rw (no-bid value arc q)) (λ (q : arc ≡ no-arc → ⊥). rw (some-bid value arc q, lt-leb value fresh z))
+      (same-or arc no-arc))
+      c)
 
 -- ALL BIDS: those from p on are left to compare
 pub record Uncompared (t : Table) (v : ℕ) (price kept status : List ℕ) (value arc p : ℕ) : Type 0 where
   pub on-list : On-list t v p
   pub rest : (path bound : List ℕ) (g : Progress) →
-    lower-of (bid-of value arc) (best-from (arc-count t - p) p t v (seen path price bound kept status g)) ≡ best t v (seen path price bound kept status g)
+      lower-of (bid-of value arc) (best-from (arc-count t - p) p t v (seen path price bound kept status g)) ≡ best t v (seen path price bound kept status g)
 
 abbrev pub Comparing : (heads lengths first next : List ℕ) → (v : ℕ) → (price kept status : List ℕ) → (value arc p : ℕ) → Type 0
 Comparing hs ls first next v u k s value arc p = (t : Table) → Listed t hs ls first next → Uncompared t v u k s value arc p
@@ -93,7 +93,7 @@ module _ (hs ls first next : List ℕ) (v : ℕ) (u k s : List ℕ) where
 
   pub goes-on : (value arc p value′ arc′ i j : ℕ) → Comparing hs ls first next v u k s value arc p → i ≡ p → j ≡ getD hs p 0 → (p ≡ no-arc → ⊥) →
       ((t : Table) (path bound : List ℕ) (g : Progress) → head-at t p ≡ j → length-at t p ≡ getD ls i 0 →
-        bid-of value′ arc′ ≡ lower-of (bid-of value arc) (with-bid (to-child t (tail-at t p) p (seen path u bound k s g)) (bid (getD ls i 0 + getD u j 0) p) none)) →
+      bid-of value′ arc′ ≡ lower-of (bid-of value arc) (with-bid (to-child t (tail-at t p) p (seen path u bound k s g)) (bid (getD ls i 0 + getD u j 0) p) none)) →
       Comparing hs ls first next v u k s value′ arc′ (getD next i 0)
   goes-on value arc p value′ arc′ i j inv ei ej more lowered t here =
       let l = inv t here in
@@ -101,17 +101,17 @@ module _ (hs ls first next : List ℕ) (v : ℕ) (u k s : List ℕ) where
       record {
         on-list = rw ei (on-next here v (l .on-list) more .0);
         rest = λ path bound g.
-          let x = seen path u bound k s g in
-          let eh : head-at t p ≡ j = sym (here .head p (at .0)) ∙ sym ej in
-          let el : length-at t p ≡ getD ls i 0 = sym (here .arc-length p (at .0)) ∙ ap (λ m. getD ls m 0) (sym ei) in
-          let later = best-from (arc-count t - getD next p 0) (getD next p 0) t v x in
-          let e = lowered t path bound g eh el in
-          let b : bid (getD ls i 0 + getD u j 0) p ≡ bid (length-at t p + price-at x (head-at t p)) p =
-              rw (el, eh, seen-price path u bound k s g j) in
-          rw (ei, e, lower-of-bid (bid-of value arc) (to-child t (tail-at t p) p x) (bid (getD ls i 0 + getD u j 0) p) later, b)
+            let x = seen path u bound k s g in
+            let eh : head-at t p ≡ j = sym (here .head p (at .0)) ∙ sym ej in
+            let el : length-at t p ≡ getD ls i 0 = sym (here .arc-length p (at .0)) ∙ ap (λ m. getD ls m 0) (sym ei) in
+            let later = best-from (arc-count t - getD next p 0) (getD next p 0) t v x in
+            let e = lowered t path bound g eh el in
+            let b : bid (getD ls i 0 + getD u j 0) p ≡ bid (length-at t p + price-at x (head-at t p)) p =
+            rw (el, eh, seen-price path u bound k s g j) in
+            rw (ei, e, lower-of-bid (bid-of value arc) (to-child t (tail-at t p) p x) (bid (getD ls i 0 + getD u j 0) p) later, b)
             (subst (λ (w : ℕ). lower-of (bid-of value arc) (with-bid (to-child t w p x) (bid (length-at t p + price-at x (head-at t p)) p) later) ≡ best t v x)
-              (sym (at .1))
-              (ap (λ o. lower-of (bid-of value arc) o) (sym (bids-next here v (l .on-list) more x)) ∙ l .rest path bound g));
+            (sym (at .1))
+            (ap (λ o. lower-of (bid-of value arc) o) (sym (bids-next here v (l .on-list) more x)) ∙ l .rest path bound g));
       }
 
   pub ends : (value arc p : ℕ) → Comparing hs ls first next v u k s value arc p → p ≡ no-arc →

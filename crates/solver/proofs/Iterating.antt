@@ -50,13 +50,13 @@ extension-path : (t : Table) (j : ℕ) (x : State) → extension t j x .path ≡
 unfolding extension longer reach with-status state
 extension-path t j x =
     ⊎-elim (λ (e : was-reached x j ≡ true). rw e)
-      (λ (e : was-reached x j ≡ false). rw e (offers-path (arc-count t) 0 t j (with-status j 1 (longer j x))))
-      (true-or (was-reached x j))
+    (λ (e : was-reached x j ≡ false). rw e (offers-path (arc-count t) 0 t j (with-status j 1 (longer j x))))
+    (true-or (was-reached x j))
 
-bound-value : (a d : ℕ) → bound-of a ≡ some d → a ≡ d
+pub bound-value : (a d : ℕ) → bound-of a ≡ some d → a ≡ d
 bound-value a d e =
     ⊎-elim (λ (z : a ≡ no-distance). let q = no-bound a z in let r : _≡_ {A = ℕ} 0 1 = cc in absurd (omega arith))
-      (λ (z : a ≡ no-distance → ⊥). let q = some-bound a z in cc) (same-or a no-distance)
+    (λ (z : a ≡ no-distance → ⊥). let q = some-bound a z in cc) (same-or a no-distance)
 
 -- WHAT THE CODE MAY RELY ON in a state of the run
 pub record Ready (n : ℕ) (path price : List ℕ) (g : Progress) (x : State) : Type 0 where
@@ -128,11 +128,11 @@ module _ {t : Table} {ws : List ℕ} (p u b k s : List ℕ) (g : Progress) (r : 
           record {
             no-stop = go;
             listed = λ any.
-              omega (arith, best-bid t v (seen p u b k s g) (bid value arc) (sym bids ∙ some-bid value arc any) .listed, here .head-count);
+                omega (arith, best-bid t v (seen p u b k s g) (bid value arc) (sym bids ∙ some-bid value arc any) .listed, here .head-count);
             room = λ any h. omega (arith, can-extend any h);
             bounded = λ any.
-              let inside = best-bid t v (seen p u b k s g) (bid value arc) (sym bids ∙ some-bid value arc any) .listed in
-              subst (λ (j : ℕ). getD b j 0 ≤ greatest-sum) (sym (here .head arc inside)) (has-bound any lb);
+                let inside = best-bid t v (seen p u b k s g) (bid value arc) (sym bids ∙ some-bid value arc any) .listed in
+                subst (λ (j : ℕ). getD b j 0 ≤ greatest-sum) (sym (here .head arc inside)) (has-bound any lb);
           }
 
 -- THE LOOP
@@ -144,17 +144,17 @@ pub record Iterating (ws : List ℕ) (o : ℕ) (hs ls first next : List ℕ) (x�
   pub low : w ≤ length ws
   pub path-long : length p ≡ length first
   pub sized : Sized (length first) u b k s
-  pub round : (t : Table) → Begun t ws o hs ls first next x₀ → Round t ws w (seen p u b k s g)
+  pub round : (t : Table) → Begun start t ws o hs ls first next x₀ → Round t ws w (seen p u b k s g)
 
 status-is : (p u b k s : List ℕ) (g : Progress) → seen p u b k s g .status ≡ s
 unfolding seen state
 status-is p u b k s g = refl
 
 module _ {ws : List ℕ} {o : ℕ} {hs ls first nexts : List ℕ} where
-  nodes-so : {x₀ : State} (t : Table) → Begun t ws o hs ls first nexts x₀ → t .n ≡ length first
+  nodes-so : {x₀ : State} (t : Table) → Begun start t ws o hs ls first nexts x₀ → t .n ≡ length first
   nodes-so t bg = sym (bg .listed .linked .first-count)
 
-  pub wanted-below : {x₀ : State} (t : Table) → Begun t ws o hs ls first nexts x₀ → (status : List ℕ) → length status ≡ length first →
+  pub wanted-below : {x₀ : State} (t : Table) → Begun start t ws o hs ls first nexts x₀ → (status : List ℕ) → length status ≡ length first →
       (j : ℕ) → j < length ws → getD ws j 0 < length status
   wanted-below t bg status l j h = omega (arith, wanted-in t ws (bg .good) j h, nodes-so t bg)
 
@@ -166,18 +166,18 @@ module _ {ws : List ℕ} {o : ℕ} {hs ls first nexts : List ℕ} where
         path-long = lp;
         sized = sized;
         round = λ t bg.
-          record {
-            running = subst (λ (x : State). Running t ws x) (sym (bg .begun)) (begins (bg .good));
-            missing = f .first (seen p u b k s g) (status-is p u b k s g);
-          };
+            record {
+              running = subst (λ (x : State). Running t ws x) (sym (bg .begun)) (begins (bg .good));
+              missing = f .first (seen p u b k s g) (status-is p u b k s g);
+            };
       }
 
   module _ {x₀ : State} {p u b k s : List ℕ} {g : Progress} {w : ℕ} (i : Iterating ws o hs ls first nexts x₀ p u b k s g w) where
-    still-missing : w < length ws → (t : Table) → Begun t ws o hs ls first nexts x₀ → all-reached ws (seen p u b k s g) ≡ false
+    still-missing : w < length ws → (t : Table) → Begun start t ws o hs ls first nexts x₀ → all-reached ws (seen p u b k s g) ≡ false
     still-missing h t bg = some-missing ws (seen p u b k s g) (omega (arith, i .round t bg .missing))
 
     -- what the loop's body needs
-    module _ (t : Table) (bg : Begun t ws o hs ls first nexts x₀) where
+    module _ (t : Table) (bg : Begun start t ws o hs ls first nexts x₀) where
       pub now-ready : Ready (length first) p u g (seen p u b k s g)
       now-ready = ready p u b k s g (i .round t bg .running) (length first) (nodes-so t bg)
 
@@ -185,7 +185,7 @@ module _ {ws : List ℕ} {o : ℕ} {hs ls first nexts : List ℕ} where
           (arc ≡ no-arc → v ≡ o → ⊥) → Can-step v o value arc (g .depth) hs p u b
       may-step v value arc h ev bids go =
           can-step p u b k s g (i .round t bg .running) v o value arc (now-ready .terminal-is ∙ sym ev) (bg .origin-is) bids (bg .listed) (still-missing h t bg)
-            (omega (arith, i .path-long, nodes-so t bg)) (omega (arith, i .sized .bounds, nodes-so t bg)) go
+          (omega (arith, i .path-long, nodes-so t bg)) (omega (arith, i .sized .bounds, nodes-so t bg)) go
 
     -- one iteration more
     pub continues : {p′ u′ b′ k′ s′ : List ℕ} {g′ : Progress} {w′ : ℕ} (v value arc : ℕ) → w < length ws → v ≡ getD p (g .depth - 1) 0 →
@@ -199,35 +199,35 @@ module _ {ws : List ℕ} {o : ℕ} {hs ls first nexts : List ℕ} where
           path-long = lp ∙ i .path-long;
           sized = sized;
           round = λ t bg.
-            let x = seen p u b k s g in
-            let y = seen p′ u′ b′ k′ s′ g′ in
-            let r = i .round t bg .running in
-            let e = next-is p u b k s g r v o value arc (now-ready t bg .terminal-is ∙ sym ev) (bg .origin-is) (bids t (bg .listed)) ∙ steps t (bg .listed) (bg .origin-is) in
-            let after = stepped t (r .good) x (r .invariant) y e in
-            record {
-              running = goes-on r y (still-missing h t bg) e .0;
-              missing =
-                f .first y (status-is p′ u′ b′ k′ s′ g′)
-                ∙ jump w ws x y (i .round t bg .missing) (i .low) (λ j q. status-reached y j (after .stays j (reached-status x j q)));
-            };
+              let x = seen p u b k s g in
+              let y = seen p′ u′ b′ k′ s′ g′ in
+              let r = i .round t bg .running in
+              let e = next-is p u b k s g r v o value arc (now-ready t bg .terminal-is ∙ sym ev) (bg .origin-is) (bids t (bg .listed)) ∙ steps t (bg .listed) (bg .origin-is) in
+              let after = stepped t (r .good) x (r .invariant) y e in
+              record {
+                running = goes-on r y (still-missing h t bg) e .0;
+                missing =
+                    f .first y (status-is p′ u′ b′ k′ s′ g′)
+                    ∙ jump w ws x y (i .round t bg .missing) (i .low) (λ j q. status-reached y j (after .stays j (reached-status x j q)));
+              };
         }
 
     -- the iteration is counted
     pub counted : (p′ u′ b′ k′ s′ : List ℕ) (g′ : Progress) (v value arc : ℕ) → w < length ws → v ≡ getD p (g .depth - 1) 0 →
         ((t : Table) → Listed t hs ls first nexts → bid-of value arc ≡ best t v (seen p u b k s g)) →
         ((t : Table) → Listed t hs ls first nexts → t .origin ≡ o → iteration (bid-of value arc) t v (seen p u b k s g) ≡ some (seen p′ u′ b′ k′ s′ g′)) →
-        (t : Table) → Begun t ws o hs ls first nexts x₀ → g′ .contractions + g′ .extensions + g′ .deletions ≡ suc (g .contractions + g .extensions + g .deletions)
+        (t : Table) → Begun start t ws o hs ls first nexts x₀ → g′ .contractions + g′ .extensions + g′ .deletions ≡ suc (g .contractions + g .extensions + g .deletions)
     unfolding iterations seen state
     counted p′ u′ b′ k′ s′ g′ v value arc h ev bids steps t bg =
         let r = i .round t bg .running in
         let e = next-is p u b k s g r v o value arc (now-ready t bg .terminal-is ∙ sym ev) (bg .origin-is) (bids t (bg .listed)) ∙ steps t (bg .listed) (bg .origin-is) in
         goes-on r (seen p′ u′ b′ k′ s′ g′) (still-missing h t bg) e .1
 
-    counted-so : (t : Table) (bg : Begun t ws o hs ls first nexts x₀) → iterations (seen p u b k s g) < 4294967296
+    counted-so : (t : Table) (bg : Begun start t ws o hs ls first nexts x₀) → iterations (seen p u b k s g) < 4294967296
     counted-so t bg = omega (arith, i .round t bg .running .few, few-in-all (t .n) (i .round t bg .running .good .few-nodes))
 
     -- the two ends
-    pub ends : length ws ≤ w → (t : Table) → Begun t ws o hs ls first nexts x₀ → Ran t ws w (seen p u b k s g)
+    pub ends : length ws ≤ w → (t : Table) → Begun start t ws o hs ls first nexts x₀ → Ran t ws w (seen p u b k s g)
     ends h t bg =
         let r = i .round t bg in
         record {
@@ -238,11 +238,11 @@ module _ {ws : List ℕ} {o : ℕ} {hs ls first nexts : List ℕ} where
 
     pub stops : (v value arc : ℕ) → w < length ws → v ≡ getD p (g .depth - 1) 0 → arc ≡ no-arc → v ≡ o →
         ((t : Table) → Listed t hs ls first nexts → bid-of value arc ≡ best t v (seen p u b k s g)) →
-        (t : Table) → Begun t ws o hs ls first nexts x₀ → Ran t ws w (seen p u b k s g)
+        (t : Table) → Begun start t ws o hs ls first nexts x₀ → Ran t ws w (seen p u b k s g)
     stops v value arc h ev ea eo bids t bg =
         let r = i .round t bg in
         let e = next-is p u b k s g (r .running) v o value arc (now-ready t bg .terminal-is ∙ sym ev) (bg .origin-is) (bids t (bg .listed))
-            ∙ is-stop t v value arc (seen p u b k s g) ea (eo ∙ sym (bg .origin-is)) in
+        ∙ is-stop t v value arc (seen p u b k s g) ea (eo ∙ sym (bg .origin-is)) in
         record {
           ended-so = rw (ne-eqb w (length ws) (λ z. omega arith)) (stuck (r .running) (still-missing h t bg) e);
           first-so = r .missing;

@@ -6,3 +6,5 @@ pub mod Bidding
 pub mod Stepping
 pub mod Wanted
 pub mod Iterating
+pub mod Columns
+pub mod Beginning

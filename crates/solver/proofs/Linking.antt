@@ -33,12 +33,12 @@ begins {tails} {first} {next} long empty =
       first-long = refl;
       next-long = long;
       linked = λ t en ts.
-        record {
-          first-arc = λ v h.
-            let z : arc-count t - length tails ≡ 0 = omega (arith, ts .count) in
-            rw z (empty v (omega arith));
-          next-arc = λ i low h. absurd (omega (arith, ts .count));
-        };
+          record {
+            first-arc = λ v h.
+                let z : arc-count t - length tails ≡ 0 = omega (arith, ts .count) in
+                rw z (empty v (omega arith));
+            next-arc = λ i low h. absurd (omega (arith, ts .count));
+          };
     }
 
 -- one arc more: the arc at q, out of v, now leads v's list
@@ -49,21 +49,21 @@ module _ (t : Table) {first next : List ℕ} {p : ℕ} (v q : ℕ) (f : Linked-f
   one-first e low at h w l =
       let z : arc-count t - q ≡ suc (arc-count t - suc q) = omega arith in
       ⊎-elim
-        (λ (s : w ≡ v). rw (z, eq-eqb (tail-at t q) w (at ∙ sym s)) (ap (λ m. getD (set first v q) m 0) s ∙ getD-set-same first v q 0 h))
-        (λ (d : w ≡ v → ⊥).
-        rw (z, ne-eqb (tail-at t q) w (λ s. d (sym s ∙ at)))
-          (getD-set-other first v w q 0 d ∙ subst (λ (m : ℕ). getD first w 0 ≡ next-out (arc-count t - m) m t w) e (f .first-arc w l)))
-        (same-or w v)
+      (λ (s : w ≡ v). rw (z, eq-eqb (tail-at t q) w (at ∙ sym s)) (ap (λ m. getD (set first v q) m 0) s ∙ getD-set-same first v q 0 h))
+      (λ (d : w ≡ v → ⊥).
+      rw (z, ne-eqb (tail-at t q) w (λ s. d (sym s ∙ at)))
+      (getD-set-other first v w q 0 d ∙ subst (λ (m : ℕ). getD first w 0 ≡ next-out (arc-count t - m) m t w) e (f .first-arc w l)))
+      (same-or w v)
 
   one-next : p ≡ suc q → p ≤ arc-count t → tail-at t q ≡ v → v < t .n → q < length next →
       (i : ℕ) → q ≤ i → i < arc-count t → getD (set next q (getD first v 0)) i 0 ≡ next-out (arc-count t - suc i) (suc i) t (tail-at t i)
   one-next e low at h inside i from l =
       ⊎-elim
-        (λ (s : i ≡ q).
-        rw (s, getD-set-same next q (getD first v 0) 0 inside, at)
-          (subst (λ (m : ℕ). getD first v 0 ≡ next-out (arc-count t - m) m t v) e (f .first-arc v h)))
-        (λ (d : i ≡ q → ⊥). getD-set-other next q i (getD first v 0) 0 d ∙ f .next-arc i (omega arith) l)
-        (same-or i q)
+      (λ (s : i ≡ q).
+      rw (s, getD-set-same next q (getD first v 0) 0 inside, at)
+      (subst (λ (m : ℕ). getD first v 0 ≡ next-out (arc-count t - m) m t v) e (f .first-arc v h)))
+      (λ (d : i ≡ q → ⊥). getD-set-other next q i (getD first v 0) 0 d ∙ f .next-arc i (omega arith) l)
+      (same-or i q)
 
 pub goes-on : {tails first₀ first next : List ℕ} {p : ℕ} (v q : ℕ) → Linking tails first₀ first next p → 0 < p → v ≡ getD tails (p - 1) 0 → q ≡ p - 1 →
     ((i : ℕ) → i < length tails → getD tails i 0 < length first₀) →
@@ -76,15 +76,15 @@ goes-on {tails} {first₀} {first} {next} {p} v q inv pos ev eq below =
       first-long = length-set first v q ∙ inv .first-long;
       next-long = length-set next (p - 1) (getD first v 0) ∙ inv .next-long;
       linked = λ t en ts.
-        let f = inv .linked t en ts in
-        let at : tail-at t (p - 1) ≡ v = sym (ts .tail (p - 1) (omega (arith, inv .low, ts .count))) ∙ sym ev in
-        let low : p ≤ arc-count t = omega (arith, inv .low, ts .count) in
-        record {
-          first-arc =
-            subst (λ (m : ℕ). (w : ℕ) → w < t .n → getD (set first v m) w 0 ≡ next-out (arc-count t - (p - 1)) (p - 1) t w) (sym eq)
-              (one-first t v (p - 1) f step low at (omega (arith, inv .first-long)));
-          next-arc = one-next t v (p - 1) f step low at (omega arith) (omega (arith, inv .next-long, inv .low));
-        };
+          let f = inv .linked t en ts in
+          let at : tail-at t (p - 1) ≡ v = sym (ts .tail (p - 1) (omega (arith, inv .low, ts .count))) ∙ sym ev in
+          let low : p ≤ arc-count t = omega (arith, inv .low, ts .count) in
+          record {
+            first-arc =
+                subst (λ (m : ℕ). (w : ℕ) → w < t .n → getD (set first v m) w 0 ≡ next-out (arc-count t - (p - 1)) (p - 1) t w) (sym eq)
+                (one-first t v (p - 1) f step low at (omega (arith, inv .first-long)));
+            next-arc = one-next t v (p - 1) f step low at (omega arith) (omega (arith, inv .next-long, inv .low));
+          };
     }
 
 pub ends : {tails first₀ first next : List ℕ} {p : ℕ} → Linking tails first₀ first next p → p ≤ 0 →

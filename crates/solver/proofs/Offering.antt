@@ -31,17 +31,17 @@ module _ (o i b k : ℕ) (fits : o < no-distance) where
   unfolding or-zero
   equal-before e h =
       ⊎-elim
-        (λ (z : k ≡ no-arc). rw (equal-lower e, no-kept k z, eq-eqb k no-arc z) (sym (le-ltb i 0 (omega arith))))
-        (λ (z : k ≡ no-arc → ⊥). rw (equal-lower e, some-arc k z, ne-eqb k no-arc z) (sym (lt-ltb i k h)))
-        (same-or k no-arc)
+      (λ (z : k ≡ no-arc). rw (equal-lower e, no-kept k z, eq-eqb k no-arc z) (sym (le-ltb i 0 (omega arith))))
+      (λ (z : k ≡ no-arc → ⊥). rw (equal-lower e, some-arc k z, ne-eqb k no-arc z) (sym (lt-ltb i k h)))
+      (same-or k no-arc)
 
   pub equal-after : o ≡ b → k ≤ i → ltb i k ≡ improves o i (bound-of b) (arc-of k)
   unfolding or-zero
   equal-after e h =
       ⊎-elim
-        (λ (z : k ≡ no-arc). rw (equal-lower e, no-kept k z, le-ltb i k h) (sym (le-ltb i 0 (omega arith))))
-        (λ (z : k ≡ no-arc → ⊥). rw (equal-lower e, some-arc k z))
-        (same-or k no-arc)
+      (λ (z : k ≡ no-arc). rw (equal-lower e, no-kept k z, le-ltb i k h) (sym (le-ltb i 0 (omega arith))))
+      (λ (z : k ≡ no-arc → ⊥). rw (equal-lower e, some-arc k z))
+      (same-or k no-arc)
 
   or-false : (a : Bool) → a ≡ (a || false)
   or-false true = refl
@@ -51,9 +51,9 @@ module _ (o i b k : ℕ) (fits : o < no-distance) where
   unfolding improves
   unequal d =
       ⊎-elim
-        (λ (z : b ≡ no-distance). rw (no-bound b z) (lt-ltb o b (omega arith)))
-        (λ (z : b ≡ no-distance → ⊥). rw (some-bound b z, ne-eqb o b d) (or-false (ltb o b)))
-        (same-or b no-distance)
+      (λ (z : b ≡ no-distance). rw (no-bound b z) (lt-ltb o b (omega arith)))
+      (λ (z : b ≡ no-distance → ⊥). rw (some-bound b z, ne-eqb o b d) (or-false (ltb o b)))
+      (same-or b no-distance)
 
 -- ONE ARC OFFERED
 offer-is : (t : Table) (v i j d : ℕ) (x : State) → tail-at t i ≡ v → head-at t i ≡ j → distance x v + length-at t i ≡ d →
@@ -80,8 +80,8 @@ module _ {j i o : ℕ} {b k s : List ℕ} (hb : j < length b) (hk : j < length k
   offered-kept fits low e better =
       record {
         as-defined = λ t v p u g et eh ed.
-          store-kept p u b k s g j i o (λ z. omega arith) (λ z. omega arith)
-          ∙ sym (rw (offer-is t v i j o (seen p u b k s g) et eh ed, unreached-here j p u b k s g e, as-said j p u b k s g o i true hb hk better));
+            store-kept p u b k s g j i o (λ z. omega arith) (λ z. omega arith)
+            ∙ sym (rw (offer-is t v i j o (seen p u b k s g) et eh ed, unreached-here j p u b k s g e, as-said j p u b k s g o i true hb hk better));
         fixed = λ v h. getD-set-other b j v o 0 (λ z. let q = ap (λ m. getD s m 0) z in omega arith);
       }
 
@@ -89,7 +89,7 @@ module _ {j i o : ℕ} {b k s : List ℕ} (hb : j < length b) (hk : j < length k
   offered-dropped worse e =
       record {
         as-defined = λ t v p u g et eh ed.
-          sym (rw (offer-is t v i j o (seen p u b k s g) et eh ed, unreached-here j p u b k s g e, as-said j p u b k s g o i false hb hk worse));
+            sym (rw (offer-is t v i j o (seen p u b k s g) et eh ed, unreached-here j p u b k s g e, as-said j p u b k s g o i false hb hk worse));
         fixed = λ v h. refl;
       }
 
@@ -97,7 +97,7 @@ module _ {j i o : ℕ} {b k s : List ℕ} (hb : j < length b) (hk : j < length k
   offered-reached d =
       record {
         as-defined = λ t v p u g et eh ed.
-          sym (rw (offer-is t v i j o (seen p u b k s g) et eh ed, reached-here j p u b k s g d));
+            sym (rw (offer-is t v i j o (seen p u b k s g) et eh ed, reached-here j p u b k s g d));
         fixed = λ v h. refl;
       }
 
@@ -105,7 +105,7 @@ module _ {j i o : ℕ} {b k s : List ℕ} (hb : j < length b) (hk : j < length k
 pub record Left-over (t : Table) (v : ℕ) (bound₀ kept₀ status bound kept : List ℕ) (p : ℕ) : Type 0 where
   pub on-list : On-list t v p
   pub rest : (path price : List ℕ) (g : Progress) →
-    offers (arc-count t - p) p t v (seen path price bound kept status g) ≡ offers (arc-count t) 0 t v (seen path price bound₀ kept₀ status g)
+      offers (arc-count t - p) p t v (seen path price bound kept status g) ≡ offers (arc-count t) 0 t v (seen path price bound₀ kept₀ status g)
 
 pub record Offering (heads lengths first next : List ℕ) (v d : ℕ) (bound₀ kept₀ status bound kept : List ℕ) (p : ℕ) : Type 0 where
   pub bounds-long : length bound ≡ length bound₀
@@ -121,11 +121,11 @@ module _ {hs ls first next : List ℕ} {v d : ℕ} {b₀ k₀ s : List ℕ} wher
         kepts-long = refl;
         distance-stays = e;
         left-over = λ t here.
-          let below : v < t .n = omega (arith, here .linked .first-count) in
-          record {
-            on-list = on-first here v below;
-            rest = λ path price g. offers-first here v (seen path price b₀ k₀ s g) below;
-          };
+            let below : v < t .n = omega (arith, here .linked .first-count) in
+            record {
+              on-list = on-first here v below;
+              rest = λ path price g. offers-first here v (seen path price b₀ k₀ s g) below;
+            };
       }
 
   module _ {b k : List ℕ} {p : ℕ} (inv : Offering hs ls first next v d b₀ k₀ s b k p) where
@@ -138,18 +138,18 @@ module _ {hs ls first next : List ℕ} {v d : ℕ} {b₀ k₀ s : List ℕ} wher
           kepts-long = lk ∙ inv .kepts-long;
           distance-stays = now-offered .fixed v reached ∙ inv .distance-stays;
           left-over = λ t here.
-            let l = inv .left-over t here in
-            let at = l .on-list .inside more in
-            record {
-              on-list = rw ei (on-next here v (l .on-list) more .0);
-              rest = λ path price g.
-                let x = seen path price b k s g in
-                let far : distance x v ≡ d =
+              let l = inv .left-over t here in
+              let at = l .on-list .inside more in
+              record {
+                on-list = rw ei (on-next here v (l .on-list) more .0);
+                rest = λ path price g.
+                    let x = seen path price b k s g in
+                    let far : distance x v ≡ d =
                     seen-distance path price b k s g v (omega (arith, inv .bounds-long)) (λ z. omega (arith, inv .distance-stays)) ∙ inv .distance-stays in
-                let e = now-offered .as-defined t v path price g (at .1) (sym (here .head p (at .0)) ∙ sym ej)
+                    let e = now-offered .as-defined t v path price g (at .1) (sym (here .head p (at .0)) ∙ sym ej)
                     (omega (arith, far, here .arc-length p (at .0))) in
-                rw (ei, e) (sym (offers-next here v (l .on-list) more x) ∙ l .rest path price g);
-            };
+                    rw (ei, e) (sym (offers-next here v (l .on-list) more x) ∙ l .rest path price g);
+              };
         }
 
     pub ends : p ≡ no-arc → (t : Table) (path price : List ℕ) (g : Progress) → Listed t hs ls first next →

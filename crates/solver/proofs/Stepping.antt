@@ -51,21 +51,21 @@ grown g = record { depth = g .depth + 1; contractions = g .contractions; extensi
 module _ (p u b k s : List ℕ) (g : Progress) where
   pub deleted-so : (v : ℕ) → 1 ≤ g .depth →
       seen p u b k (set s v 2)
-        (record { depth = g .depth - 1; contractions = g .contractions; extensions = g .extensions; deletions = g .deletions + 1 })
+      (record { depth = g .depth - 1; contractions = g .contractions; extensions = g .extensions; deletions = g .deletions + 1 })
       ≡ deletion v (seen p u b k s g)
   unfolding seen deletion state
   deleted-so v h = rw (shorter (g .depth) p h, add-one (g .deletions))
 
   pub contracted-origin : (t : Table) (v o value : ℕ) → t .origin ≡ o → v ≡ o →
       seen p (set u v value) b k s
-        (record { depth = g .depth; contractions = g .contractions + 1; extensions = g .extensions; deletions = g .deletions })
+      (record { depth = g .depth; contractions = g .contractions + 1; extensions = g .extensions; deletions = g .deletions })
       ≡ contraction t v value (seen p u b k s g)
   unfolding seen contraction state
   contracted-origin t v o value eo e = rw (eq-eqb v (t .origin) (e ∙ sym eo), add-one (g .contractions))
 
   pub contracted-other : (t : Table) (v o value : ℕ) → t .origin ≡ o → (v ≡ o → ⊥) → 1 ≤ g .depth →
       seen p (set u v value) b k s
-        (record { depth = g .depth - 1; contractions = g .contractions + 1; extensions = g .extensions; deletions = g .deletions })
+      (record { depth = g .depth - 1; contractions = g .contractions + 1; extensions = g .extensions; deletions = g .deletions })
       ≡ contraction t v value (seen p u b k s g)
   unfolding seen contraction state
   contracted-other t v o value eo d h =
@@ -73,14 +73,14 @@ module _ (p u b k s : List ℕ) (g : Progress) where
 
   longer-so : (j : ℕ) → g .depth < length p →
       seen (set p (g .depth) j) u b k s
-        (grown g)
+      (grown g)
       ≡ longer j (seen p u b k s g)
   unfolding seen longer state
   longer-so j h = rw (extended-path (g .depth) j p h, add-one (g .extensions))
 
   pub extended-known : (t : Table) (j v : ℕ) → v ≡ j → g .depth < length p → (getD s v 0 ≡ 0 → ⊥) →
       seen (set p (g .depth) j) u b k s
-        (grown g)
+      (grown g)
       ≡ extension t j (seen p u b k s g)
   unfolding extension was-reached
   extended-known t j v e h d =
@@ -89,7 +89,7 @@ module _ (p u b k s : List ℕ) (g : Progress) where
 
   pub extended-reached : (t : Table) (j v : ℕ) (y : State) → v ≡ j → g .depth < length p → getD s v 0 ≡ 0 →
       y ≡ reach t v (seen (set p (g .depth) j) u b k s
-        (grown g)) →
+      (grown g)) →
       y ≡ extension t j (seen p u b k s g)
   unfolding extension was-reached
   extended-reached t j v y e h z r =

@@ -68,25 +68,25 @@ unfolding first-missing
 low-bound i [] x = omega arith
 low-bound i (w ∷ ws) x =
     ⊎-elim (λ (e : was-reached x w ≡ true). rw e (let r = low-bound (suc i) ws x in omega arith)) (λ (e : was-reached x w ≡ false). rw e (omega arith))
-      (true-or (was-reached x w))
+    (true-or (was-reached x w))
 
 some-missing-from : (i : ℕ) (ws : List ℕ) (x : State) → first-missing i ws x < i + length ws → all-reached ws x ≡ false
 unfolding first-missing all-reached
 some-missing-from i [] x h = absurd (omega arith)
 some-missing-from i (w ∷ ws) x h =
     ⊎-elim
-      (λ (e : was-reached x w ≡ true). rw e (some-missing-from (suc i) ws x (let r = (rw e at h) in omega arith)))
-      (λ (e : was-reached x w ≡ false). rw e)
-      (true-or (was-reached x w))
+    (λ (e : was-reached x w ≡ true). rw e (some-missing-from (suc i) ws x (let r = (rw e at h) in omega arith)))
+    (λ (e : was-reached x w ≡ false). rw e)
+    (true-or (was-reached x w))
 
 none-missing-from : (i : ℕ) (ws : List ℕ) (x : State) → i + length ws ≤ first-missing i ws x → all-reached ws x ≡ true
 unfolding first-missing all-reached
 none-missing-from i [] x h = refl
 none-missing-from i (w ∷ ws) x h =
     ⊎-elim
-      (λ (e : was-reached x w ≡ true). rw e (none-missing-from (suc i) ws x (let r = (rw e at h) in omega arith)))
-      (λ (e : was-reached x w ≡ false). absurd (let r = (rw e at h) in omega arith))
-      (true-or (was-reached x w))
+    (λ (e : was-reached x w ≡ true). rw e (none-missing-from (suc i) ws x (let r = (rw e at h) in omega arith)))
+    (λ (e : was-reached x w ≡ false). absurd (let r = (rw e at h) in omega arith))
+    (true-or (was-reached x w))
 
 pub some-missing : (ws : List ℕ) (x : State) → first-missing 0 ws x < length ws → all-reached ws x ≡ false
 some-missing ws x h = some-missing-from 0 ws x (omega arith)
@@ -100,12 +100,12 @@ unfolding first-missing
 reached-before i [] x k h = absurd (omega arith)
 reached-before i (w ∷ ws) x zero h =
     ⊎-elim (λ (e : was-reached x w ≡ true). e) (λ (e : was-reached x w ≡ false). absurd (let r = (rw e at h) in omega arith))
-      (true-or (was-reached x w))
+    (true-or (was-reached x w))
 reached-before i (w ∷ ws) x (suc k) h =
     ⊎-elim
-      (λ (e : was-reached x w ≡ true). reached-before (suc i) ws x k (let r = (rw e at h) in omega arith))
-      (λ (e : was-reached x w ≡ false). absurd (let r = (rw e at h) in omega arith))
-      (true-or (was-reached x w))
+    (λ (e : was-reached x w ≡ true). reached-before (suc i) ws x k (let r = (rw e at h) in omega arith))
+    (λ (e : was-reached x w ≡ false). absurd (let r = (rw e at h) in omega arith))
+    (true-or (was-reached x w))
 
 jump-from : (i w : ℕ) (ws : List ℕ) (y : State) → ((k : ℕ) → k < w → was-reached y (getD ws k 0) ≡ true) → w ≤ length ws →
     first-missing i ws y ≡ first-missing (i + w) (drop w ws) y

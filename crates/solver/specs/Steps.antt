@@ -7,7 +7,7 @@ use Prim.Native.Nat.{ℕ, _+_, _≤_, _<_}
 use lib.Dec.{eqb}
 use lib.ListN.{length, getD, drop}
 use Rattle.table.specs.Table.{Table, is-table, tail-at, head-at, length-at, no-arc}
-use Rattle.auction.specs.Auction.{State, Bid, offer, distance, lower-bid, start, auction, ended, iterations}
+use Rattle.auction.specs.Auction.{State, Bid, offer, distance, lower-bid, auction, ended, iterations}
 use Rattle.auction.specs.HandOver.{first-missing}
 use Rattle.solver.specs.declared.state.Progress.{Progress}
 use Rattle.solver.specs.Seen.{seen, greatest-sum}
@@ -16,8 +16,8 @@ use Rattle.solver.specs.Lists.{Listed}
 -- One arc has been offered to its head: the state is the one that `offer` gives, and no bound of a reached node has changed.
 pub record Offered (head position bound : ℕ) (bounds kept status bounds′ kept′ : List ℕ) : Type 0 where
   pub as-defined : (t : Table) (v : ℕ) (path price : List ℕ) (g : Progress) → tail-at t position ≡ v → head-at t position ≡ head →
-    distance (seen path price bounds kept status g) v + length-at t position ≡ bound →
-    seen path price bounds′ kept′ status g ≡ offer t v position (seen path price bounds kept status g)
+      distance (seen path price bounds kept status g) v + length-at t position ≡ bound →
+      seen path price bounds′ kept′ status g ≡ offer t v position (seen path price bounds kept status g)
   pub fixed : (v : ℕ) → 0 < getD status v 0 → getD bounds′ v 0 ≡ getD bounds v 0
 
 -- the lower of two bids, the first where they are equal
@@ -33,12 +33,12 @@ pub record Can-step (v origin value arc depth : ℕ) (heads path price bound : L
   pub room : (arc ≡ no-arc → ⊥) → value ≤ getD price v 0 → depth < length path
   pub bounded : (arc ≡ no-arc → ⊥) → getD bound (getD heads arc 0) 0 ≤ greatest-sum
 
--- The arrays hold the auction's start, for a table and a wanted list that are not turned down.
-pub record Begun (t : Table) (ws : List ℕ) (origin : ℕ) (heads lengths first next : List ℕ) (x : State) : Type 0 where
+-- The arrays hold a state that each table has, the fresh one or the start, for a table and a wanted list that are not turned down.
+pub record Begun (from : Table → State) (t : Table) (ws : List ℕ) (origin : ℕ) (heads lengths first next : List ℕ) (x : State) : Type 0 where
   pub listed : Listed t heads lengths first next
   pub origin-is : t .origin ≡ origin
   pub good : is-table t ws ≡ true
-  pub begun : x ≡ start t
+  pub begun : x ≡ from t
 
 -- The run has ended: every wanted node has been reached exactly where none is missing, and the first missing one is known.
 pub record Ran (t : Table) (ws : List ℕ) (missing : ℕ) (x : State) : Type 0 where

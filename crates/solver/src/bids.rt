@@ -10,8 +10,9 @@ ghost use Rattle.solver.specs.declared.state.Progress.{Progress};
 ghost use Rattle.solver.specs.Seen.{bid-of, seen, greatest-sum};
 ghost use Rattle.solver.specs.Lists.{Listed, Some-table};
 ghost use Rattle.solver.specs.Steps.{lower-of};
+use super::long;
 use super::state::State;
-use super::{long, wide};
+use super::wide;
 use table::NO_ARC;
 
 // A bid's value and the position of the child's kept arc; no arc where there is no child.
@@ -21,7 +22,15 @@ pub struct LeastBid {
 }
 
 // The lower of the bids met so far and the one over the arc at a position, where that leads to a child.
-fn lower_bid(least: LeastBid, position: u16, head: usize, length: u32, price: &[u64], kept: &[u16], status: &[u8]) -> LeastBid
+fn lower_bid(
+    least: LeastBid,
+    position: u16,
+    head: usize,
+    length: u32,
+    price: &[u64],
+    kept: &[u16],
+    status: &[u8],
+) -> LeastBid
     requires { ⌜ (head < lib.ListN.length (now price)) × ((head < lib.ListN.length (now kept)) × (head < lib.ListN.length (now status))) ⌝ }
     requires { ⌜ (position < no-arc) × (getD (now price) head 0 ≤ greatest-sum) ⌝ }
     ensures { λ r. ⌜ ((t : Table) (path bound : List ℕ) (g : Progress) → head-at t position ≡ head → length-at t position ≡ length → bid-of (r .value) (r .arc) ≡ lower-of (bid-of (least .value) (least .arc)) (with-bid (to-child t (tail-at t position) position (seen path (now (price .entry)) bound (now (kept .entry)) (now (status .entry)) g)) (bid (length + getD (now (price .entry)) head 0) position) none)) ⌝ }
@@ -40,7 +49,16 @@ fn lower_bid(least: LeastBid, position: u16, head: usize, length: u32, price: &[
 }
 
 // The least bid of a node's children, the lowest position among equals.
-pub fn least_bid(v: usize, heads: &[u16], lengths: &[u32], first: &[u16], next: &[u16], price: &[u64], kept: &[u16], status: &[u8]) -> LeastBid
+pub fn least_bid(
+    v: usize,
+    heads: &[u16],
+    lengths: &[u32],
+    first: &[u16],
+    next: &[u16],
+    price: &[u64],
+    kept: &[u16],
+    status: &[u8],
+) -> LeastBid
     requires { ⌜ Some-table (now heads) (now lengths) (now first) (now next) ⌝ }
     requires { ⌜ (length (now price) ≡ length (now first)) × ((length (now kept) ≡ length (now first)) × (length (now status) ≡ length (now first))) ⌝ }
     requires { ⌜ (v < length (now first)) × ((u : ℕ) → getD (now price) u 0 ≤ greatest-sum) ⌝ }

@@ -5,8 +5,8 @@ ghost use Prim.Native.Nat.{_<_};
 mod bids;
 mod lists;
 mod reaching;
-pub mod state;
 pub mod run;
+pub mod state;
 mod steps;
 
 // A 16-bit node number or position as an index.

@@ -9,8 +9,9 @@ ghost use Rattle.solver.specs.declared.state.Progress.{Progress};
 ghost use Rattle.solver.specs.Seen.{bound-of, arc-of, seen, greatest-sum};
 ghost use Rattle.solver.specs.Lists.{Listed, Some-table};
 ghost use Rattle.solver.specs.Steps.{Offered};
+use super::long;
 use super::state::State;
-use super::{long, wide};
+use super::wide;
 use table::NO_ARC;
 
 // Whether a bound offered by the arc at a position is to be kept: it is smaller, or equal and from a lower position.
@@ -25,7 +26,14 @@ fn improves(offered: u64, position: u16, bound: u64, kept: u16) -> bool
 }
 
 // Offers one arc to its head.
-fn offer(head: usize, position: u16, offered: u64, bound: &mut [u64], kept: &mut [u16], status: &[u8])
+fn offer(
+    head: usize,
+    position: u16,
+    offered: u64,
+    bound: &mut [u64],
+    kept: &mut [u16],
+    status: &[u8],
+)
     requires { ⌜ (head < length (now bound)) × ((head < length (now kept)) × (head < length (now status))) ⌝ }
     requires { ⌜ (offered < no-distance) × (position < no-arc) ⌝ }
     ensures { λ _. ⌜ Offered head position offered (now (bound .entry)) (now (kept .entry)) (now (status .entry)) (now (bound .exit)) (now (kept .exit)) ⌝ }
@@ -39,7 +47,17 @@ fn offer(head: usize, position: u16, offered: u64, bound: &mut [u64], kept: &mut
 }
 
 // Offers every arc out of a reached node, whose distance is given.
-fn offer_arcs(v: usize, distance: u64, heads: &[u16], lengths: &[u32], first: &[u16], next: &[u16], bound: &mut [u64], kept: &mut [u16], status: &[u8])
+fn offer_arcs(
+    v: usize,
+    distance: u64,
+    heads: &[u16],
+    lengths: &[u32],
+    first: &[u16],
+    next: &[u16],
+    bound: &mut [u64],
+    kept: &mut [u16],
+    status: &[u8],
+)
     requires { ⌜ Some-table (now heads) (now lengths) (now first) (now next) ⌝ }
     requires { ⌜ (length (now bound) ≡ length (now first)) × ((length (now kept) ≡ length (now first)) × (length (now status) ≡ length (now first))) ⌝ }
     requires { ⌜ (v < length (now first)) × ((distance ≤ greatest-sum) × ((0 < getD (now status) v 0) × (getD (now bound) v 0 ≡ distance))) ⌝ }
@@ -56,7 +74,16 @@ fn offer_arcs(v: usize, distance: u64, heads: &[u16], lengths: &[u32], first: &[
 }
 
 // Marks a node as reached, which fixes its distance, and offers its arcs.
-pub fn reach(v: usize, heads: &[u16], lengths: &[u32], first: &[u16], next: &[u16], bound: &mut [u64], kept: &mut [u16], status: &mut [u8])
+pub fn reach(
+    v: usize,
+    heads: &[u16],
+    lengths: &[u32],
+    first: &[u16],
+    next: &[u16],
+    bound: &mut [u64],
+    kept: &mut [u16],
+    status: &mut [u8],
+)
     requires { ⌜ Some-table (now heads) (now lengths) (now first) (now next) ⌝ }
     requires { ⌜ (length (now bound) ≡ length (now first)) × ((length (now kept) ≡ length (now first)) × (length (now status) ≡ length (now first))) ⌝ }
     requires { ⌜ (v < length (now first)) × (getD (now bound) v 0 ≤ greatest-sum) ⌝ }
@@ -64,5 +91,15 @@ pub fn reach(v: usize, heads: &[u16], lengths: &[u32], first: &[u16], next: &[u1
 {
     status[v] = State::REACHED;
     let distance = bound[v];
-    offer_arcs(v, distance, heads, lengths, first, next, bound, kept, status);
+    offer_arcs(
+        v,
+        distance,
+        heads,
+        lengths,
+        first,
+        next,
+        bound,
+        kept,
+        status,
+    );
 }

@@ -5,13 +5,14 @@ ghost use mathlib.Core.List.{List};
 ghost use Prim.Native.Nat.{ℕ, _+_, _≤_, _<_};
 ghost use lib.ListN.{length, getD};
 ghost use Rattle.table.specs.Table.{Table, table-of, is-table};
-ghost use Rattle.auction.specs.Auction.{fresh};
+ghost use Rattle.auction.specs.Auction.{fresh, start};
 ghost use Rattle.solver.specs.Seen.{seen, Sized};
 ghost use Rattle.solver.specs.Steps.{Begun, Ran, First-from};
 use super::bids::least_bid;
 use super::lists::link_arcs;
 use super::reaching::reach;
-use super::state::{Progress, State};
+use super::state::Progress;
+use super::state::State;
 use super::steps::step;
 use super::wide;
 use table::NO_ARC;
@@ -39,10 +40,23 @@ fn first_unreached(from: usize, wanted: &[u16], status: &[u8]) -> usize
 }
 
 // The iterations. The loop has no cap: it ends because the auction does.
-fn iterate(begun: Progress, origin: usize, wanted: &[u16], heads: &[u16], lengths: &[u32], first: &[u16], next: &[u16], path: &mut [u16], price: &mut [u64], bound: &mut [u64], kept: &mut [u16], status: &mut [u8]) -> Ended
-    requires { ⌜ ((t : Table) × Begun t (now wanted) origin (now heads) (now lengths) (now first) (now next) (seen (now path) (now price) (now bound) (now kept) (now status) begun)) ⌝ }
+fn iterate(
+    begun: Progress,
+    origin: usize,
+    wanted: &[u16],
+    heads: &[u16],
+    lengths: &[u32],
+    first: &[u16],
+    next: &[u16],
+    path: &mut [u16],
+    price: &mut [u64],
+    bound: &mut [u64],
+    kept: &mut [u16],
+    status: &mut [u8],
+) -> Ended
+    requires { ⌜ ((t : Table) × Begun start t (now wanted) origin (now heads) (now lengths) (now first) (now next) (seen (now path) (now price) (now bound) (now kept) (now status) begun)) ⌝ }
     requires { ⌜ (length (now path) ≡ length (now first)) × Sized (length (now first)) (now price) (now bound) (now kept) (now status) ⌝ }
-    ensures { λ r. ⌜ ((t : Table) → Begun t (now (wanted .entry)) origin (now (heads .entry)) (now (lengths .entry)) (now (first .entry)) (now (next .entry)) (seen (now (path .entry)) (now (price .entry)) (now (bound .entry)) (now (kept .entry)) (now (status .entry)) begun) → Ran t (now (wanted .entry)) (r .missing) (seen (now (path .exit)) (now (price .exit)) (now (bound .exit)) (now (kept .exit)) (now (status .exit)) (r .progress))) ⌝ }
+    ensures { λ r. ⌜ ((t : Table) → Begun start t (now (wanted .entry)) origin (now (heads .entry)) (now (lengths .entry)) (now (first .entry)) (now (next .entry)) (seen (now (path .entry)) (now (price .entry)) (now (bound .entry)) (now (kept .entry)) (now (status .entry)) begun) → Ran t (now (wanted .entry)) (r .missing) (seen (now (path .exit)) (now (price .exit)) (now (bound .exit)) (now (kept .exit)) (now (status .exit)) (r .progress))) ⌝ }
 {
     let mut g = begun;
     let mut w = first_unreached(0, wanted, status);
@@ -56,7 +70,21 @@ fn iterate(begun: Progress, origin: usize, wanted: &[u16], heads: &[u16], length
                 progress: g,
             };
         }
-        g = step(g, v, least, origin, heads, lengths, first, next, path, price, bound, kept, status);
+        g = step(
+            g,
+            v,
+            least,
+            origin,
+            heads,
+            lengths,
+            first,
+            next,
+            path,
+            price,
+            bound,
+            kept,
+            status,
+        );
         w = first_unreached(w, wanted, status);
     }
     Ended {
@@ -65,8 +93,56 @@ fn iterate(begun: Progress, origin: usize, wanted: &[u16], heads: &[u16], length
     }
 }
 
+// The run from the fresh state: the origin is reached, then iterations follow.
+fn run_listed(
+    begun: Progress,
+    origin: usize,
+    wanted: &[u16],
+    heads: &[u16],
+    lengths: &[u32],
+    first: &[u16],
+    next: &[u16],
+    path: &mut [u16],
+    price: &mut [u64],
+    bound: &mut [u64],
+    kept: &mut [u16],
+    status: &mut [u8],
+) -> Ended
+    requires { ⌜ ((t : Table) × Begun fresh t (now wanted) origin (now heads) (now lengths) (now first) (now next) (seen (now path) (now price) (now bound) (now kept) (now status) begun)) ⌝ }
+    requires { ⌜ (length (now path) ≡ length (now first)) × Sized (length (now first)) (now price) (now bound) (now kept) (now status) ⌝ }
+    ensures { λ r. ⌜ ((t : Table) → Begun fresh t (now (wanted .entry)) origin (now (heads .entry)) (now (lengths .entry)) (now (first .entry)) (now (next .entry)) (seen (now (path .entry)) (now (price .entry)) (now (bound .entry)) (now (kept .entry)) (now (status .entry)) begun) → Ran t (now (wanted .entry)) (r .missing) (seen (now (path .exit)) (now (price .exit)) (now (bound .exit)) (now (kept .exit)) (now (status .exit)) (r .progress))) ⌝ }
+{
+    reach(origin, heads, lengths, first, next, bound, kept, status);
+    iterate(
+        begun,
+        origin,
+        wanted,
+        heads,
+        lengths,
+        first,
+        next,
+        path,
+        price,
+        bound,
+        kept,
+        status,
+    )
+}
+
 // The whole run, from the fresh state that is lent to the state where it ends. The number of nodes is that of the lent entries.
-pub fn run(begun: Progress, origin: u16, tails: &[u16], heads: &[u16], lengths: &[u32], wanted: &[u16], path: &mut [u16], price: &mut [u64], bound: &mut [u64], kept: &mut [u16], status: &mut [u8]) -> Ended
+pub fn run(
+    begun: Progress,
+    origin: u16,
+    tails: &[u16],
+    heads: &[u16],
+    lengths: &[u32],
+    wanted: &[u16],
+    path: &mut [u16],
+    price: &mut [u64],
+    bound: &mut [u64],
+    kept: &mut [u16],
+    status: &mut [u8],
+) -> Ended
     requires { ⌜ (length (now heads) ≡ length (now tails)) × (length (now lengths) ≡ length (now tails)) ⌝ }
     requires { ⌜ is-table (table-of (length (now status)) origin (now tails) (now heads) (now lengths)) (now wanted) ≡ true ⌝ }
     requires { ⌜ (length (now path) ≡ length (now status)) × Sized (length (now status)) (now price) (now bound) (now kept) (now status) ⌝ }
@@ -79,6 +155,18 @@ pub fn run(begun: Progress, origin: u16, tails: &[u16], heads: &[u16], lengths: 
     let mut first: [u16; 1024] = [NO_ARC; 1024];
     let mut next: [u16; 6000] = [NO_ARC; 6000];
     link_arcs(tails, &mut first[..n], &mut next[..m]);
-    reach(at, heads, lengths, &first[..n], &next[..m], bound, kept, status);
-    iterate(begun, at, wanted, heads, lengths, &first[..n], &next[..m], path, price, bound, kept, status)
+    run_listed(
+        begun,
+        at,
+        wanted,
+        heads,
+        lengths,
+        &first[..n],
+        &next[..m],
+        path,
+        price,
+        bound,
+        kept,
+        status,
+    )
 }

@@ -6,7 +6,8 @@ ghost use lib.ListN.{take};
 ghost use Rattle.table.specs.Table.{Table};
 ghost use Rattle.auction.specs.Auction.{fresh};
 ghost use Rattle.solver.specs.Seen.{seen};
-use table::{NO_ARC, NO_DISTANCE};
+use table::NO_ARC;
+use table::NO_DISTANCE;
 
 // How many nodes are on the path, and the three counts.
 pub struct Progress {
@@ -28,7 +29,9 @@ pub struct State {
 
 impl State {
     pub const UNREACHED: u8 = 0;
+
     pub const REACHED: u8 = 1;
+
     pub const DELETED: u8 = 2;
 
     // The state before anything is reached, for any number of nodes above the origin.

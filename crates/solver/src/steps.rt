@@ -11,7 +11,8 @@ ghost use Rattle.solver.specs.Lists.{Listed, Some-table};
 ghost use Rattle.solver.specs.Steps.{Can-step};
 use super::bids::LeastBid;
 use super::reaching::reach;
-use super::state::{Progress, State};
+use super::state::Progress;
+use super::state::State;
 use super::wide;
 use table::NO_ARC;
 
@@ -53,7 +54,18 @@ fn contract(g: Progress, v: usize, origin: usize, value: u64, price: &mut [u64])
 }
 
 // The path is extended by a child, which is reached where it has not been reached before.
-fn extend(g: Progress, child: u16, heads: &[u16], lengths: &[u32], first: &[u16], next: &[u16], path: &mut [u16], bound: &mut [u64], kept: &mut [u16], status: &mut [u8]) -> Progress
+fn extend(
+    g: Progress,
+    child: u16,
+    heads: &[u16],
+    lengths: &[u32],
+    first: &[u16],
+    next: &[u16],
+    path: &mut [u16],
+    bound: &mut [u64],
+    kept: &mut [u16],
+    status: &mut [u8],
+) -> Progress
     requires { ⌜ Some-table (now heads) (now lengths) (now first) (now next) ⌝ }
     requires { ⌜ (length (now bound) ≡ length (now first)) × ((length (now kept) ≡ length (now first)) × (length (now status) ≡ length (now first))) ⌝ }
     requires { ⌜ (child < length (now first)) × ((getD (now bound) child 0 ≤ greatest-sum) × ((g .depth < length (now path)) × (g .extensions < 4294967296))) ⌝ }
@@ -76,7 +88,21 @@ fn extend(g: Progress, child: u16, heads: &[u16], lengths: &[u32], first: &[u16]
 }
 
 // One iteration at the terminal node, whose least bid is given.
-pub fn step(g: Progress, v: usize, least: LeastBid, origin: usize, heads: &[u16], lengths: &[u32], first: &[u16], next: &[u16], path: &mut [u16], price: &mut [u64], bound: &mut [u64], kept: &mut [u16], status: &mut [u8]) -> Progress
+pub fn step(
+    g: Progress,
+    v: usize,
+    least: LeastBid,
+    origin: usize,
+    heads: &[u16],
+    lengths: &[u32],
+    first: &[u16],
+    next: &[u16],
+    path: &mut [u16],
+    price: &mut [u64],
+    bound: &mut [u64],
+    kept: &mut [u16],
+    status: &mut [u8],
+) -> Progress
     requires { ⌜ Some-table (now heads) (now lengths) (now first) (now next) ⌝ }
     requires { ⌜ (length (now price) ≡ length (now first)) × ((length (now bound) ≡ length (now first)) × ((length (now kept) ≡ length (now first)) × (length (now status) ≡ length (now first)))) ⌝ }
     requires { ⌜ (v < length (now first)) × ((1 ≤ g .depth) × (g .contractions + g .extensions + g .deletions < 4294967296)) ⌝ }
@@ -93,5 +119,16 @@ pub fn step(g: Progress, v: usize, least: LeastBid, origin: usize, heads: &[u16]
     }
     let i = wide(arc);
     let child = heads[i];
-    extend(g, child, heads, lengths, first, next, path, bound, kept, status)
+    extend(
+        g,
+        child,
+        heads,
+        lengths,
+        first,
+        next,
+        path,
+        bound,
+        kept,
+        status,
+    )
 }

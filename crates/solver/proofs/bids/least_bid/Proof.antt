@@ -21,7 +21,7 @@ abbrev μ-loop : tie.MeasureT-loop
 μ-loop v heads lengths first next price kept status least₀ p₀ least p = no-arc - p
 
 -- the arc at p can be read
-inside : (c : tie.In-loop Inv-loop μ-loop) → 
+inside : (c : tie.In-loop Inv-loop μ-loop) →
     let a = c .before .before .before .before .before .before .before .before .before .before .args in Readable (a .heads .now) (a .lengths .now) (a .first .now) (a .next .now) (c .before .loop .p)
 inside c = readable (λ t here. c .before .loop .inv .0 t here .on-list) (c .before .before .before .before .before .before .before .before .before .before .pre .0) (c .loop-test .taken)
 
@@ -35,10 +35,11 @@ shared-slice-read-p c = omega (arith, c .before .before .before .before .before 
 
 -- src/bids.rt:54:5
 loop-holds : tie.Need-loop-holds Inv-loop μ-loop
-loop-holds c = 
-    let a = c .before .before .before .before .before .before .before .before .args in
-    ( begins (a .heads .now) (a .lengths .now) (a .first .now) (a .next .now) (a .v) (a .price .now) (a .kept .now) (a .status .now) _ _ refl (c .before .before .before .before .before .before .before .before .pre .1 .1 .0)
-    , omega (arith, c .shared-slice-known8 .given (a .v)))
+loop-holds c =
+    let a = c .before .before .before .before .before .before .before .before .args in (
+      begins (a .heads .now) (a .lengths .now) (a .first .now) (a .next .now) (a .v) (a .price .now) (a .kept .now) (a .status .now) _ _ refl (c .before .before .before .before .before .before .before .before .pre .1 .1 .0),
+      omega (arith, c .shared-slice-known8 .given (a .v)),
+    )
 
 -- src/bids.rt:55:13
 wide-requires : tie.Need-wide-requires Inv-loop μ-loop
@@ -50,7 +51,7 @@ mul-wide c = search needs
 
 -- src/bids.rt:56:25
 shared-slice-read-wide : tie.Need-shared-slice-read-wide Inv-loop μ-loop
-shared-slice-read-wide c = 
+shared-slice-read-wide c =
     let r = inside (c .before .before) in omega (arith, c .before .wide .ensures .0, r .inside, r .listed .head-count)
 
 -- src/bids.rt:56:13
@@ -63,21 +64,22 @@ mul-lower-bid c = omega (arith, c .before .before .wide .ensures .1)
 
 -- src/bids.rt:57:43
 shared-slice-read-lower-bid : tie.Need-shared-slice-read-lower-bid Inv-loop μ-loop
-shared-slice-read-lower-bid c = 
+shared-slice-read-lower-bid c =
     let r = inside (c .before .before .before .before) in omega (arith, c .before .before .before .wide .ensures .0, r .inside, r .listed .length-count)
 
 -- src/bids.rt:57:9
 lower-bid-requires : tie.Need-lower-bid-requires Inv-loop μ-loop
-lower-bid-requires c κs = 
+lower-bid-requires c κs =
     let r = inside (c .before .before .before .before) in
     let s = c .before .before .before .before .before .before .before .before .before .before .before .before .before .before in
     let head : c .before .wide2 .result ≡ getD (s .args .heads .now) (c .before .before .before .before .before .loop .p) 0 =
-        c .before .wide2 .ensures .0 ∙ ap (λ i. getD (s .args .heads .now) i 0) (c .before .before .before .wide .ensures .0) in
+    c .before .wide2 .ensures .0 ∙ ap (λ i. getD (s .args .heads .now) i 0) (c .before .before .before .wide .ensures .0) in
     let below = r .head-in in
     let n = r .listed .linked .first-count in
-    let lengths = s .pre .1 .0 in
-    ( (omega (arith, head, below, n, lengths .0), (omega (arith, head, below, n, lengths .1 .0), omega (arith, head, below, n, lengths .1 .1)))
-    , (omega (arith, c .before .before .before .before .before .loop .inv .1, c .before .before .before .before .loop-test .taken), s .pre .1 .1 .1 (c .before .wide2 .result)))
+    let lengths = s .pre .1 .0 in (
+      (omega (arith, head, below, n, lengths .0), (omega (arith, head, below, n, lengths .1 .0), omega (arith, head, below, n, lengths .1 .1))),
+      (omega (arith, c .before .before .before .before .before .loop .inv .1, c .before .before .before .before .loop-test .taken), s .pre .1 .1 .1 (c .before .wide2 .result)),
+    )
 
 -- src/bids.rt:58:13
 mul-p-2 : tie.Need-mul-p-2 Inv-loop μ-loop
@@ -85,12 +87,12 @@ mul-p-2 c = omega (arith, c .before .before .before .before .wide .ensures .1)
 
 -- src/bids.rt:58:13
 shared-slice-read-p-2 : tie.Need-shared-slice-read-p-2 Inv-loop μ-loop
-shared-slice-read-p-2 c = 
+shared-slice-read-p-2 c =
     let r = inside (c .before .before .before .before .before .before) in omega (arith, c .before .before .before .before .before .wide .ensures .0, r .inside, r .listed .linked .next-count)
 
 -- src/bids.rt:54:5
 loop-less : tie.Need-loop-less Inv-loop μ-loop
-loop-less c = 
+loop-less c =
     let s = c .before .before .before .before .before .before .before .before .before .before .before .before .before .before .before .before in
     let n = s .args .next .now in
     let same : getD n (c .before .before .before .before .before .wide .result) 0 ≡ getD n (c .before .before .before .before .before .before .before .loop .p) 0 = ap (λ i. getD n i 0) (c .before .before .before .before .before .wide .ensures .0) in
@@ -98,20 +100,21 @@ loop-less c =
 
 -- src/bids.rt:54:5
 loop-again : tie.Need-loop-again Inv-loop μ-loop
-loop-again c = 
+loop-again c =
     let s = c .before .before .before .before .before .before .before .before .before .before .before .before .before .before .before .before in
-    let a = s .args in
-    ( goes-on (a .heads .now) (a .lengths .now) (a .first .now) (a .next .now) (a .v) (a .price .now) (a .kept .now) (a .status .now) _ _ _ _ _
-      (c .before .before .before .before .before .wide .result) (c .before .before .before .wide2 .result) (c .before .before .before .before .before .before .before .loop .inv .0) (c .before .before .before .before .before .wide .ensures .0)
-      (c .before .before .before .wide2 .ensures .0 ∙ ap (λ i. getD (a .heads .now) i 0) (c .before .before .before .before .before .wide .ensures .0)) (c .before .before .before .before .before .before .loop-test .taken) (c .before .lower-bid .ensures)
-    , omega (arith, c .shared-slice-known11 .given (c .before .before .before .before .before .wide .result)))
+    let a = s .args in (
+      goes-on (a .heads .now) (a .lengths .now) (a .first .now) (a .next .now) (a .v) (a .price .now) (a .kept .now) (a .status .now) _ _ _ _ _
+          (c .before .before .before .before .before .wide .result) (c .before .before .before .wide2 .result) (c .before .before .before .before .before .before .before .loop .inv .0) (c .before .before .before .before .before .wide .ensures .0)
+          (c .before .before .before .wide2 .ensures .0 ∙ ap (λ i. getD (a .heads .now) i 0) (c .before .before .before .before .before .wide .ensures .0)) (c .before .before .before .before .before .before .loop-test .taken) (c .before .lower-bid .ensures),
+      omega (arith, c .shared-slice-known11 .given (c .before .before .before .before .before .wide .result)),
+    )
 
 -- src/bids.rt:43:1
 returns : tie.Need-returns Inv-loop μ-loop
-returns c = 
+returns c =
     let a = c .before .before .before .before .before .before .before .before .before .before .args in
     ends (a .heads .now) (a .lengths .now) (a .first .now) (a .next .now) (a .v) (a .price .now) (a .kept .now) (a .status .now) _ _ _ (c .before .loop .inv .0)
-      (c .loop-test .left)
+    (c .loop-test .left)
 
 pub least-bid-spec : {M : Type 1} → statement M
 least-bid-spec =

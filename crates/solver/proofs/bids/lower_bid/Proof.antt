@@ -30,13 +30,13 @@ shared-slice-read-if2 c = search needs
 
 -- src/bids.rt:30:9
 returns : tie.Need-returns
-returns c = 
+returns c =
     λ t path bound g at long.
     let s = c .before .before .before .before .before in
     let a = s .args in
     stays (a .least .value) (a .least .arc) _ _
-      (no-child t (a .position) (a .head) path (a .price .now) bound (a .kept .now) (a .status .now) g at (s .pre .0 .1 .0)
-        (⊎-elim (λ w. inl (w .taken)) (λ w. inr (eqb-true _ _ (w .2 .taken))) (c .if1 .came)))
+    (no-child t (a .position) (a .head) path (a .price .now) bound (a .kept .now) (a .status .now) g at (s .pre .0 .1 .0)
+    (⊎-elim (λ w. inl (w .taken)) (λ w. inr (eqb-true _ _ (w .2 .taken))) (c .if1 .came)))
 
 -- src/bids.rt:32:17
 long-requires : tie.Need-long-requires
@@ -56,7 +56,7 @@ add-value c = search needs
 
 -- src/bids.rt:34:9
 returns-2 : tie.Need-returns-2
-returns-2 c = 
+returns-2 c =
     λ t path bound g at long.
     let s = c .before .before .before .before .before .before .before .before .before .before .before .before .before in
     let a = s .args in
@@ -65,7 +65,7 @@ returns-2 c =
 
 -- src/bids.rt:24:1
 returns-3 : tie.Need-returns-3
-returns-3 c = 
+returns-3 c =
     λ t path bound g at long.
     let s = c .before .before .before .before .before .before .before .before .before .before .before in
     let a = s .args in
@@ -73,10 +73,10 @@ returns-3 c =
     let bids = getD (a .price .now) (a .head) 0 in
     ap (λ m. bid-of (m + bids) (a .position)) (c .before .before .before .long .ensures .0)
     ∙ lower (a .least .value) (a .least .arc) (a .length + bids) (a .position) _ child (s .pre .1 .0)
-      (⊎-elim
-        (λ w. inr (omega (arith, leb-false (a .least .value) (c .before .before .before .long .result + bids) (w .2 .left), c .before .before .before .long .ensures .0)))
-        (λ w. inl (w .left))
-        (c .if3 .came))
+    (⊎-elim
+    (λ w. inr (omega (arith, leb-false (a .least .value) (c .before .before .before .long .result + bids) (w .2 .left), c .before .before .before .long .ensures .0)))
+    (λ w. inl (w .left))
+    (c .if3 .came))
 
 pub lower-bid-spec : {M : Type 1} → statement M
 lower-bid-spec =

@@ -43,7 +43,7 @@ mul-next c = search needs
 
 -- src/lists.rt:28:19
 slice-read-next : tie.Need-slice-read-next Inv-loop μ-loop
-slice-read-next c = 
+slice-read-next c =
     let l = c .before .before .before .before .loop in
     omega (arith, l .inv .low, l .inv .first-long, c .before .wide .ensures .0, c .before .before .before .before .before .before .before .before .pre .1 .0 (l .p - 1) (omega (arith, l .inv .low)))
 
@@ -65,7 +65,7 @@ mul-first c = search needs
 
 -- src/lists.rt:29:9
 slice-write-first : tie.Need-slice-write-first Inv-loop μ-loop
-slice-write-first c = 
+slice-write-first c =
     let l = c .before .before .before .before .before .loop in
     omega (arith, l .inv .low, l .inv .first-long, c .before .before .wide .ensures .0, c .before .before .before .before .before .before .before .before .before .pre .1 .0 (l .p - 1) (omega (arith, l .inv .low)))
 

@@ -23,7 +23,7 @@ abbrev μ-loop : tie.MeasureT-loop
 μ-loop v distance heads lengths first next bound₀ kept₀ status p₀ bound kept p = no-arc - p
 
 -- the arc at p can be read
-inside : (c : tie.In-loop Inv-loop μ-loop) → 
+inside : (c : tie.In-loop Inv-loop μ-loop) →
     let a = c .before .before .before .before .before .before .before .before .before .before .args in Readable (a .heads .now) (a .lengths .now) (a .first .now) (a .next .now) (c .before .loop .p)
 inside c = readable (λ t here. c .before .loop .inv .0 .left-over t here .on-list) (c .before .before .before .before .before .before .before .before .before .before .pre .0) (c .loop-test .taken)
 
@@ -49,7 +49,7 @@ mul-wide c = search needs
 
 -- src/reaching.rt:51:25
 shared-slice-read-wide : tie.Need-shared-slice-read-wide Inv-loop μ-loop
-shared-slice-read-wide c = 
+shared-slice-read-wide c =
     let r = inside (c .before .before) in omega (arith, c .before .wide .ensures .0, r .inside, r .listed .head-count)
 
 -- src/reaching.rt:51:13
@@ -62,7 +62,7 @@ mul-long c = omega (arith, c .before .before .wide .ensures .1)
 
 -- src/reaching.rt:52:39
 shared-slice-read-long : tie.Need-shared-slice-read-long Inv-loop μ-loop
-shared-slice-read-long c = 
+shared-slice-read-long c =
     let r = inside (c .before .before .before .before) in omega (arith, c .before .before .before .wide .ensures .0, r .inside, r .listed .length-count)
 
 -- src/reaching.rt:52:34
@@ -75,18 +75,21 @@ add-offered c = omega (arith, c .before .before .before .before .before .before 
 
 -- src/reaching.rt:53:9
 offer-requires : tie.Need-offer-requires Inv-loop μ-loop
-offer-requires c κs = 
+offer-requires c κs =
     let r = inside (c .before .before .before .before .before .before .before) in
     let s = c .before .before .before .before .before .before .before .before .before .before .before .before .before .before .before .before .before in
     let head : c .before .before .before .before .wide2 .result ≡ getD (s .args .heads .now) (c .before .before .before .before .before .before .before .before .loop .p) 0 =
-        c .before .before .before .before .wide2 .ensures .0 ∙ ap (λ i. getD (s .args .heads .now) i 0) (c .before .before .before .before .before .before .wide .ensures .0) in
+    c .before .before .before .before .wide2 .ensures .0 ∙ ap (λ i. getD (s .args .heads .now) i 0) (c .before .before .before .before .before .before .wide .ensures .0) in
     let below = r .head-in in
     let lengths = s .pre .1 .0 in
     let n = r .listed .linked .first-count in
-    let l = c .before .before .before .before .before .before .before .before .loop .inv in
-    ( (omega (arith, head, below, n, lengths .0, l .0 .bounds-long)
-      , (omega (arith, head, below, n, lengths .1 .0, l .0 .kepts-long), omega (arith, head, below, n, lengths .1 .1)))
-    , (omega (arith, s .pre .1 .1 .1 .0, c .before .before .long .ensures .1), omega (arith, l .1, c .before .before .before .before .before .before .before .loop-test .taken)))
+    let l = c .before .before .before .before .before .before .before .before .loop .inv in (
+      (
+        omega (arith, head, below, n, lengths .0, l .0 .bounds-long),
+        (omega (arith, head, below, n, lengths .1 .0, l .0 .kepts-long), omega (arith, head, below, n, lengths .1 .1)),
+      ),
+      (omega (arith, s .pre .1 .1 .1 .0, c .before .before .long .ensures .1), omega (arith, l .1, c .before .before .before .before .before .before .before .loop-test .taken)),
+    )
 
 -- src/reaching.rt:54:13
 mul-p-2 : tie.Need-mul-p-2 Inv-loop μ-loop
@@ -94,12 +97,12 @@ mul-p-2 c = omega (arith, c .before .before .before .before .before .before .bef
 
 -- src/reaching.rt:54:13
 shared-slice-read-p-2 : tie.Need-shared-slice-read-p-2 Inv-loop μ-loop
-shared-slice-read-p-2 c = 
+shared-slice-read-p-2 c =
     let r = inside (c .before .before .before .before .before .before .before .before .before .before .before .before .before) in omega (arith, c .before .before .before .before .before .before .before .before .before .before .before .before .wide .ensures .0, r .inside, r .listed .linked .next-count)
 
 -- src/reaching.rt:49:5
 loop-less : tie.Need-loop-less Inv-loop μ-loop
-loop-less c = 
+loop-less c =
     let s = c .before .before .before .before .before .before .before .before .before .before .before .before .before .before .before .before .before .before .before .before .before .before .before in
     let n = s .args .next .now in
     let same : getD n (c .before .before .before .before .before .before .before .before .before .before .before .before .wide .result) 0 ≡ getD n (c .before .before .before .before .before .before .before .before .before .before .before .before .before .before .loop .p) 0 = ap (λ i. getD n i 0) (c .before .before .before .before .before .before .before .before .before .before .before .before .wide .ensures .0) in
@@ -108,14 +111,15 @@ loop-less c =
 
 -- src/reaching.rt:49:5
 loop-again : tie.Need-loop-again Inv-loop μ-loop
-loop-again c = 
-    let s = c .before .before .before .before .before .before .before .before .before .before .before .before .before .before .before .before .before .before .before .before .before .before .before in
-    ( goes-on (c .before .before .before .before .before .before .before .before .before .before .before .before .before .before .loop .inv .0) (c .before .before .before .before .before .before .before .before .before .before .before .before .wide .result) (c .before .before .before .before .before .before .before .before .before .before .wide2 .result) _ (c .before .before .before .before .before .before .before .before .before .before .before .before .wide .ensures .0)
-      (c .before .before .before .before .before .before .before .before .before .before .wide2 .ensures .0 ∙ ap (λ i. getD (s .args .heads .now) i 0) (c .before .before .before .before .before .before .before .before .before .before .before .before .wide .ensures .0))
-      (ap (λ a. s .args .distance + a) (c .before .before .before .before .before .before .before .before .long .ensures .0 ∙ ap (λ i. getD (s .args .lengths .now) i 0) (c .before .before .before .before .before .before .before .before .before .before .before .before .wide .ensures .0)))
-      (c .before .before .before .before .before .before .before .before .before .before .before .before .before .loop-test .taken) (omega (arith, s .pre .1 .1 .1 .0)) (omega (arith, s .pre .1 .1 .0, s .pre .1 .0 .0))
-      (s .pre .1 .1 .1 .1 .0) (c .before .before .before .before .before .offer .kept .1 .1 .1 .0) (c .before .before .before .before .before .offer .kept .1 .1 .1 .1 .0) (c .before .before .before .before .before .offer .ensures)
-    , omega (arith, c .shared-slice-known9 .given (c .before .before .before .before .before .before .before .before .before .before .before .before .wide .result)))
+loop-again c =
+    let s = c .before .before .before .before .before .before .before .before .before .before .before .before .before .before .before .before .before .before .before .before .before .before .before in (
+      goes-on (c .before .before .before .before .before .before .before .before .before .before .before .before .before .before .loop .inv .0) (c .before .before .before .before .before .before .before .before .before .before .before .before .wide .result) (c .before .before .before .before .before .before .before .before .before .before .wide2 .result) _ (c .before .before .before .before .before .before .before .before .before .before .before .before .wide .ensures .0)
+          (c .before .before .before .before .before .before .before .before .before .before .wide2 .ensures .0 ∙ ap (λ i. getD (s .args .heads .now) i 0) (c .before .before .before .before .before .before .before .before .before .before .before .before .wide .ensures .0))
+          (ap (λ a. s .args .distance + a) (c .before .before .before .before .before .before .before .before .long .ensures .0 ∙ ap (λ i. getD (s .args .lengths .now) i 0) (c .before .before .before .before .before .before .before .before .before .before .before .before .wide .ensures .0)))
+          (c .before .before .before .before .before .before .before .before .before .before .before .before .before .loop-test .taken) (omega (arith, s .pre .1 .1 .1 .0)) (omega (arith, s .pre .1 .1 .0, s .pre .1 .0 .0))
+          (s .pre .1 .1 .1 .1 .0) (c .before .before .before .before .before .offer .kept .1 .1 .1 .0) (c .before .before .before .before .before .offer .kept .1 .1 .1 .1 .0) (c .before .before .before .before .before .offer .ensures),
+      omega (arith, c .shared-slice-known9 .given (c .before .before .before .before .before .before .before .before .before .before .before .before .wide .result)),
+    )
 
 -- src/reaching.rt:42:1
 same-length : tie.Need-same-length Inv-loop μ-loop

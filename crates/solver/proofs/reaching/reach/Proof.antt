@@ -27,14 +27,17 @@ slice-read-distance c = search needs
 
 -- src/reaching.rt:67:5
 offer-arcs-requires : tie.Need-offer-arcs-requires
-offer-arcs-requires c κs = 
+offer-arcs-requires c κs =
     let s = c .before .before .before .before .before .before .before .before .before .before .before in
     let v = s .args .v in
     let status = s .args .status .now in
-    let inside : v < lib.ListN.length status = omega (arith, s .pre .1 .1 .0, s .pre .1 .0 .1 .1) in
-    ( s .pre .0
-    , ((s .pre .1 .0 .0, (s .pre .1 .0 .1 .0, length-set status v 1 ∙ s .pre .1 .0 .1 .1))
-      , (s .pre .1 .1 .0, (s .pre .1 .1 .1, (omega (arith, getD-set-same status v 1 0 inside), refl)))))
+    let inside : v < lib.ListN.length status = omega (arith, s .pre .1 .1 .0, s .pre .1 .0 .1 .1) in (
+      s .pre .0,
+      (
+        (s .pre .1 .0 .0, (s .pre .1 .0 .1 .0, length-set status v 1 ∙ s .pre .1 .0 .1 .1)),
+        (s .pre .1 .1 .0, (s .pre .1 .1 .1, (omega (arith, getD-set-same status v 1 0 inside), refl))),
+      ),
+    )
 
 -- src/reaching.rt:59:1
 same-length : tie.Need-same-length

@@ -36,12 +36,12 @@ at-head c = now-ready (c .before .loop .inv) (c .before .before .before .before 
 
 -- src/run.rt:48:9
 first-unreached-requires : tie.Need-first-unreached-requires Inv-loop μ-loop
-first-unreached-requires c κs = 
+first-unreached-requires c κs =
     let s = c .before .before .before .before .before .before .before .before .before .before .before in (search needs, wanted-below (s .pre .0 .0) (s .pre .0 .1) (s .args .status .now) (s .pre .1 .1 .statuses))
 
 -- src/run.rt:49:5
 loop-holds : tie.Need-loop-holds Inv-loop μ-loop
-loop-holds c = 
+loop-holds c =
     let s = c .before .before .before .before .before .before .before .before .before .before .before .before in
     let a = s .args in
     starts (a .path .now) (a .price .now) (a .bound .now) (a .kept .now) (a .status .now) (a .begun) (s .pre .1 .0) (s .pre .1 .1) (c .first-unreached .ensures)
@@ -65,12 +65,13 @@ wide-requires c κs = search needs
 -- src/run.rt:52:13
 least-bid-requires : tie.Need-least-bid-requires Inv-loop μ-loop
 unfolding Some-table
-least-bid-requires c κs = 
+least-bid-requires c κs =
     let s = c .before .before .before .before .before .before .before .before .before .before .before .before .before .before .before .before .before .before .before in
     let l = c .before .before .before .before .before .before .loop in
-    let r = at-head (c .before .before .before .before .before) in
-    ( (s .pre .0 .0, s .pre .0 .1 .listed)
-    , ((l .inv .sized .prices, (l .inv .sized .kepts, l .inv .sized .statuses)), (omega (arith, c .before .before .before .wide .ensures .0, r .terminal-in), r .prices-low)))
+    let r = at-head (c .before .before .before .before .before) in (
+      (s .pre .0 .0, s .pre .0 .1 .listed),
+      ((l .inv .sized .prices, (l .inv .sized .kepts, l .inv .sized .statuses)), (omega (arith, c .before .before .before .wide .ensures .0, r .terminal-in), r .prices-low)),
+    )
 
 -- src/run.rt:54:13
 same-length : tie.Need-same-length Inv-loop μ-loop
@@ -94,59 +95,64 @@ same-length-5 c = omega (arith, c .before .before .before .before .before .befor
 
 -- src/run.rt:54:13
 returns : tie.Need-returns Inv-loop μ-loop
-returns c = 
+returns c =
     let l = c .before .before .before .before .before .before .before .before .before .before .loop in
     stops (l .inv) (c .before .before .before .before .before .before .before .wide .result) (c .before .before .before .least-bid .result .value) (c .before .before .before .least-bid .result .arc) (c .before .before .before .before .before .before .before .before .before .loop-test .taken) (c .before .before .before .before .before .before .before .wide .ensures .0)
-      (c .before .if1 .taken) (eqb-true _ _ (c .if2 .taken)) (λ t here. c .before .before .before .least-bid .ensures t (l .path) (l .bound) (l .g) here)
+    (c .before .if1 .taken) (eqb-true _ _ (c .if2 .taken)) (λ t here. c .before .before .before .least-bid .ensures t (l .path) (l .bound) (l .g) here)
 
 -- src/run.rt:59:9
 step-requires : tie.Need-step-requires Inv-loop μ-loop
 unfolding Some-table
-step-requires c κs = 
+step-requires c κs =
     let s = c .before .before .before .before .before .before .before .before .before .before .before .before .before .before .before .before .before .before .before .before .before .before .before .before .before .before .before in
     let l = c .before .before .before .before .before .before .before .before .before .before .before .before .before .before .loop in
     let r = at-head (c .before .before .before .before .before .before .before .before .before .before .before .before .before) in
-    let bids = c .before .before .before .before .before .before .before .least-bid .ensures (s .pre .0 .0) (l .path) (l .bound) (l .g) (s .pre .0 .1 .listed) in
-    ( (s .pre .0 .0, s .pre .0 .1 .listed)
-    , ((l .inv .sized .prices, (l .inv .sized .bounds, (l .inv .sized .kepts, l .inv .sized .statuses)))
-      , ((omega (arith, c .before .before .before .before .before .before .before .before .before .before .before .wide .ensures .0, r .terminal-in), (r .depth-some, omega (arith, r .few, few-in-all _ (r .few-nodes))))
-        , may-step (l .inv) (s .pre .0 .0) (s .pre .0 .1) (c .before .before .before .before .before .before .before .before .before .before .before .wide .result) (c .before .before .before .before .before .before .before .least-bid .result .value) (c .before .before .before .before .before .before .before .least-bid .result .arc)
-            (c .before .before .before .before .before .before .before .before .before .before .before .before .before .loop-test .taken) (c .before .before .before .before .before .before .before .before .before .before .before .wide .ensures .0) bids
-            (⊎-elim (λ w ea eo. eqb-false _ _ (w .1 .left) eo) (λ w ea eo. w .left ea) (c .before .before .before .before .before .if1 .came)))))
+    let bids = c .before .before .before .before .before .before .before .least-bid .ensures (s .pre .0 .0) (l .path) (l .bound) (l .g) (s .pre .0 .1 .listed) in (
+      (s .pre .0 .0, s .pre .0 .1 .listed),
+      (
+        (l .inv .sized .prices, (l .inv .sized .bounds, (l .inv .sized .kepts, l .inv .sized .statuses))),
+        (
+          (omega (arith, c .before .before .before .before .before .before .before .before .before .before .before .wide .ensures .0, r .terminal-in), (r .depth-some, omega (arith, r .few, few-in-all _ (r .few-nodes)))),
+          may-step (l .inv) (s .pre .0 .0) (s .pre .0 .1) (c .before .before .before .before .before .before .before .before .before .before .before .wide .result) (c .before .before .before .before .before .before .before .least-bid .result .value) (c .before .before .before .before .before .before .before .least-bid .result .arc)
+              (c .before .before .before .before .before .before .before .before .before .before .before .before .before .loop-test .taken) (c .before .before .before .before .before .before .before .before .before .before .before .wide .ensures .0) bids
+              (⊎-elim (λ w ea eo. eqb-false _ _ (w .1 .left) eo) (λ w ea eo. w .left ea) (c .before .before .before .before .before .if1 .came)),
+        ),
+      ),
+    )
 
 -- src/run.rt:60:9
 first-unreached-requires-2 : tie.Need-first-unreached-requires-2 Inv-loop μ-loop
-first-unreached-requires-2 c κs = 
+first-unreached-requires-2 c κs =
     let s = c .before .before .before .before .before .before .before .before .before .before .before .before .before .before .before .before .before .before .before .before .before .before .before .before .before .before .before .before .before .before .before .before .before .before .before .before .before .before .before in
     let l = c .before .before .before .before .before .before .before .before .before .before .before .before .before .before .before .before .before .before .before .before .before .before .before .before .before .before .loop in
     (l .inv .low, wanted-below (s .pre .0 .0) (s .pre .0 .1) (c .before .before .before .before .before .before .before .before .before .before .before .step .last .1 .1 .1 .1 .1 .1 .1 .1 .1 .1 .1 .1 .0) (c .before .before .before .before .before .before .before .before .before .before .before .step .kept .1 .1 .1 .1 .1 .1 .1 .1 .1 .1 .1 .1 .0 ∙ l .inv .sized .statuses))
 
 -- src/run.rt:49:5
 loop-less : tie.Need-loop-less Inv-loop μ-loop
-loop-less c = 
+loop-less c =
     let s = c .before .before .before .before .before .before .before .before .before .before .before .before .before .before .before .before .before .before .before .before .before .before .before .before .before .before .before .before .before .before .before .before .before .before .before .before .before .before .before .before in
     let l = c .before .before .before .before .before .before .before .before .before .before .before .before .before .before .before .before .before .before .before .before .before .before .before .before .before .before .before .loop in
     let bids = c .before .before .before .before .before .before .before .before .before .before .before .before .before .before .before .before .before .before .before .before .least-bid in
     let more =
-        counted (l .inv) _ _ _ _ _ (c .before .before .before .before .before .before .before .before .before .before .before .before .step .result) (c .before .before .before .before .before .before .before .before .before .before .before .before .before .before .before .before .before .before .before .before .before .before .before .before .wide .result) (bids .result .value) (bids .result .arc) (c .before .before .before .before .before .before .before .before .before .before .before .before .before .before .before .before .before .before .before .before .before .before .before .before .before .before .loop-test .taken)
-          (c .before .before .before .before .before .before .before .before .before .before .before .before .before .before .before .before .before .before .before .before .before .before .before .before .wide .ensures .0) (λ t here. bids .ensures t (l .path) (l .bound) (l .g) here) (c .before .before .before .before .before .before .before .before .before .before .before .before .step .ensures) (s .pre .0 .0) (s .pre .0 .1) in
+    counted (l .inv) _ _ _ _ _ (c .before .before .before .before .before .before .before .before .before .before .before .before .step .result) (c .before .before .before .before .before .before .before .before .before .before .before .before .before .before .before .before .before .before .before .before .before .before .before .before .wide .result) (bids .result .value) (bids .result .arc) (c .before .before .before .before .before .before .before .before .before .before .before .before .before .before .before .before .before .before .before .before .before .before .before .before .before .before .loop-test .taken)
+    (c .before .before .before .before .before .before .before .before .before .before .before .before .before .before .before .before .before .before .before .before .before .before .before .before .wide .ensures .0) (λ t here. bids .ensures t (l .path) (l .bound) (l .g) here) (c .before .before .before .before .before .before .before .before .before .before .before .before .step .ensures) (s .pre .0 .0) (s .pre .0 .1) in
     omega (arith, more, at-head (c .before .before .before .before .before .before .before .before .before .before .before .before .before .before .before .before .before .before .before .before .before .before .before .before .before .before) .few)
 
 -- src/run.rt:49:5
 loop-again : tie.Need-loop-again Inv-loop μ-loop
-loop-again c = 
+loop-again c =
     let l = c .before .before .before .before .before .before .before .before .before .before .before .before .before .before .before .before .before .before .before .before .before .before .before .before .before .before .before .loop in
     let bids = c .before .before .before .before .before .before .before .before .before .before .before .before .before .before .before .before .before .before .before .before .least-bid in
     let kept = c .before .before .before .before .before .before .before .before .before .before .before .before .step .kept in
     continues (l .inv) (c .before .before .before .before .before .before .before .before .before .before .before .before .before .before .before .before .before .before .before .before .before .before .before .before .wide .result) (bids .result .value) (bids .result .arc) (c .before .before .before .before .before .before .before .before .before .before .before .before .before .before .before .before .before .before .before .before .before .before .before .before .before .before .loop-test .taken) (c .before .before .before .before .before .before .before .before .before .before .before .before .before .before .before .before .before .before .before .before .before .before .before .before .wide .ensures .0)
-      (λ t here. bids .ensures t (l .path) (l .bound) (l .g) here) (c .before .before .before .before .before .before .before .before .before .before .before .before .step .ensures) (kept .1 .1 .1 .1 .1 .1 .1 .1 .0)
-      (record {
-        prices = kept .1 .1 .1 .1 .1 .1 .1 .1 .1 .0 ∙ l .inv .sized .prices;
-        bounds = kept .1 .1 .1 .1 .1 .1 .1 .1 .1 .1 .0 ∙ l .inv .sized .bounds;
-        kepts = kept .1 .1 .1 .1 .1 .1 .1 .1 .1 .1 .1 .0 ∙ l .inv .sized .kepts;
-        statuses = kept .1 .1 .1 .1 .1 .1 .1 .1 .1 .1 .1 .1 .0 ∙ l .inv .sized .statuses;
-      })
-      (c .first-unreached2 .ensures)
+    (λ t here. bids .ensures t (l .path) (l .bound) (l .g) here) (c .before .before .before .before .before .before .before .before .before .before .before .before .step .ensures) (kept .1 .1 .1 .1 .1 .1 .1 .1 .0)
+    (record {
+      prices = kept .1 .1 .1 .1 .1 .1 .1 .1 .1 .0 ∙ l .inv .sized .prices;
+      bounds = kept .1 .1 .1 .1 .1 .1 .1 .1 .1 .1 .0 ∙ l .inv .sized .bounds;
+      kepts = kept .1 .1 .1 .1 .1 .1 .1 .1 .1 .1 .1 .0 ∙ l .inv .sized .kepts;
+      statuses = kept .1 .1 .1 .1 .1 .1 .1 .1 .1 .1 .1 .1 .0 ∙ l .inv .sized .statuses;
+    })
+    (c .first-unreached2 .ensures)
 
 -- src/run.rt:42:1
 same-length-6 : tie.Need-same-length-6 Inv-loop μ-loop

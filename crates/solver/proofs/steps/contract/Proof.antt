@@ -24,7 +24,7 @@ same-length c = search needs
 
 -- src/steps.rt:40:9
 returns : tie.Need-returns
-returns c = 
+returns c =
     λ t path bound kept status eo.
     let a = c .before .before .args in contracted-origin path (a .price .now) bound kept status (a .g) t (a .v) (a .origin) (a .value) eo (c .if1 .taken)
 
@@ -38,7 +38,7 @@ same-length-2 c = search needs
 
 -- src/steps.rt:33:1
 returns-2 : tie.Need-returns-2
-returns-2 c = 
+returns-2 c =
     λ t path bound kept status eo.
     let a = c .before .before .before .args in
     contracted-other path (a .price .now) bound kept status (a .g) t (a .v) (a .origin) (a .value) eo (c .before .if1 .left) (c .before .before .before .pre .0)

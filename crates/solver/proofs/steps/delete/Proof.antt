@@ -24,7 +24,7 @@ same-length c = search needs
 
 -- src/steps.rt:19:1
 returns : tie.Need-returns
-returns c = 
+returns c =
     λ path price bound kept.
     let s = c .before .before in deleted-so path price bound kept (s .args .status .now) (s .args .g) (s .args .v) (s .pre .0)
 

@@ -43,20 +43,21 @@ same-length c = search needs
 
 -- src/steps.rt:72:9
 returns : tie.Need-returns
-returns c = 
+returns c =
     λ t price here.
     let s = c .before .before .before .before .before .before .before .before .before .before .before .before in
     let a = s .args in
     extended-known (a .path .now) price (a .bound .now) (a .kept .now) (a .status .now) (a .g) t (a .child) (c .before .before .wide .result) (c .before .before .wide .ensures .0)
-      (s .pre .1 .1 .1 .1 .0) (c .if1 .taken)
+    (s .pre .1 .1 .1 .1 .0) (c .if1 .taken)
 
 -- src/steps.rt:74:5
 reach-requires : tie.Need-reach-requires
-reach-requires c κs = 
+reach-requires c κs =
     let s = c .before .before .before .before .before .before .before .before .before .before .before .before .before .before .before in
-    let same = c .before .before .before .before .before .wide .ensures .0 in
-    ( s .pre .0
-    , (s .pre .1 .0, (omega (arith, s .pre .1 .1 .0, same), subst (λ (v : ℕ). getD (s .args .bound .now) v 0 ≤ greatest-sum) (sym same) (s .pre .1 .1 .1 .0))))
+    let same = c .before .before .before .before .before .wide .ensures .0 in (
+      s .pre .0,
+      (s .pre .1 .0, (omega (arith, s .pre .1 .1 .0, same), subst (λ (v : ℕ). getD (s .args .bound .now) v 0 ≤ greatest-sum) (sym same) (s .pre .1 .1 .1 .0))),
+    )
 
 -- src/steps.rt:56:1
 same-length-2 : tie.Need-same-length-2
@@ -76,12 +77,12 @@ same-length-5 c = search needs
 
 -- src/steps.rt:56:1
 returns-2 : tie.Need-returns-2
-returns-2 c = 
+returns-2 c =
     λ t price here.
     let s = c .before .before .before .before .before .before .before .before .before .before .before .before .before .before .before .before .before .before .before .before .before .before in
     let a = s .args in
     extended-reached (a .path .now) price (a .bound .now) (a .kept .now) (a .status .now) (a .g) t (a .child) (c .before .before .before .before .before .before .before .before .before .before .before .before .wide .result) _ (c .before .before .before .before .before .before .before .before .before .before .before .before .wide .ensures .0)
-      (s .pre .1 .1 .1 .1 .0) (c .before .before .before .before .before .before .before .before .before .before .if1 .left) (c .before .before .before .before .before .before .reach .ensures t _ price _ here)
+    (s .pre .1 .1 .1 .1 .0) (c .before .before .before .before .before .before .before .before .before .before .if1 .left) (c .before .before .before .before .before .before .reach .ensures t _ price _ here)
 
 pub extend-spec : {M : Type 1} → statement M
 extend-spec =

@@ -30,7 +30,7 @@ same-length c = search needs
 
 -- src/steps.rt:88:9
 returns : tie.Need-returns
-returns c = 
+returns c =
     λ t here eo.
     let s = c .before .before .before .before .before .before .before .before .before .before .before .before .before .before in
     let a = s .args in
@@ -55,12 +55,12 @@ same-length-2 c = search needs
 
 -- src/steps.rt:92:9
 returns-2 : tie.Need-returns-2
-returns-2 c = 
+returns-2 c =
     λ t here eo.
     let s = c .before .before .before .before .before .before .before .before .before .before .before .before .before .before .before .before in
     let a = s .args in
     is-contraction t (a .v) (a .least .value) (a .least .arc) _ (c .before .before .before .before .before .before .if1 .left)
-      (subst (λ (m : ℕ). m < a .least .value) (sym (seen-price (a .path .now) (a .price .now) (a .bound .now) (a .kept .now) (a .status .now) (a .g) (a .v))) (c .before .before .before .before .if2 .taken))
+    (subst (λ (m : ℕ). m < a .least .value) (sym (seen-price (a .path .now) (a .price .now) (a .bound .now) (a .kept .now) (a .status .now) (a .g) (a .v))) (c .before .before .before .before .if2 .taken))
     ∙ ap some (sym (c .before .before .contract .ensures t (a .path .now) (a .bound .now) (a .kept .now) (a .status .now) eo))
 
 -- src/steps.rt:94:9
@@ -73,13 +73,13 @@ mul-child c = search needs
 
 -- src/steps.rt:95:17
 shared-slice-read-child : tie.Need-shared-slice-read-child
-shared-slice-read-child c = 
+shared-slice-read-child c =
     let s = c .before .before .before .before .before .before .before .before .before .before .before .before .before .before in omega (arith, c .before .wide .ensures .0, s .pre .1 .1 .1 .listed (c .before .before .before .before .if1 .left))
 
 -- src/steps.rt:96:5
 extend-requires : tie.Need-extend-requires
 unfolding Some-table
-extend-requires c κs = 
+extend-requires c κs =
     let s = c .before .before .before .before .before .before .before .before .before .before .before .before .before .before .before .before .before .before in
     let a = s .args in
     let any = c .before .before .before .before .before .before .before .before .if1 .left in
@@ -87,12 +87,19 @@ extend-requires c κs =
     let same : getD (a .heads .now) (c .before .before .before .before .before .wide .result) 0 ≡ getD (a .heads .now) (a .least .arc) 0 = ap (λ i. getD (a .heads .now) i 0) (c .before .before .before .before .before .wide .ensures .0) in
     let here = s .pre .0 .1 in
     let inside : a .least .arc < arc-count (s .pre .0 .0) = omega (arith, can .listed any, here .head-count) in
-    let lengths = s .pre .1 .0 in
-    ( s .pre .0
-    , (lengths .1
-      , (omega (arith, same, here .head (a .least .arc) inside, here .head-in (a .least .arc) inside, here .linked .first-count)
-        , (subst (λ (j : ℕ). getD (a .bound .now) j 0 ≤ greatest-sum) (sym same) (can .bounded any)
-          , (can .room any (c .before .before .before .before .before .before .if2 .left), omega (arith, s .pre .1 .1 .0 .1 .1))))))
+    let lengths = s .pre .1 .0 in (
+      s .pre .0,
+      (
+        lengths .1,
+        (
+          omega (arith, same, here .head (a .least .arc) inside, here .head-in (a .least .arc) inside, here .linked .first-count),
+          (
+            subst (λ (j : ℕ). getD (a .bound .now) j 0 ≤ greatest-sum) (sym same) (can .bounded any),
+            (can .room any (c .before .before .before .before .before .before .if2 .left), omega (arith, s .pre .1 .1 .0 .1 .1)),
+          ),
+        ),
+      ),
+    )
 
 -- src/steps.rt:79:1
 same-length-3 : tie.Need-same-length-3
@@ -112,7 +119,7 @@ same-length-6 c = search needs
 
 -- src/steps.rt:79:1
 returns-3 : tie.Need-returns-3
-returns-3 c = 
+returns-3 c =
     λ t here eo.
     let s = c .before .before .before .before .before .before .before .before .before .before .before .before .before .before .before .before .before .before .before .before .before .before .before .before .before .before .before in
     let a = s .args in
@@ -120,9 +127,9 @@ returns-3 c =
     let x = seen (a .path .now) (a .price .now) (a .bound .now) (a .kept .now) (a .status .now) (a .g) in
     let inside : a .least .arc < arc-count t = omega (arith, s .pre .1 .1 .1 .listed any, here .head-count) in
     let child : head-at t (a .least .arc) ≡ getD (a .heads .now) (c .before .before .before .before .before .before .before .before .before .before .before .before .before .before .wide .result) 0 =
-        sym (ap (λ i. getD (a .heads .now) i 0) (c .before .before .before .before .before .before .before .before .before .before .before .before .before .before .wide .ensures .0) ∙ here .head (a .least .arc) inside) in
+    sym (ap (λ i. getD (a .heads .now) i 0) (c .before .before .before .before .before .before .before .before .before .before .before .before .before .before .wide .ensures .0) ∙ here .head (a .least .arc) inside) in
     is-extension t (a .v) (a .least .value) (a .least .arc) _ any
-      (subst (λ (m : ℕ). a .least .value ≤ m) (sym (seen-price (a .path .now) (a .price .now) (a .bound .now) (a .kept .now) (a .status .now) (a .g) (a .v))) (c .before .before .before .before .before .before .before .before .before .before .before .before .before .before .before .if2 .left))
+    (subst (λ (m : ℕ). a .least .value ≤ m) (sym (seen-price (a .path .now) (a .price .now) (a .bound .now) (a .kept .now) (a .status .now) (a .g) (a .v))) (c .before .before .before .before .before .before .before .before .before .before .before .before .before .before .before .if2 .left))
     ∙ ap (λ j. some (extension t j x)) child
     ∙ ap some (sym (c .before .before .before .before .before .before .before .before .extend .ensures t (a .price .now) here))
 

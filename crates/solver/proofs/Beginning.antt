@@ -1,0 +1,96 @@
+-- From the fresh state to the start: the origin has the bound 0, and reaching it is the start. Assumes nothing.
+use mathlib.Core.Path.{_≡_, refl, sym, ap, subst, _∙_}
+use mathlib.Core.Bool.{true}
+use mathlib.Core.List.{List, _++_}
+use mathlib.Core.Option.{Option, none, some}
+use Prim.Native.Nat.{ℕ, _≤_, _<_}
+use native.Mathlib.Omega.{arith}
+use lib.ListN.{length, getD, set, take, replicate, length-replicate, length-append}
+use lib.Seq.{getD-set-same, take-at}
+use Rattle.table.specs.Table.{Table, table-of, is-table, arc-count, tail-at}
+use Rattle.auction.specs.Auction.{State, state, bound-at, reach, fresh, start}
+use Rattle.auction.proofs.Good.{Good, good}
+use Rattle.solver.specs.declared.state.Progress.{Progress}
+use Rattle.solver.specs.Seen.{seen, greatest-sum}
+use Rattle.solver.specs.Lists.{Listed, Linked, Tails}
+use Rattle.solver.specs.Steps.{Begun}
+use Rattle.solver.proofs.Arrays.{seen-bound}
+use Rattle.solver.proofs.Iterating.{bound-value}
+use Rattle.solver.proofs.Columns.{count-so, tail-so, head-so, length-so, nodes-so, origin-so}
+
+fresh-bound : (t : Table) → t .origin < t .n → bound-at (fresh t) (t .origin) ≡ some 0
+unfolding bound-at fresh state
+fresh-bound t h =
+    getD-set-same (replicate (t .n) none) (t .origin) (some 0) none (omega (arith, length-replicate {A = Option ℕ} (t .n) none))
+
+module _ {t : Table} {ws : List ℕ} {o : ℕ} {hs ls first nexts : List ℕ} where
+  module _ (p u b k s : List ℕ) (g : Progress) (bg : Begun fresh t ws o hs ls first nexts (seen p u b k s g)) where
+    pub origin-below : o < length first
+    origin-below = omega (arith, good t ws (bg .good) .origin-in, bg .origin-is, bg .listed .linked .first-count)
+
+    pub origin-bound : length b ≡ length first → getD b o 0 ≤ greatest-sum
+    origin-bound l =
+        let e = sym (seen-bound p u b k s g o (omega (arith, origin-below))) ∙ ap (λ x. bound-at x o) (bg .begun)
+        ∙ ap (bound-at (fresh t)) (sym (bg .origin-is)) ∙ fresh-bound t (good t ws (bg .good) .origin-in) in
+        omega (arith, bound-value _ 0 e)
+
+  pub started : {x y : State} → Begun fresh t ws o hs ls first nexts x → y ≡ reach t o x → Begun start t ws o hs ls first nexts y
+  unfolding start
+  started {x} {y} bg e =
+      record {
+        listed = bg .listed;
+        origin-is = bg .origin-is;
+        good = bg .good;
+        begun = e ∙ ap (λ v. reach t v x) (sym (bg .origin-is)) ∙ ap (reach t (t .origin)) (bg .begun);
+      }
+
+-- the columns of a table that is not turned down
+module _ (n o : ℕ) (ts hs ls ws : List ℕ) (eh : length hs ≡ length ts) (el : length ls ≡ length ts)
+    (ok : is-table (table-of n o ts hs ls) ws ≡ true) where
+  pub tails-held : Tails (table-of n o ts hs ls) ts
+  tails-held =
+      record {
+        count = sym (count-so n o ts hs ls eh el);
+        tail = λ i h. sym (tail-so n o ts hs ls eh el i (omega (arith, count-so n o ts hs ls eh el)));
+      }
+
+  pub few-tails : length ts ≤ 6000
+  few-tails = omega (arith, count-so n o ts hs ls eh el, good _ ws ok .few-arcs)
+
+  pub few-nodes : n ≤ 1024
+  few-nodes = omega (arith, nodes-so n o ts hs ls eh el, good _ ws ok .few-nodes)
+
+  pub tails-below : (i : ℕ) → i < length ts → getD ts i 0 < n
+  tails-below i h =
+      omega (arith, good _ ws ok .tail-in i (omega (arith, count-so n o ts hs ls eh el)), tail-so n o ts hs ls eh el i h, nodes-so n o ts hs ls eh el)
+
+  pub begun-fresh : {first nexts : List ℕ} {x : State} (at : ℕ) → at ≡ o → Linked (table-of n o ts hs ls) first nexts → x ≡ fresh (table-of n o ts hs ls) →
+      Begun fresh (table-of n o ts hs ls) ws at hs ls first nexts x
+  begun-fresh at ea linked e =
+      let t = table-of n o ts hs ls in
+      let m = count-so n o ts hs ls eh el in
+      record {
+        listed =
+            record {
+              few = good t ws ok .few-arcs;
+              head-count = omega (arith, m, eh);
+              length-count = omega (arith, m, el);
+              head = λ i h. sym (head-so n o ts hs ls eh el i (omega (arith, m)));
+              head-in = good t ws ok .head-in;
+              arc-length = λ i h. sym (length-so n o ts hs ls eh el i (omega (arith, m)));
+              linked = linked;
+            };
+        origin-is = origin-so n o ts hs ls eh el ∙ sym ea;
+        good = ok;
+        begun = e;
+      }
+
+-- an array whose first part has been lent and has come back
+pub prefix-fits : (a b : List ℕ) (n : ℕ) → length a ≡ n → n ≤ length (a ++ b)
+prefix-fits a b n e = omega (arith, length-append a b)
+
+pub prefix-long : (a b : List ℕ) (n : ℕ) → length a ≡ n → n ≡ length (take n (a ++ b))
+prefix-long a b n e = sym (ap length (take-at a b n e) ∙ e)
+
+pub lent-again : (t : Table) (f f′ x x′ : List ℕ) (n m : ℕ) → length f ≡ n → length x ≡ m → Linked t f x → Linked t (take n (f ++ f′)) (take m (x ++ x′))
+lent-again t f f′ x x′ n m ef ex linked = rw (take-at f f′ n ef, take-at x x′ m ex) linked

@@ -1,0 +1,60 @@
+-- The table that three columns hold, arc by arc; a part of an array that is filled with one value. Assumes nothing.
+use mathlib.Core.Path.{_≡_, refl, sym, ap, _∙_}
+use mathlib.Core.List.{List, [], _∷_}
+use Prim.Native.Nat.{ℕ, zero, suc, _≤_, _<_}
+use native.Mathlib.Omega.{arith}
+use lib.ListN.{length, getD, take, replicate}
+use Rattle.table.specs.Table.{Table, Arc, arc, table, arcs-of, table-of, arc-count, arc-at, tail-at, head-at, length-at}
+
+arcs-count : (ts hs ls : List ℕ) → length hs ≡ length ts → length ls ≡ length ts → length (arcs-of ts hs ls) ≡ length ts
+unfolding arcs-of
+arcs-count [] hs ls eh el = refl
+arcs-count (t ∷ ts) [] ls eh el = absurd (omega arith)
+arcs-count (t ∷ ts) (h ∷ hs) [] eh el = absurd (omega arith)
+arcs-count (t ∷ ts) (h ∷ hs) (l ∷ ls) eh el = ap suc (arcs-count ts hs ls (omega arith) (omega arith))
+
+arcs-at : (ts hs ls : List ℕ) (d : Arc) (i : ℕ) → length hs ≡ length ts → length ls ≡ length ts → i < length ts →
+    getD (arcs-of ts hs ls) i d ≡ arc (getD ts i 0) (getD hs i 0) (getD ls i 0)
+unfolding arcs-of
+arcs-at [] hs ls d i eh el h = absurd (omega arith)
+arcs-at (t ∷ ts) [] ls d i eh el h = absurd (omega arith)
+arcs-at (t ∷ ts) (k ∷ hs) [] d i eh el h = absurd (omega arith)
+arcs-at (t ∷ ts) (k ∷ hs) (l ∷ ls) d zero eh el h = refl
+arcs-at (t ∷ ts) (k ∷ hs) (l ∷ ls) d (suc i) eh el h = arcs-at ts hs ls d i (omega arith) (omega arith) (omega arith)
+
+module _ (n o : ℕ) (ts hs ls : List ℕ) (eh : length hs ≡ length ts) (el : length ls ≡ length ts) where
+  pub count-so : arc-count (table-of n o ts hs ls) ≡ length ts
+  unfolding arc-count table-of table
+  count-so = arcs-count ts hs ls eh el
+
+  pub tail-so : (i : ℕ) → i < length ts → tail-at (table-of n o ts hs ls) i ≡ getD ts i 0
+  unfolding tail-at arc-at table-of table arc
+  tail-so i h = ap (λ a. a .tail) (arcs-at ts hs ls _ i eh el h)
+
+  pub head-so : (i : ℕ) → i < length ts → head-at (table-of n o ts hs ls) i ≡ getD hs i 0
+  unfolding head-at arc-at table-of table arc
+  head-so i h = ap (λ a. a .head) (arcs-at ts hs ls _ i eh el h)
+
+  pub length-so : (i : ℕ) → i < length ts → length-at (table-of n o ts hs ls) i ≡ getD ls i 0
+  unfolding length-at arc-at table-of table arc
+  length-so i h = ap (λ a. a .arc-length) (arcs-at ts hs ls _ i eh el h)
+
+  pub nodes-so : table-of n o ts hs ls .n ≡ n
+  unfolding table-of table
+  nodes-so = refl
+
+  pub origin-so : table-of n o ts hs ls .origin ≡ o
+  unfolding table-of table
+  origin-so = refl
+
+-- a part of a filled array
+pub filled-long : (m n a : ℕ) → n ≤ m → length (take n (replicate m a)) ≡ n
+filled-long m zero a h = refl
+filled-long zero (suc n) a h = absurd (omega arith)
+filled-long (suc m) (suc n) a h = ap suc (filled-long m n a (omega arith))
+
+pub filled-with : (m n a v : ℕ) → n ≤ m → v < n → getD (take n (replicate m a)) v 0 ≡ a
+filled-with m zero a v h l = absurd (omega arith)
+filled-with zero (suc n) a v h l = absurd (omega arith)
+filled-with (suc m) (suc n) a zero h l = refl
+filled-with (suc m) (suc n) a (suc v) h l = filled-with m n a v (omega arith) (omega arith)
