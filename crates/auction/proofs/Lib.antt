@@ -10,5 +10,10 @@ pub mod Potential
 pub mod Stages
 pub mod Counting
 pub mod Steps
+pub mod Contracting
+pub mod Deleting
 pub mod Extending
+pub mod Starting
 pub mod Run
+pub mod Walks
+pub mod Promised
