@@ -1,3 +1,4 @@
+pub mod Answers
 pub mod Basics
 pub mod Sums
 pub mod Good

@@ -12,7 +12,7 @@ use borrow.Author.Tests.{eqb-true, eq-eqb}
 use Rattle.table.specs.Table.{Table, is-table, is-walk, arc-count, tail-at, head-at, length-at, longest}
 use Rattle.auction.specs.Auction.{State, Bid, Ended, auction, ended, next, iteration, deletion, after, best, terminal, all-reached, was-reached, distance, iterations}
 use Rattle.auction.specs.HandOver.{first-missing}
-use Rattle.auction.specs.Promises.{last-state, route, price, link, Walk-shortest, Walk-given, Prices-fit, equal-along, Prices-show, Has-walk, No-walk, First-without-walk, Route-to-all, No-route, Few-iterations, Fewer-iterations, Ends-by-itself, Iterations-counted, Attains, Earliest-link, Never-above, Ascending, Small-distances, Small-sums, Not-turned-down}
+use Rattle.auction.specs.Promises.{Promises, last-state, route, price, link, Walk-shortest, Walk-given, Prices-fit, equal-along, Prices-show, Has-walk, No-walk, First-without-walk, Route-to-all, No-route, Few-iterations, Fewer-iterations, Ends-by-itself, Iterations-counted, Attains, Earliest-link, Never-above, Ascending, Small-distances, Small-sums, Not-turned-down}
 use Rattle.auction.proofs.Basics.{true-or, both-true, true-both, some-none, not-both}
 use Rattle.auction.proofs.Good.{Good, good}
 use Rattle.auction.proofs.Good as bridge
@@ -295,3 +295,24 @@ small-sums t k x v d e p b =
 -- FOR EVERY TABLE NOT TURNED DOWN
 pub not-turned-down : Not-turned-down
 not-turned-down = bridge.not-turned-down
+
+pub promised : Promises
+promised =
+    record {
+      walk-shortest = walk-shortest;
+      walk-given = walk-given;
+      prices-fit = prices-fit;
+      prices-show = prices-show;
+      route-to-all = route-to-all;
+      no-route = no-route;
+      few-iterations = few-iterations;
+      fewer-iterations = fewer-iterations;
+      ends-by-itself = ends-by-itself;
+      iterations-counted = iterations-counted;
+      earliest-link = earliest-link;
+      never-above = never-above;
+      ascending = ascending;
+      small-distances = small-distances;
+      small-sums = small-sums;
+      not-turned-down = not-turned-down;
+    }

@@ -1,3 +1,4 @@
 pub mod Auction
 pub mod HandOver
 pub mod Promises
+pub mod Rack

@@ -1,7 +1,8 @@
--- What is promised of every run, of every table that is not turned down as faulty and every wanted list. Each promise is a type; its proof, by the
--- same name in small letters, stands in proofs/Promised.antt. Assumes nothing.
+-- What is promised of every run: for every table that is not turned down as faulty, and every wanted list. Each promise is a type; its proof, by the
+-- same name in small letters, stands in proofs/Promised.antt, and `Promises` at the end holds all of them. Assumes nothing.
 --
--- A table that is not turned down is one with `is-table t ws ≡ true` (the last promise). A node has been REACHED where its distance is handed over.
+-- A table that is not turned down is one with `is-table t ws ≡ true` (`Not-turned-down`, the last promise). A node counts as reached where
+-- `was-reached` says so of the run's last state: those are the nodes to which a distance is handed over.
 use mathlib.Core.Path.{_≡_}
 use mathlib.Core.Bool.{Bool, true, false, _&&_}
 use mathlib.Core.List.{List, [], _∷_}
@@ -166,3 +167,22 @@ unfoldable pub Not-turned-down : Type 0
 Not-turned-down =
     (n o : ℕ) (tails heads lengths wanted : List ℕ) (rooms : List Room) → Below (2 ^ 32) lengths →
     table-refusal n o tails heads lengths wanted rooms .number ≡ 0 → is-table (table-of n o tails heads lengths) wanted ≡ true
+
+-- ALL OF THEM together: the one theorem `promised` of proofs/Promised.antt
+pub record Promises : Type 0 where
+  pub walk-shortest : Walk-shortest
+  pub walk-given : Walk-given
+  pub prices-fit : Prices-fit
+  pub prices-show : Prices-show
+  pub route-to-all : Route-to-all
+  pub no-route : No-route
+  pub few-iterations : Few-iterations
+  pub fewer-iterations : Fewer-iterations
+  pub ends-by-itself : Ends-by-itself
+  pub iterations-counted : Iterations-counted
+  pub earliest-link : Earliest-link
+  pub never-above : Never-above
+  pub ascending : Ascending
+  pub small-distances : Small-distances
+  pub small-sums : Small-sums
+  pub not-turned-down : Not-turned-down
