@@ -18,3 +18,4 @@ pub mod Starting
 pub mod Run
 pub mod Walks
 pub mod Promised
+pub mod Demanded

@@ -11,7 +11,7 @@ use lib.ListN.{length, getD}
 use borrow.Author.Tests.{eqb-true, eq-eqb}
 use Rattle.table.specs.Table.{Table, is-table, is-walk, arc-count, tail-at, head-at, length-at, longest}
 use Rattle.auction.specs.Auction.{State, Bid, Ended, auction, ended, next, iteration, deletion, after, best, terminal, all-reached, was-reached, distance, iterations}
-use Rattle.auction.specs.HandOver.{first-missing}
+use Rattle.auction.specs.HandOver.{prices, first-missing}
 use Rattle.auction.specs.Promises.{Promises, last-state, route, price, link, Walk-shortest, Walk-given, Prices-fit, equal-along, Prices-show, Has-walk, No-walk, First-without-walk, Route-to-all, No-route, Few-iterations, Fewer-iterations, Ends-by-itself, Iterations-counted, Attains, Earliest-link, Never-above, Ascending, Small-distances, Small-sums, Not-turned-down}
 use Rattle.auction.proofs.Basics.{true-or, both-true, true-both, some-none, not-both}
 use Rattle.auction.proofs.Good.{Good, good}
@@ -22,7 +22,7 @@ use Rattle.auction.proofs.Sound.{Sound, reached-low}
 use Rattle.auction.proofs.Counting.{Invariant, few, fewer}
 use Rattle.auction.proofs.Steps as steps
 use Rattle.auction.proofs.Run.{Finish, finish, passed, stepped}
-use Rattle.auction.proofs.Walks.{All, prices-fit-at, prices-equal, origin-price, no-shorter, kept-link, returned-walk, returned-long, returned-links, earliest, walk-reached}
+use Rattle.auction.proofs.Walks.{All, prices-fit-at, prices-equal, origin-price, no-shorter, kept-link, returned-walk, returned-short, returned-long, returned-links, earliest, walk-reached}
 
 -- THE LAST STATE of a run is sound, and the run stopped there
 module _ (t : Table) (ws : List ℕ) (e : is-table t ws ≡ true) where
@@ -42,7 +42,7 @@ module _ (t : Table) (ws : List ℕ) (e : is-table t ws ≡ true) where
       (λ (d : (all-reached ws (end .last) ≡ false) × (next t (end .last) ≡ none) × (auction t ws ≡ ended false (end .last))). ap (λ (f : Ended). f .last) (d .2))
       (end .end)
 
-  invariant : Invariant t (last-state t ws)
+  pub invariant : Invariant t (last-state t ws)
   unfolding x
   invariant = subst (λ (y : State). Invariant t y) (sym last-is) (end .running .invariant)
 
@@ -147,6 +147,7 @@ walk-shortest t ws v e r =
     let d = invariant t ws e .depth in
     record {
       walk = returned-walk t (g t ws e) (last t ws e) d s v r;
+      short = returned-short t (g t ws e) (last t ws e) d s v r;
       as-long = returned-long t (g t ws e) (last t ws e) d s v r;
       least = λ other w. no-shorter t (g t ws e) (last t ws e) d s other v r w;
     }
@@ -163,25 +164,26 @@ pub prices-fit : Prices-fit
 unfolding Prices-fit price
 prices-fit t ws i e h = prices-fit-at t (g t ws e) (last t ws e) (invariant t ws e .depth) (sound t ws e) i h
 
-all-equal : (t : Table) (ws is : List ℕ) → All (λ i. price t ws (tail-at t i) ≡ length-at t i + price t ws (head-at t i)) is → equal-along t ws is ≡ true
+all-equal : (t : Table) (ps is : List ℕ) → All (λ i. getD ps (tail-at t i) 0 ≡ length-at t i + getD ps (head-at t i) 0) is → equal-along t ps is ≡ true
 unfolding All equal-along
-all-equal t ws [] a = refl
-all-equal t ws (i ∷ is) a =
-    true-both (eqb (price t ws (tail-at t i)) (length-at t i + price t ws (head-at t i))) (equal-along t ws is)
-    (eq-eqb (price t ws (tail-at t i)) (length-at t i + price t ws (head-at t i)) (a .0))
-    (all-equal t ws is (a .1))
+all-equal t ps [] a = refl
+all-equal t ps (i ∷ is) a =
+    true-both (eqb (getD ps (tail-at t i) 0) (length-at t i + getD ps (head-at t i) 0)) (equal-along t ps is)
+    (eq-eqb (getD ps (tail-at t i) 0) (length-at t i + getD ps (head-at t i) 0) (a .0))
+    (all-equal t ps is (a .1))
 
 pub prices-show : Prices-show
 unfolding Prices-show price route Walk-shortest
 prices-show t ws v e r =
     let s = sound t ws e in
+    let y = last t ws e in
     let d = invariant t ws e .depth in
+    let ps = prices t y in
     record {
       equal =
-          all-equal t ws (route t ws v)
-          (returned-links t (g t ws e) (last t ws e) d s (λ i. price t ws (tail-at t i) ≡ length-at t i + price t ws (head-at t i))
-          (λ u a q k. prices-equal t (g t ws e) (last t ws e) d s u a q k) v r);
-      difference = omega (arith, origin-price t (g t ws e) (last t ws e) d s v r, walk-shortest t ws v e r .as-long);
+          all-equal t ps (route t ws v)
+          (returned-links t (g t ws e) y d s (λ i. getD ps (tail-at t i) 0 ≡ length-at t i + getD ps (head-at t i) 0) (prices-equal t (g t ws e) y d s) v r);
+      difference = omega (arith, origin-price t (g t ws e) y d s v r, walk-shortest t ws v e r .as-long);
     }
 
 pub route-to-all : Route-to-all

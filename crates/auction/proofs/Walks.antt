@@ -7,7 +7,7 @@ use mathlib.Core.Option.{none, some}
 use Prim.Native.Nat.{ℕ, zero, suc, _+_, _-_, _≤_, _<_}
 use native.Mathlib.Omega.{arith}
 use lib.Dec.{ltb, eqb}
-use lib.ListN.{getD}
+use lib.ListN.{length, getD}
 use borrow.Author.Tests.{ltb-true, eqb-true, lt-ltb, eq-eqb, ne-eqb}
 use Rattle.table.specs.Table.{Table, arc-count, tail-at, head-at, length-at, leads, is-walk, walk-length, no-arc}
 use Rattle.auction.specs.Auction.{State, bound-at, kept-at, status-at, distance, or-zero, was-reached, price-at}
@@ -197,6 +197,7 @@ module _ (t : Table) (g : Good t) (x : State) (dep : ℕ → ℕ) (s : Sound t x
   pub record Back (k v : ℕ) (is : List ℕ) : Type 1 where
     pub leads-on : (w : ℕ) → leads t v is w ≡ true → leads t (t .origin) (back-from k t (tree t x) v is) w ≡ true
     pub long : walk-length t (back-from k t (tree t x) v is) ≡ distance x v + walk-length t is
+    pub arcs : length (back-from k t (tree t x) v is) ≡ dep v + length is
     pub links : (P : ℕ → Type 0) → ((u a : ℕ) → was-reached x u ≡ true → kept-at x u ≡ some a → P a) → All P is → All P (back-from k t (tree t x) v is)
 
   at-origin : (k v : ℕ) (is : List ℕ) → v ≡ t .origin → back-from k t (tree t x) v is ≡ is
@@ -217,6 +218,7 @@ module _ (t : Table) (g : Good t) (x : State) (dep : ℕ → ℕ) (s : Sound t x
       record {
         leads-on = λ w l. ap (λ (p : List ℕ). leads t (t .origin) p w) stop ∙ ap (λ (u : ℕ). leads t u is w) (sym e) ∙ l;
         long = omega (arith, ap (walk-length t) stop, ap (distance x) e, origin-distance);
+        arcs = omega (arith, ap length stop, ap dep e, nodes .origin-depth);
         links = λ P q l. subst (λ (p : List ℕ). All P p) (sym stop) l;
       }
 
@@ -235,6 +237,7 @@ module _ (t : Table) (g : Good t) (x : State) (dep : ℕ → ℕ) (s : Sound t x
             (true-both (ltb a (arc-count t)) (eqb (tail-at t a) (tail-at t a)) (lt-ltb a (arc-count t) (l .arc .listed)) (eq-eqb (tail-at t a) (tail-at t a) refl))
             (ap (λ (u : ℕ). leads t u is w) (l .arc .into) ∙ e));
         long = omega (arith, ap (walk-length t) step, rest .long, known-distance x v _ (l .arc .bound));
+        arcs = omega (arith, ap length step, rest .arcs, l .arc .deeper);
         links = λ P q m. subst (λ (p : List ℕ). All P p) (sym step) (rest .links P q (q v a r (l .kept), m));
       }
 
@@ -261,6 +264,10 @@ module _ (t : Table) (g : Good t) (x : State) (dep : ℕ → ℕ) (s : Sound t x
   pub returned-long : (v : ℕ) → was-reached x v ≡ true → walk-length t (returned t (tree t x) v) ≡ distance x v
   unfolding returned walk-length
   returned-long v r = omega (arith, from-node v r .long)
+
+  pub returned-short : (v : ℕ) → was-reached x v ≡ true → length (returned t (tree t x) v) < t .n
+  unfolding returned
+  returned-short v r = omega (arith, from-node v r .arcs, nodes .shallow v (reached-status x v r), reached-low t x)
 
   pub returned-links : (P : ℕ → Type 0) → ((u a : ℕ) → was-reached x u ≡ true → kept-at x u ≡ some a → P a) → (v : ℕ) → was-reached x v ≡ true →
       All P (returned t (tree t x) v)

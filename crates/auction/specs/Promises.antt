@@ -30,9 +30,11 @@ link t ws v = getD (tree t (last-state t ws)) v no-arc
 
 -- THE THIRD DEMAND
 
--- The walk returned to a reached node is a walk from the origin to it, its length is the node's distance, and no other walk there is shorter.
+-- The walk returned to a reached node is a walk from the origin to it with fewer than n arcs, its length is the node's distance, and no other walk
+-- there is shorter.
 pub record Shortest (t : Table) (ws : List ℕ) (v : ℕ) : Type 0 where
   pub walk : is-walk t (route t ws v) v ≡ true
+  pub short : length (route t ws v) < t .n
   pub as-long : walk-length t (route t ws v) ≡ distance (last-state t ws) v
   pub least : (other : List ℕ) → is-walk t other v ≡ true → distance (last-state t ws) v ≤ walk-length t other
 
@@ -53,12 +55,12 @@ Prices-fit =
     price t ws (tail-at t i) ≤ length-at t i + price t ws (head-at t i)
 
 -- equal along the walks returned, and the origin's price less a node's price is the walk's length.
-unfoldable pub equal-along : Table → (wanted walk : List ℕ) → Bool
-equal-along t ws [] = true
-equal-along t ws (i ∷ is) = eqb (price t ws (tail-at t i)) (length-at t i + price t ws (head-at t i)) && equal-along t ws is
+unfoldable pub equal-along : Table → (prices walk : List ℕ) → Bool
+equal-along t ps [] = true
+equal-along t ps (i ∷ is) = eqb (getD ps (tail-at t i) 0) (length-at t i + getD ps (head-at t i) 0) && equal-along t ps is
 
 pub record Shown (t : Table) (ws : List ℕ) (v : ℕ) : Type 0 where
-  pub equal : equal-along t ws (route t ws v) ≡ true
+  pub equal : equal-along t (prices t (last-state t ws)) (route t ws v) ≡ true
   pub difference : price t ws (t .origin) ≡ walk-length t (route t ws v) + price t ws v
 
 unfoldable pub Prices-show : Type 0

@@ -8,40 +8,8 @@ use lib.Dec.{eqb}
 use lib.ListN.{length}
 use Rattle.table.specs.Table.{Table, table-of, no-arc, no-distance}
 use Rattle.table.specs.Grounds.{Refusal, room, table-refusal}
-use Rattle.auction.specs.Auction.{State, Ended, auction, iterations, most-iterations}
-use Rattle.auction.specs.HandOver.{horizon, reached-count, distances, prices, tree, marks, route-refusal}
-
--- what a plan answers and leaves in its four buffers
-pub record Answer : Type 0 where
-  pub number : ℕ
-  pub place : ℕ
-  pub reached : ℕ
-  pub horizon : ℕ
-  pub iterations : ℕ
-  pub contractions : ℕ
-  pub extensions : ℕ
-  pub deletions : ℕ
-  pub distances : List ℕ
-  pub prices : List ℕ
-  pub tree : List ℕ
-  pub marks : List ℕ
-
-abbrev pub answer : (number place reached horizon iterations contractions extensions deletions : ℕ) → (distances prices tree marks : List ℕ) → Answer
-answer n p r h i c e d ds ps ts ms =
-    record {
-      number = n;
-      place = p;
-      reached = r;
-      horizon = h;
-      iterations = i;
-      contractions = c;
-      extensions = e;
-      deletions = d;
-      distances = ds;
-      prices = ps;
-      tree = ts;
-      marks = ms;
-    }
+use Rattle.auction.specs.Auction.{auction, most-iterations}
+use Rattle.auction.specs.HandOver.{Answer, answer, handed-over}
 
 -- a table turned down on one of the grounds 1 to 7: nothing is left in the buffers
 abbrev pub turned-down : (number place : ℕ) → Answer
@@ -61,16 +29,8 @@ abbrev pub row : (n : ℕ) → (tails heads lengths wanted : List ℕ) → Answe
 row n ts hs ls ws a b = record { n = n; tails = ts; heads = hs; lengths = ls; wanted = ws; gives = a; bound = b }
 
 -- what the definitions give
-unfoldable pub run-answer : Table → Refusal → (last : State) → Answer
-run-answer t f x =
-    answer (f .number) (f .place) (reached-count t x) (horizon t x) (iterations x) (x .contractions) (x .extensions) (x .deletions) (distances t x)
-    (prices t x) (tree t x) (marks t x)
-
-unfoldable pub ended-answer : Table → (wanted : List ℕ) → Ended → Answer
-ended-answer t ws e = run-answer t (route-refusal ws e) (e .last)
-
 unfoldable pub table-answer : Table → (wanted : List ℕ) → Refusal → Answer
-table-answer t ws f = cond (eqb (f .number) 0) (ended-answer t ws (auction t ws)) (turned-down (f .number) (f .place))
+table-answer t ws f = cond (eqb (f .number) 0) (handed-over t ws (auction t ws)) (turned-down (f .number) (f .place))
 
 unfoldable pub given : Row → Answer
 given r =
