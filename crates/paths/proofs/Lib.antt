@@ -5,7 +5,5 @@ pub mod Writing
 pub mod Answers
 pub mod Returned
 pub mod Listable
-pub mod Pigeonhole
-pub mod Shortest
 pub mod Promised
 pub mod Examples

@@ -1,13 +1,13 @@
 -- The promises of specs/Promises.antt, each proved under its own name in small letters. Assumes nothing.
-use mathlib.Core.Path.{_≡_, sym, subst}
-use mathlib.Core.Bool.{true, _&&_, _||_, not}
+use mathlib.Core.Path.{_≡_}
+use mathlib.Core.Bool.{_&&_, _||_, not}
 use mathlib.Core.List.{List}
-use Prim.Native.Nat.{ℕ, _≤_}
+use Prim.Native.Nat.{ℕ}
 use native.Mathlib.Omega.{arith}
 use lib.Dec.{ltb, eqb}
 use lib.ListN.{length}
 use borrow.Author.Tests.{eqb-true, not-false}
-use Rattle.table.specs.Table.{table, table-of, is-walk, walk-length, most-nodes, most-arcs}
+use Rattle.table.specs.Table.{table, table-of, is-walk, most-nodes, most-arcs}
 use Rattle.table.specs.Grounds.{Room, refusal, columns-bad, table-refusal}
 use Rattle.auction.specs.HandOver.{tree}
 use Rattle.auction.specs.Promises.{last-state, route, Walk-shortest, Not-turned-down}
@@ -18,19 +18,17 @@ use Rattle.auction.proofs.Promised.{walk-shortest}
 use Rattle.paths.specs.Promises.{Routes-listed, Plans-listed}
 use Rattle.paths.proofs.Early.{neither, refuted}
 use Rattle.paths.proofs.Listable.{walk-listed}
-use Rattle.paths.proofs.Shortest.{end-low, few-arcs}
+use Rattle.paths.proofs.Returned.{end-low}
 
--- the walk returned is a shortest one, so it ends at a node and has fewer than n arcs
+-- the walk returned ends at a node and has fewer than n arcs
 pub routes-listed : Routes-listed
 unfolding Walk-shortest Routes-listed route tree table-of table is-walk
 routes-listed n o tails heads lengths wanted v e f table-good reached =
     let t = table-of n o tails heads lengths in
     let g = good t wanted table-good in
     let s = walk-shortest t wanted v table-good reached in
-    let least : (other : List ℕ) → is-walk t other v ≡ true → walk-length t (route t wanted v) ≤ walk-length t other =
-    (λ other walk. subst (λ (a : ℕ). a ≤ walk-length t other) (sym (s .as-long)) (s .least other walk)) in
     walk-listed n o tails heads lengths (tree t (last-state t wanted)) e f (entries-length n 0 _) wanted v table-good
-    (end-low t g o (route t wanted v) v (g .origin-in) (s .walk)) (s .walk) (few-arcs t g (route t wanted v) v (s .walk) least)
+    (end-low t g o (route t wanted v) v (g .origin-in) (s .walk)) (s .walk) (s .short)
 
 -- a table that is not turned down on ground 2 has columns of equal length
 columns-equal : (n o : ℕ) (ts hs ls ws : List ℕ) (rooms : List Room) → table-refusal n o ts hs ls ws rooms .number ≡ 0 →

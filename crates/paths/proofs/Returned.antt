@@ -1,6 +1,6 @@
 -- Listing a node and the walk returned to it agree, for any table and tree column: where the arcs that `returned` finds are a walk from the origin with
 -- fewer than n arcs, listing meets the origin and then their heads. Assumes nothing.
-use mathlib.Core.Path.{_≡_, refl, sym, ap, _∙_}
+use mathlib.Core.Path.{_≡_, refl, sym, ap, subst, _∙_}
 use mathlib.Core.Bool.{Bool, true, false, _&&_, _||_}
 use mathlib.Core.List.{List, [], _∷_}
 use mathlib.Core.Logic.{⊎-elim}
@@ -13,6 +13,7 @@ use borrow.Author.Tests.{ltb-true, eqb-true, eq-eqb, lt-ltb}
 use Rattle.table.specs.Table.{Table, arc-count, tail-at, head-at, leads, is-walk, no-arc}
 use Rattle.auction.specs.HandOver.{back-from, returned}
 use Rattle.auction.proofs.Basics.{true-or, same-or, both-true}
+use Rattle.auction.proofs.Good.{Good}
 use Rattle.paths.specs.Listing.{Tree, node-count, entry, node-before, leads-back, back-to, path}
 use Rattle.paths.specs.Promises.{heads-along, nodes-of-walk}
 use Rattle.paths.proofs.Entries.{by-tail, at-origin, one-back}
@@ -41,6 +42,14 @@ first t u i is w e =
     let p = both-true (ltb i (arc-count t) && eqb (tail-at t i) u) (leads t (head-at t i) is w) e in
     let q = both-true (ltb i (arc-count t)) (eqb (tail-at t i) u) (p .0) in
     record { listed = ltb-true i (arc-count t) (q .0); leaves = eqb-true (tail-at t i) u (q .1); rest = p .1 }
+
+-- a walk ends at a node of the table
+pub end-low : (t : Table) → Good t → (u : ℕ) (is : List ℕ) (w : ℕ) → u < t .n → leads t u is w ≡ true → w < t .n
+unfolding leads
+end-low t g u [] w low e = subst (λ (a : ℕ). a < t .n) (eqb-true u w e) low
+end-low t g u (i ∷ is) w low e =
+    let f = first t u i is w e in
+    end-low t g (head-at t i) is w (g .head-in i (f .listed)) (f .rest)
 
 begins-there : (t : Table) (u : ℕ) (is : List ℕ) (w : ℕ) → leads t u is w ≡ true → u ≡ starts t is w
 unfolding leads
