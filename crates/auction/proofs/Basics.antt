@@ -1,18 +1,19 @@
 -- Bools, options, numbers, and the elements of a list after a store. Assumes nothing.
-use mathlib.Core.Path.{_≡_, refl, sym, ap, subst, _∙_}
-use mathlib.Core.Bool.{Bool, true, false, _&&_, _||_, not, cond}
+use mathlib.Core.Path.{_≡_, refl}
+use mathlib.Core.Bool.{Bool, true, false, _&&_, _||_}
 use mathlib.Core.List.{List, [], _∷_}
-use mathlib.Core.Logic.{_⊎_, inl, inr, ⊎-elim}
+use mathlib.Core.Logic.{_⊎_, inl, inr}
 use mathlib.Core.Option.{Option, none, some}
-use Prim.Native.Nat.{ℕ, zero, suc, _+_, _≤_, _<_}
+use Prim.Native.Nat.{ℕ, zero, suc, _≤_, _<_}
 use native.Mathlib.Omega.{arith}
-use native.Mathlib.Decide.{ℕ-discrete}
-use native.Mathlib.Nat.{le-of-suc-le-suc}
-use lib.Dec.{ltb, leb, eqb}
-use lib.ListN.{length, getD, set}
+use native.Mathlib.Decide.{ℕ-discrete, decLt}
+use lib.ListN.{length, getD}
 
 pub same-or : (a b : ℕ) → (a ≡ b) ⊎ (a ≡ b → ⊥)
 same-or a b = elim (ℕ-discrete a b) [ yes e ↦ inl e | no h ↦ inr h ]
+
+pub below-or : (a b : ℕ) → (a < b) ⊎ (b ≤ a)
+below-or a b = elim (decLt a b) [ yes h ↦ inl h | no h ↦ inr (omega (arith, h)) ]
 
 pub true-or : (a : Bool) → (a ≡ true) ⊎ (a ≡ false)
 true-or true = inl refl
@@ -25,6 +26,14 @@ both-true false false e = (e, e)
 
 pub true-both : (a b : Bool) → a ≡ true → b ≡ true → (a && b) ≡ true
 true-both a b p q = rw (p, q)
+
+pub either-true : (a b : Bool) → (a || b) ≡ true → (a ≡ true) ⊎ (b ≡ true)
+either-true true b e = inl refl
+either-true false b e = inr e
+
+pub either-false : (a b : Bool) → (a || b) ≡ false → (a ≡ false) × (b ≡ false)
+either-false true b e = let z : _≡_ {A = ℕ} 0 1 = cc in absurd (omega arith)
+either-false false b e = (refl, e)
 
 pub not-both : (a : Bool) → a ≡ true → a ≡ false → ⊥
 not-both a p q = let z : _≡_ {A = ℕ} 0 1 = cc in absurd (omega arith)

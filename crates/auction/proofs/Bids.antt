@@ -1,7 +1,7 @@
 -- The best bid is the least, from the lowest position among equals; there is none exactly where there is no child. Assumes nothing.
 use mathlib.Core.Path.{_≡_, refl, sym, ap, subst, _∙_}
 use mathlib.Core.Bool.{Bool, true, false, _&&_, not, cond}
-use mathlib.Core.Logic.{_⊎_, inl, inr, ⊎-elim}
+use mathlib.Core.Logic.{⊎-elim}
 use mathlib.Core.Option.{Option, none, some}
 use Prim.Native.Nat.{ℕ, zero, suc, _+_, _≤_, _<_}
 use native.Mathlib.Omega.{arith}
@@ -9,7 +9,7 @@ use lib.Dec.{leb, eqb}
 use borrow.Author.Tests.{leb-true, leb-false, eqb-true, eq-eqb, not-true}
 use Rattle.table.specs.Table.{Table, arc-count, tail-at, head-at, length-at}
 use Rattle.auction.specs.Auction.{State, Bid, bid, price-at, kept-at, status-at, is-kept, is-deleted, to-child, lower-bid, with-bid, best-from, best}
-use Rattle.auction.proofs.Basics.{same-or, true-or, both-true, not-both, option-or, some-none, some-same}
+use Rattle.auction.proofs.Basics.{same-or, true-or, both-true, not-both}
 use Rattle.auction.proofs.Effects.{undeleted-status, deleted-status}
 
 -- the arc at a position leads from v to a child of it

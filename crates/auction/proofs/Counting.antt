@@ -1,9 +1,8 @@
 -- What is counted in a state, and what the counts come to. Assumes nothing.
-use mathlib.Core.Path.{_≡_, refl, sym, ap, subst, _∙_}
-use mathlib.Core.Bool.{Bool, true, false, cond}
-use mathlib.Core.List.{List}
-use mathlib.Core.Logic.{_⊎_, inl, inr, ⊎-elim}
-use Prim.Native.Nat.{ℕ, zero, suc, _+_, _*_, _-_, _/_, _≤_, _<_}
+use mathlib.Core.Path.{_≡_, ap}
+use mathlib.Core.Bool.{cond}
+use mathlib.Core.Logic.{⊎-elim}
+use Prim.Native.Nat.{ℕ, suc, _+_, _*_, _-_, _/_, _≤_, _<_}
 use native.Mathlib.Omega.{arith}
 use lib.Dec.{eqb}
 use lib.ListN.{length}
@@ -12,9 +11,9 @@ use Rattle.table.specs.Table.{Table}
 use Rattle.auction.specs.Auction.{State, price-at, status-at, distance, terminal, iterations, most-iterations}
 use Rattle.auction.specs.HandOver.{reached-count}
 use Rattle.auction.proofs.Basics.{same-or}
-use Rattle.auction.proofs.Sums.{total, total-le, total-same, total-const, total-one, only-at, only-same, only-other}
+use Rattle.auction.proofs.Sums.{total, total-le, total-const, total-one, only-at, only-same, only-other}
 use Rattle.auction.proofs.Good.{Good}
-use Rattle.auction.proofs.Sound.{Nodes, Sound, top-status, reached-low}
+use Rattle.auction.proofs.Sound.{Sound, top-status, reached-low}
 use Rattle.auction.proofs.Potential.{slack, stages}
 use Rattle.auction.proofs.Stages.{stages-most, sharper, demanded}
 

@@ -1,17 +1,15 @@
 -- What each change of the state does to each node: the definitions are opened here, once. Assumes nothing.
-use mathlib.Core.Path.{_≡_, refl, sym, ap, ap₂, subst, _∙_}
-use mathlib.Core.Bool.{Bool, true, false, cond}
-use mathlib.Core.List.{List, [], _∷_}
-use mathlib.Core.Option.{Option, none, some}
-use Prim.Native.Nat.{ℕ, zero, suc, _+_, _≤_, _<_}
+use mathlib.Core.Path.{_≡_, refl, ap, _∙_}
+use mathlib.Core.Bool.{true, false}
+use mathlib.Core.Option.{none, some}
+use Prim.Native.Nat.{ℕ, _+_, _<_}
 use native.Mathlib.Omega.{arith}
-use lib.Dec.{ltb, eqb}
-use lib.ListN.{length, getD, set, replicate, length-set, length-replicate, getD-replicate}
+use lib.ListN.{length, length-set}
 use lib.Seq.{getD-set-same, getD-set-other}
-use borrow.Author.Tests.{ltb-true, ltb-false, lt-ltb, le-ltb, eqb-true, eqb-false, eq-eqb, ne-eqb}
+use borrow.Author.Tests.{ltb-true, ltb-false, lt-ltb, le-ltb, eqb-true, eqb-false}
 use Rattle.table.specs.Table.{Table}
-use Rattle.auction.specs.Auction.{State, state, price-at, bound-at, kept-at, status-at, distance, or-zero, was-reached, is-deleted, terminal, with-kept, with-status, deletion, contraction, longer, without-terminal, fresh}
-use Rattle.auction.proofs.Basics.{inside, inside-some, some-none}
+use Rattle.auction.specs.Auction.{State, state, price-at, bound-at, kept-at, status-at, distance, or-zero, was-reached, is-deleted, with-kept, with-status, deletion, contraction, longer}
+use Rattle.auction.proofs.Basics.{inside, inside-some}
 
 -- price and bound together: the least length, as far as is known, of a walk through the node
 unfoldable pub estimate : State → (v : ℕ) → ℕ

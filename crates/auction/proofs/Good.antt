@@ -1,17 +1,17 @@
 -- What `is-table` says of a table's numbers, one fact a field; and the grounds 1 to 7 give it. Assumes nothing.
-use mathlib.Core.Path.{_≡_, refl, sym, ap, subst, _∙_}
+use mathlib.Core.Path.{_≡_, refl, subst}
 use mathlib.Core.Bool.{Bool, true, false, _&&_, _||_, not, cond}
 use mathlib.Core.List.{List, [], _∷_}
-use mathlib.Core.Logic.{_⊎_, inl, inr, ⊎-elim}
-use Prim.Native.Nat.{ℕ, zero, suc, _+_, _^_, _≤_, _<_}
+use mathlib.Core.Logic.{⊎-elim}
+use Prim.Native.Nat.{ℕ, zero, suc, _^_, _≤_, _<_}
 use native.Mathlib.Omega.{arith}
 use lib.Dec.{ltb, leb, eqb}
 use lib.ListN.{length, getD}
-use borrow.Author.Tests.{ltb-true, leb-true, eqb-true, lt-ltb, le-leb, ltb-false, leb-false, eqb-false, not-true}
+use borrow.Author.Tests.{ltb-true, leb-true, eqb-true, lt-ltb, le-leb, ltb-false, leb-false, eqb-false}
 use Rattle.table.specs.Table.{Table, Arc, arc, table, table-of, arcs-of, is-table, arc-good, arcs-good, nodes-below, arc-count, arc-at, tail-at, head-at, length-at, longest, no-arc, most-nodes, most-arcs, most-wanted, Below}
-use Rattle.table.specs.Grounds.{Refusal, Room, refusal, no-refusal, or-else, table-refusal, columns-bad, rooms-fit, wanted-from, wanted-refusal, arc-fault, arcs-from, arcs-refusal}
+use Rattle.table.specs.Grounds.{Refusal, refusal, or-else, table-refusal, columns-bad, rooms-fit, wanted-from, wanted-refusal, arc-fault, arcs-from, arcs-refusal}
 use Rattle.auction.specs.Promises.{Not-turned-down}
-use Rattle.auction.proofs.Basics.{both-true, true-both, true-or}
+use Rattle.auction.proofs.Basics.{either-false, both-true, true-both, true-or}
 
 pub record Good (t : Table) : Type 0 where
   pub some-node : 1 ≤ t .n
@@ -104,10 +104,6 @@ or-else-none a b e =
     (λ (h : eqb (a .number) 0 ≡ false).
     absurd (eqb-false (a .number) 0 h (subst (λ (c : Bool). cond c b a .number ≡ 0) h e)))
     (true-or (eqb (a .number) 0))
-
-either-false : (a b : Bool) → (a || b) ≡ false → (a ≡ false) × (b ≡ false)
-either-false true b e = let z : _≡_ {A = ℕ} 0 1 = cc in absurd (omega arith)
-either-false false b e = (refl, e)
 
 wanted-pass : (i n : ℕ) (ws : List ℕ) → wanted-from i n ws .number ≡ 0 → nodes-below n ws ≡ true
 unfolding wanted-from nodes-below refusal

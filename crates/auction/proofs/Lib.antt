@@ -1,3 +1,4 @@
+pub mod Answers
 pub mod Basics
 pub mod Sums
 pub mod Good
@@ -10,5 +11,11 @@ pub mod Potential
 pub mod Stages
 pub mod Counting
 pub mod Steps
+pub mod Contracting
+pub mod Deleting
 pub mod Extending
+pub mod Starting
 pub mod Run
+pub mod Walks
+pub mod Promised
+pub mod Demanded

@@ -1,24 +1,15 @@
 -- When an arc is kept and when it is dropped, as facts. Assumes nothing.
-use mathlib.Core.Path.{_≡_, refl, sym, ap, subst, _∙_}
-use mathlib.Core.Bool.{Bool, true, false, _&&_, _||_, not, cond}
+use mathlib.Core.Path.{_≡_, refl, sym, ap, subst}
+use mathlib.Core.Bool.{Bool, true, false, _&&_, not}
 use mathlib.Core.Logic.{_⊎_, inl, inr, ⊎-elim}
 use mathlib.Core.Option.{Option, none, some}
-use Prim.Native.Nat.{ℕ, suc, _+_, _≤_, _<_}
-use native.Mathlib.Omega.{arith}
+use Prim.Native.Nat.{ℕ, _+_, _≤_, _<_}
 use lib.Dec.{ltb, eqb}
-use borrow.Author.Tests.{ltb-true, ltb-false, eqb-true, eqb-false, eq-eqb, not-true, not-false}
+use borrow.Author.Tests.{ltb-true, ltb-false, eqb-true, eq-eqb, not-true}
 use Rattle.table.specs.Table.{Table, tail-at, head-at, length-at}
 use Rattle.auction.specs.Auction.{State, bound-at, kept-at, status-at, distance, or-zero, was-reached, improves, takes}
-use Rattle.auction.proofs.Basics.{true-or, both-true, not-both, option-or}
+use Rattle.auction.proofs.Basics.{either-true, either-false, true-or, both-true, not-both, option-or}
 use Rattle.auction.proofs.Effects.{reached-status, unreached-status}
-
-either-true : (a b : Bool) → (a || b) ≡ true → (a ≡ true) ⊎ (b ≡ true)
-either-true true b e = inl refl
-either-true false b e = inr e
-
-either-false : (a b : Bool) → (a || b) ≡ false → (a ≡ false) × (b ≡ false)
-either-false true b e = absurd (not-both true refl e)
-either-false false b e = (refl, e)
 
 both-false : (a b : Bool) → (a && b) ≡ false → a ≡ true → b ≡ false
 both-false a b e h = subst (λ (c : Bool). (c && b) ≡ false) h e

@@ -3,22 +3,20 @@
 -- A node with a kept arc that is not deleted is LOOSE where its estimate is above its tail's. The potential of a state is the sum of the depths of its
 -- loose nodes. A contraction at v finds all children of v loose and makes one tight: the potential loses its depth, one more than v's, and gains at
 -- most v's own. Deletions and extensions add nothing, and reaching the r-th node adds at most r for each of the n − r unreached ones.
-use mathlib.Core.Path.{_≡_, refl, sym, ap, subst, _∙_}
+use mathlib.Core.Path.{_≡_, refl, sym, ap, _∙_}
 use mathlib.Core.Bool.{Bool, true, false, _&&_, not, cond}
-use mathlib.Core.List.{List}
 use mathlib.Core.Logic.{_⊎_, inl, inr, ⊎-elim}
 use mathlib.Core.Option.{Option, none, some}
-use Prim.Native.Nat.{ℕ, zero, suc, _+_, _*_, _-_, _/_, _≤_, _<_}
+use Prim.Native.Nat.{ℕ, zero, suc, _+_, _*_, _-_, _≤_, _<_}
 use native.Mathlib.Omega.{arith}
-use native.Mathlib.Nat.{mul-add, mul-zero, mul-one, mul-comm, mul-assoc, add-mul, mul-le-mul, add-mul-div-right}
+use native.Mathlib.Nat.{mul-add, mul-zero, mul-one}
 use lib.Dec.{ltb}
-use lib.ListN.{length}
-use borrow.Author.Tests.{not-true, ltb-true, ltb-false, lt-ltb, le-ltb}
-use Rattle.table.specs.Table.{Table, arc-count, tail-at}
-use Rattle.auction.specs.Auction.{State, kept-at, status-at, is-deleted, iterations, most-iterations}
+use borrow.Author.Tests.{not-true, ltb-true, lt-ltb, le-ltb}
+use Rattle.table.specs.Table.{Table, tail-at}
+use Rattle.auction.specs.Auction.{State, kept-at, status-at, is-deleted}
 use Rattle.auction.specs.HandOver.{reached-count}
-use Rattle.auction.proofs.Basics.{same-or, true-or, both-true, option-or, some-same}
-use Rattle.auction.proofs.Sums.{total, total-le, total-same, total-add, total-scale, total-const, total-one, only-at, only-same, only-other}
+use Rattle.auction.proofs.Basics.{same-or, true-or, both-true, option-or}
+use Rattle.auction.proofs.Sums.{total, total-le, total-add, total-scale, total-const}
 use Rattle.auction.proofs.Effects.{estimate, deleted-status, undeleted-status}
 use Rattle.auction.proofs.Sound.{Nodes, reached-low, one-if-reached, reached-one, unreached-none, reached-total}
 

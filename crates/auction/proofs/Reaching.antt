@@ -1,20 +1,18 @@
 -- Reaching a node keeps the invariant: its outgoing arcs are offered one after the other. Assumes nothing.
 use mathlib.Core.Path.{_≡_, refl, sym, ap, subst, _∙_}
-use mathlib.Core.Bool.{Bool, true, false, cond}
-use mathlib.Core.List.{List, [], _∷_}
+use mathlib.Core.Bool.{true, false, cond}
 use mathlib.Core.Logic.{_⊎_, inl, inr, ⊎-elim}
-use mathlib.Core.Option.{Option, none, some}
+use mathlib.Core.Option.{none, some}
 use Prim.Native.Nat.{ℕ, zero, suc, _+_, _*_, _≤_, _<_}
 use native.Mathlib.Omega.{arith}
 use lib.Dec.{eqb}
-use lib.ListN.{length, getD}
+use lib.ListN.{length}
 use borrow.Author.Tests.{eq-eqb, ne-eqb}
 use Rattle.table.specs.Table.{Table, arc-count, tail-at, head-at, length-at, longest}
-use Rattle.auction.specs.Auction.{State, state, price-at, bound-at, kept-at, status-at, distance, or-zero, was-reached, terminal, takes, with-kept, offer, offers}
-use Rattle.auction.specs.HandOver.{reached-count}
+use Rattle.auction.specs.Auction.{State, state, price-at, bound-at, kept-at, status-at, distance, or-zero, terminal, takes, with-kept, offer, offers}
 use Rattle.auction.proofs.Basics.{same-or, true-or, option-or, some-none, some-same}
 use Rattle.auction.proofs.Good.{Good}
-use Rattle.auction.proofs.Effects.{Sizes, Same, estimate, same-distance, same-estimate, known-distance, Rehung, rehung}
+use Rattle.auction.proofs.Effects.{Same, estimate, same-distance, same-estimate, known-distance, Rehung, rehung}
 use Rattle.auction.proofs.Offers.{Taken, No-better, taken, dropped}
 use Rattle.auction.proofs.Sound.{Kept-arc, Relaxed, Live-arc, Nodes, Relaxed-to, Chain, reached-bounded, top-status, path-moves, same-reached, reached-low}
 

@@ -8,17 +8,20 @@ use Prim.Native.Nat.{ℕ, zero, suc, _+_, _*_, _-_, _≤_, _<_}
 use native.Mathlib.Omega.{arith}
 use lib.Dec.{ltb, eqb}
 use lib.ListN.{length, getD}
-use borrow.Author.Tests.{ltb-true, ltb-false, eqb-true, eqb-false}
-use Rattle.table.specs.Table.{Table, arc-count, tail-at, head-at, is-table, longest}
-use Rattle.auction.specs.Auction.{State, Bid, Ended, price-at, kept-at, status-at, distance, terminal, best, deletion, contraction, extension, iteration, next, go-on, run, ended, all-reached, start, auction, after, then-next, iterations, most-iterations}
-use Rattle.auction.proofs.Basics.{same-or, true-or, option-or, some-none, some-same, not-both}
+use borrow.Author.Tests.{ltb-true, ltb-false, eqb-false}
+use Rattle.table.specs.Table.{Table, arc-count, head-at, is-table, longest}
+use Rattle.auction.specs.Auction.{State, Bid, price-at, kept-at, distance, terminal, best, deletion, contraction, extension, iteration, next, go-on, run, ended, all-reached, start, auction, after, then-next, iterations, most-iterations}
+use Rattle.auction.proofs.Basics.{same-or, true-or, option-or, some-none, some-same}
 use Rattle.auction.proofs.Good.{Good, good}
-use Rattle.auction.proofs.Effects.{Sizes, estimate, status-in}
+use Rattle.auction.proofs.Effects.{estimate, status-in}
 use Rattle.auction.proofs.Bids.{best-bid}
-use Rattle.auction.proofs.Sound.{Nodes, Chain, Sound, chain-status}
-use Rattle.auction.proofs.Counting.{Counts, Invariant, Stepped, path-short, few}
-use Rattle.auction.proofs.Steps.{never-above, contracted, deleted}
-use Rattle.auction.proofs.Extending.{extended, started, started-iterations}
+use Rattle.auction.proofs.Sound.{Nodes, Chain, chain-status}
+use Rattle.auction.proofs.Counting.{Invariant, Stepped, path-short, few}
+use Rattle.auction.proofs.Steps.{never-above}
+use Rattle.auction.proofs.Contracting.{contracted}
+use Rattle.auction.proofs.Deleting.{deleted}
+use Rattle.auction.proofs.Extending.{extended}
+use Rattle.auction.proofs.Starting.{started, started-iterations}
 
 -- ONE ITERATION keeps the invariant
 module _ (t : Table) (g : Good t) (x : State) (i : Invariant t x) where

@@ -3,20 +3,20 @@
 -- Write d(v) for a node's bound and f(v) for its estimate, price plus bound. Where k is v's kept arc and u its tail, d(v) is d(u) plus the arc's
 -- length, so the price condition on the arc says just f(u) ≤ f(v). A contraction lifts f of the terminal node to the least f of its children, an
 -- extension goes to the first child whose f is equal, and along the path f is the origin's price.
-use mathlib.Core.Path.{_≡_, refl, sym, ap, subst, _∙_}
-use mathlib.Core.Bool.{Bool, true, false, cond}
+use mathlib.Core.Path.{_≡_, refl, sym, ap, _∙_}
+use mathlib.Core.Bool.{cond}
 use mathlib.Core.List.{List, [], _∷_}
-use mathlib.Core.Logic.{_⊎_, inl, inr, ⊎-elim}
-use mathlib.Core.Option.{Option, none, some}
+use mathlib.Core.Logic.{⊎-elim}
+use mathlib.Core.Option.{none, some}
 use Prim.Native.Nat.{ℕ, zero, suc, _+_, _*_, _≤_, _<_}
 use native.Mathlib.Omega.{arith}
 use lib.ListN.{length, getD}
 use Rattle.table.specs.Table.{Table, arc-count, tail-at, head-at, length-at, longest}
 use Rattle.auction.specs.Auction.{State, price-at, bound-at, kept-at, status-at, distance, or-zero, was-reached, terminal}
 use Rattle.auction.specs.HandOver.{reached-count}
-use Rattle.auction.proofs.Basics.{same-or, option-or, some-none}
+use Rattle.auction.proofs.Basics.{same-or, option-or}
 use Rattle.auction.proofs.Sums.{total, total-same, total-le, total-const, total-one, only-at, only-same, only-other}
-use Rattle.auction.proofs.Effects.{Sizes, Same, estimate, same-distance, same-estimate, known-distance, status-reached, status-unreached}
+use Rattle.auction.proofs.Effects.{Sizes, Same, estimate, same-estimate, known-distance, status-reached, status-unreached}
 
 -- how many arcs lie between a node and the origin
 pub record Kept-arc (t : Table) (x : State) (dep : ℕ → ℕ) (v k : ℕ) : Type 0 where

@@ -1,8 +1,8 @@
 -- The sum over the stages in closed form: 6 (1(n − 1) + 2(n − 2) + .. + n·0) is n³ − n. Assumes nothing.
-use mathlib.Core.Path.{_≡_, refl, sym, ap, _∙_}
-use Prim.Native.Nat.{ℕ, zero, suc, _+_, _*_, _-_, _/_, _≤_, _<_}
+use mathlib.Core.Path.{_≡_, refl, ap, _∙_}
+use Prim.Native.Nat.{ℕ, zero, suc, _+_, _*_, _-_, _/_, _≤_}
 use native.Mathlib.Omega.{arith}
-use native.Mathlib.Nat.{mul-add, mul-suc, suc-mul, mul-zero, zero-mul, mul-comm, mul-assoc, add-mul}
+use native.Mathlib.Nat.{mul-add, mul-suc, suc-mul, mul-zero, mul-comm, mul-assoc, add-mul}
 use Rattle.auction.specs.Auction.{most-iterations}
 use Rattle.auction.proofs.Potential.{stages}
 

@@ -1,13 +1,12 @@
 -- Sums, greatest elements and elements of `entries`. Assumes nothing.
-use mathlib.Core.Path.{_≡_, refl, sym, ap, subst, _∙_}
-use mathlib.Core.Bool.{Bool, true, false, cond}
-use mathlib.Core.List.{List, [], _∷_}
-use mathlib.Core.Logic.{_⊎_, inl, inr, ⊎-elim}
-use Prim.Native.Nat.{ℕ, zero, suc, _+_, _*_, _-_, _≤_, _<_, max}
+use mathlib.Core.Path.{_≡_, refl, sym, ap, _∙_}
+use mathlib.Core.Bool.{cond}
+use mathlib.Core.Logic.{⊎-elim}
+use Prim.Native.Nat.{ℕ, zero, suc, _+_, _*_, _≤_, _<_}
 use native.Mathlib.Omega.{arith}
-use native.Mathlib.Nat.{add-zero, add-suc, mul-add, mul-zero}
+use native.Mathlib.Nat.{mul-add, mul-zero}
 use lib.Dec.{eqb}
-use lib.ListN.{length, getD}
+use lib.ListN.{length, getD, List·getD-eq-default}
 use borrow.Author.Tests.{eq-eqb, ne-eqb}
 use Rattle.auction.specs.HandOver.{entries, greatest, sum}
 use Rattle.auction.proofs.Basics.{same-or}
@@ -24,6 +23,15 @@ entry zero a i f d h = absurd (omega arith)
 entry (suc k) a zero f d h = ap f (omega arith)
 entry (suc k) a (suc i) f d h =
     let e : suc a + i ≡ a + suc i = omega arith in entry k (suc a) i f d (omega arith) ∙ ap f e
+
+-- a column of n entries, and past its end
+pub column : (n v : ℕ) (f : ℕ → ℕ) (d : ℕ) → v < n → getD (entries n 0 f) v d ≡ f v
+column n v f d h =
+    let plain : 0 + v ≡ v = omega arith in
+    entry n 0 v f d h ∙ ap f plain
+
+pub past-column : (n v : ℕ) (f : ℕ → ℕ) (d : ℕ) → n ≤ v → getD (entries n 0 f) v d ≡ d
+past-column n v f d h = List·getD-eq-default (entries n 0 f) d (omega (arith, entries-length n 0 f))
 
 abbrev pub total : (n : ℕ) → (ℕ → ℕ) → ℕ
 total n f = sum (entries n 0 f)

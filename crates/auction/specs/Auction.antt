@@ -8,7 +8,7 @@ use mathlib.Core.Option.{Option, none, some}
 use Prim.Native.Nat.{ℕ, zero, suc, _+_, _*_, _-_, _/_}
 use lib.Dec.{ltb, leb, eqb}
 use lib.ListN.{getD, set, replicate}
-use Rattle.table.specs.Table.{Table, Arc, arc-count, tail-at, head-at, length-at}
+use Rattle.table.specs.Table.{Table, arc-count, tail-at, head-at, length-at}
 
 -- THE STATE: the path, terminal node first; for each node its price, bound, kept arc and status; the three counts
 pub record State : Type 0 where

@@ -7,7 +7,7 @@ use lib.Dec.{eqb}
 use lib.ListN.{getD}
 use Rattle.table.specs.Table.{Table, arc-count, tail-at, head-at, no-arc, no-distance}
 use Rattle.table.specs.Grounds.{Refusal, refusal, no-refusal}
-use Rattle.auction.specs.Auction.{State, Ended, was-reached, distance, kept-at, is-kept}
+use Rattle.auction.specs.Auction.{State, Ended, was-reached, distance, kept-at, is-kept, iterations}
 
 -- f v, f (v + 1) and so on: `left` entries
 unfoldable pub entries : (left v : ℕ) → (ℕ → ℕ) → List ℕ
@@ -65,6 +65,45 @@ first-missing i (w ∷ ws) x = cond (was-reached x w) (first-missing (suc i) ws 
 
 unfoldable pub route-refusal : (wanted : List ℕ) → Ended → Refusal
 route-refusal ws e = cond (e .routed) no-refusal (refusal 8 (first-missing 0 ws (e .last)))
+
+-- ALL THAT IS HANDED OVER: the answer and what is left in the four buffers
+pub record Answer : Type 0 where
+  pub number : ℕ
+  pub place : ℕ
+  pub reached : ℕ
+  pub horizon : ℕ
+  pub iterations : ℕ
+  pub contractions : ℕ
+  pub extensions : ℕ
+  pub deletions : ℕ
+  pub distances : List ℕ
+  pub prices : List ℕ
+  pub tree : List ℕ
+  pub marks : List ℕ
+
+abbrev pub answer : (number place reached horizon iterations contractions extensions deletions : ℕ) → (distances prices tree marks : List ℕ) → Answer
+answer n p r h i c e d ds ps ts ms =
+    record {
+      number = n;
+      place = p;
+      reached = r;
+      horizon = h;
+      iterations = i;
+      contractions = c;
+      extensions = e;
+      deletions = d;
+      distances = ds;
+      prices = ps;
+      tree = ts;
+      marks = ms;
+    }
+
+unfoldable pub handed-over : Table → (wanted : List ℕ) → Ended → Answer
+handed-over t ws e =
+    let f = route-refusal ws e in
+    let x = e .last in
+    answer (f .number) (f .place) (reached-count t x) (horizon t x) (iterations x) (x .contractions) (x .extensions) (x .deletions) (distances t x)
+    (prices t x) (tree t x) (marks t x)
 
 -- THE WALK RETURNED to a node: back from the node, from each tree entry's arc to its tail, until the origin, read forwards
 unfoldable pub back-from : (left : ℕ) → Table → (tree : List ℕ) → (v : ℕ) → (walk : List ℕ) → List ℕ

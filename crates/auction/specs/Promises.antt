@@ -1,11 +1,12 @@
--- What is promised of every run, of every table that is not turned down as faulty and every wanted list. Each promise is a type; its proof, by the
--- same name in small letters, stands in proofs/Promised.antt. Assumes nothing.
+-- What is promised of every run: for every table that is not turned down as faulty, and every wanted list. Each promise is a type; its proof, by the
+-- same name in small letters, stands in proofs/Promised.antt, and `Promises` at the end holds all of them. Assumes nothing.
 --
--- A table that is not turned down is one with `is-table t ws ≡ true` (the last promise). A node has been REACHED where its distance is handed over.
+-- A table that is not turned down is one with `is-table t ws ≡ true` (`Not-turned-down`, the last promise). A node counts as reached where
+-- `was-reached` says so of the run's last state: those are the nodes to which a distance is handed over.
 use mathlib.Core.Path.{_≡_}
 use mathlib.Core.Bool.{Bool, true, false, _&&_}
 use mathlib.Core.List.{List, [], _∷_}
-use mathlib.Core.Option.{Option, none, some}
+use mathlib.Core.Option.{none, some}
 use Prim.Native.Nat.{ℕ, suc, _+_, _*_, _-_, _/_, _^_, _≤_, _<_}
 use lib.Dec.{eqb}
 use lib.ListN.{length, getD}
@@ -29,9 +30,11 @@ link t ws v = getD (tree t (last-state t ws)) v no-arc
 
 -- THE THIRD DEMAND
 
--- The walk returned to a reached node is a walk from the origin to it, its length is the node's distance, and no other walk there is shorter.
+-- The walk returned to a reached node is a walk from the origin to it with fewer than n arcs, its length is the node's distance, and no other walk
+-- there is shorter.
 pub record Shortest (t : Table) (ws : List ℕ) (v : ℕ) : Type 0 where
   pub walk : is-walk t (route t ws v) v ≡ true
+  pub short : length (route t ws v) < t .n
   pub as-long : walk-length t (route t ws v) ≡ distance (last-state t ws) v
   pub least : (other : List ℕ) → is-walk t other v ≡ true → distance (last-state t ws) v ≤ walk-length t other
 
@@ -52,12 +55,12 @@ Prices-fit =
     price t ws (tail-at t i) ≤ length-at t i + price t ws (head-at t i)
 
 -- equal along the walks returned, and the origin's price less a node's price is the walk's length.
-unfoldable pub equal-along : Table → (wanted walk : List ℕ) → Bool
-equal-along t ws [] = true
-equal-along t ws (i ∷ is) = eqb (price t ws (tail-at t i)) (length-at t i + price t ws (head-at t i)) && equal-along t ws is
+unfoldable pub equal-along : Table → (prices walk : List ℕ) → Bool
+equal-along t ps [] = true
+equal-along t ps (i ∷ is) = eqb (getD ps (tail-at t i) 0) (length-at t i + getD ps (head-at t i) 0) && equal-along t ps is
 
 pub record Shown (t : Table) (ws : List ℕ) (v : ℕ) : Type 0 where
-  pub equal : equal-along t ws (route t ws v) ≡ true
+  pub equal : equal-along t (prices t (last-state t ws)) (route t ws v) ≡ true
   pub difference : price t ws (t .origin) ≡ walk-length t (route t ws v) + price t ws v
 
 unfoldable pub Prices-show : Type 0
@@ -166,3 +169,22 @@ unfoldable pub Not-turned-down : Type 0
 Not-turned-down =
     (n o : ℕ) (tails heads lengths wanted : List ℕ) (rooms : List Room) → Below (2 ^ 32) lengths →
     table-refusal n o tails heads lengths wanted rooms .number ≡ 0 → is-table (table-of n o tails heads lengths) wanted ≡ true
+
+-- ALL OF THEM together: the one theorem `promised` of proofs/Promised.antt
+pub record Promises : Type 0 where
+  pub walk-shortest : Walk-shortest
+  pub walk-given : Walk-given
+  pub prices-fit : Prices-fit
+  pub prices-show : Prices-show
+  pub route-to-all : Route-to-all
+  pub no-route : No-route
+  pub few-iterations : Few-iterations
+  pub fewer-iterations : Fewer-iterations
+  pub ends-by-itself : Ends-by-itself
+  pub iterations-counted : Iterations-counted
+  pub earliest-link : Earliest-link
+  pub never-above : Never-above
+  pub ascending : Ascending
+  pub small-distances : Small-distances
+  pub small-sums : Small-sums
+  pub not-turned-down : Not-turned-down

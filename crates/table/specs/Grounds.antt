@@ -1,5 +1,5 @@
 -- The grounds 1 to 7 on which a table is turned down, in the order in which they are tested. Assumes nothing: these are definitions.
-use mathlib.Core.Bool.{Bool, true, false, _&&_, _||_, not, cond}
+use mathlib.Core.Bool.{Bool, true, _&&_, _||_, not, cond}
 use mathlib.Core.List.{List, [], _∷_}
 use Prim.Native.Nat.{ℕ, suc}
 use lib.Dec.{ltb, leb, eqb}

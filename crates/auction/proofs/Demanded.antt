@@ -1,0 +1,103 @@
+-- The promises, carried over to what is handed over. Assumes nothing.
+use mathlib.Core.Path.{_≡_, refl, sym, subst, _∙_}
+use mathlib.Core.Bool.{true, false, cond}
+use mathlib.Core.List.{List}
+use mathlib.Core.Logic.{inl, inr, ⊎-elim}
+use Prim.Native.Nat.{ℕ, _≤_, _<_}
+use native.Mathlib.Omega.{arith}
+use lib.ListN.{getD}
+use Rattle.table.specs.Table.{Table, is-table, walk-length, no-distance}
+use Rattle.table.specs.Grounds.{refusal, no-refusal}
+use Rattle.auction.specs.Auction.{State, auction, was-reached, distance, iterations}
+use Rattle.auction.specs.HandOver.{Answer, handed-over, distances, first-missing, route-refusal}
+use Rattle.auction.specs.Promises.{last-state, route, price, link, Shortest, Shown, Walk-shortest, Walk-given, Prices-fit, Prices-show, Route-to-all, No-route, First-without-walk, Few-iterations, Fewer-iterations, Iterations-counted, Attains, Earliest-link}
+use Rattle.auction.specs.Demands.{distance-of, price-of, link-of, walk-of, Given, Demands, Demands-met}
+use Rattle.auction.proofs.Basics.{true-or, below-or}
+use Rattle.auction.proofs.Sums.{column, past-column}
+use Rattle.auction.proofs.Good.{good}
+use Rattle.auction.proofs.Effects.{estimate, status-in, reached-status}
+use Rattle.auction.proofs.Promised.{walk-shortest, walk-given, prices-fit, prices-show, route-to-all, no-route, few-iterations, fewer-iterations, iterations-counted, earliest-link, invariant}
+
+module _ (t : Table) (ws : List ℕ) (e : is-table t ws ≡ true) where
+  abbrev x : State
+  x = last-state t ws
+
+  abbrev a : Answer
+  a = handed-over t ws (auction t ws)
+
+  -- the distance column: a reached node's distance, 2⁶⁴ − 1 for any other
+  entry : ℕ → ℕ
+  entry v = cond (was-reached x v) (distance x v) no-distance
+
+  reached-entry : (v : ℕ) → was-reached x v ≡ true → distance-of a v ≡ distance x v
+  unfolding distance-of handed-over distances last-state entry
+  reached-entry v r =
+      let here : entry v ≡ distance x v = rw r in
+      column (t .n) v entry no-distance (status-in v (invariant t ws e .sound .nodes .sizes) (reached-status x v r)) ∙ here
+
+  unreached-entry : (v : ℕ) → was-reached x v ≡ false → distance-of a v ≡ no-distance
+  unfolding distance-of handed-over distances last-state entry
+  unreached-entry v r =
+      let here : entry v ≡ no-distance = rw r in
+      ⊎-elim (λ (h : v < t .n). column (t .n) v entry no-distance h ∙ here) (λ (h : t .n ≤ v). past-column (t .n) v entry no-distance h)
+      (below-or v (t .n))
+
+  given-reached : (v : ℕ) → Given a v → was-reached x v ≡ true
+  unfolding Given
+  given-reached v h = ⊎-elim (λ (r : was-reached x v ≡ true). r) (λ (r : was-reached x v ≡ false). absurd (h (unreached-entry v r))) (true-or (was-reached x v))
+
+  reached-given : (v : ℕ) → was-reached x v ≡ true → Given a v
+  unfolding Given estimate
+  reached-given v r q =
+      omega (arith, invariant t ws e .sound .nodes .small-estimate v, good t ws e .few-nodes, q, reached-entry v r)
+
+  -- number 8 exactly where the run ended without every wanted node
+  number-zero : auction t ws .routed ≡ true → a .number ≡ 0
+  unfolding handed-over route-refusal no-refusal refusal
+  number-zero r = rw r
+
+  number-eight : auction t ws .routed ≡ false → (a .number ≡ 8) × (a .place ≡ first-missing 0 ws x)
+  unfolding handed-over route-refusal refusal last-state
+  number-eight r = (rw r, rw r)
+
+  demands : Demands t ws a
+  unfolding handed-over last-state price-of link-of walk-of iterations Walk-shortest Walk-given Prices-fit Prices-show Route-to-all No-route Few-iterations Fewer-iterations Iterations-counted Earliest-link route price link
+  demands =
+      let shortest : (v : ℕ) → Given a v → Shortest t ws v = λ v h. walk-shortest t ws v e (given-reached v h) in
+      let shown : (v : ℕ) → Given a v → Shown t ws v = λ v h. prices-show t ws v e (given-reached v h) in
+      let at : (v : ℕ) → Given a v → distance x v ≡ distance-of a v = λ v h. sym (reached-entry v (given-reached v h)) in
+      record {
+        given = λ k walk h w. reached-given (getD ws k 0) (walk-given t ws k walk e h w);
+        walk = λ v h. shortest v h .walk;
+        as-long = λ v h. shortest v h .as-long ∙ at v h;
+        least = λ v h other w. subst (λ (d : ℕ). d ≤ walk-length t other) (at v h) (shortest v h .least other w);
+        attains = λ v h d. subst (λ (k : ℕ). Attains t v k (link t ws v)) (at v h) (earliest-link t ws v e (given-reached v h) d .attains);
+        earliest =
+            λ v h d i q. earliest-link t ws v e (given-reached v h) d .first i (subst (λ (k : ℕ). Attains t v k i) (sym (at v h)) q);
+        prices-fit = λ i h. prices-fit t ws i e h;
+        prices-equal = λ v h. shown v h .equal;
+        prices-show = λ v h. shown v h .difference;
+        numbers =
+            ⊎-elim (λ (r : auction t ws .routed ≡ true). inl (number-zero r)) (λ (r : auction t ws .routed ≡ false). inr (number-eight r .0))
+            (true-or (auction t ws .routed));
+        route =
+            λ z.
+            ⊎-elim (λ (r : auction t ws .routed ≡ true). route-to-all t ws e r) (λ (r : auction t ws .routed ≡ false). absurd (omega (arith, z, number-eight r .0)))
+            (true-or (auction t ws .routed));
+        no-route =
+            λ z.
+            ⊎-elim (λ (r : auction t ws .routed ≡ true). absurd (omega (arith, z, number-zero r)))
+            (λ (r : auction t ws .routed ≡ false). subst (λ (p : ℕ). First-without-walk t ws p) (sym (number-eight r .1)) (no-route t ws e r))
+            (true-or (auction t ws .routed));
+        counts = refl;
+        last = x;
+        steps = iterations-counted t ws e .steps;
+        counted = (refl, refl, refl);
+        not-before = iterations-counted t ws e .not-before;
+        few = few-iterations t ws e;
+        fewer = fewer-iterations t ws e;
+      }
+
+pub demands-met : Demands-met
+unfolding Demands-met
+demands-met = demands

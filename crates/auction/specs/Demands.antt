@@ -1,0 +1,65 @@
+-- THE PAGE FOR USERS: demands 2 and 3, said of what a plan hands over, for every table that is not turned down as faulty. Everything here speaks of
+-- the table, of walks, and of the answer and the four buffers; the auction's inside is named only where its counts are. Assumes nothing.
+use mathlib.Core.Path.{_≡_}
+use mathlib.Core.Bool.{true, false}
+use mathlib.Core.List.{List}
+use mathlib.Core.Logic.{_⊎_}
+use mathlib.Core.Option.{some}
+use Prim.Native.Nat.{ℕ, _+_, _*_, _-_, _/_, _≤_, _<_}
+use lib.ListN.{length, getD}
+use Rattle.table.specs.Table.{Table, is-table, is-walk, walk-length, arc-count, tail-at, head-at, length-at, no-arc, no-distance}
+use Rattle.auction.specs.Auction.{State, auction, after, all-reached, most-iterations}
+use Rattle.auction.specs.HandOver.{Answer, handed-over, returned}
+use Rattle.auction.specs.Promises.{Attains, Has-walk, First-without-walk, equal-along}
+
+-- what the buffers say of a node: its distance, its price, its link, and the walk returned to it
+unfoldable pub distance-of : Answer → (v : ℕ) → ℕ
+distance-of a v = getD (a .distances) v no-distance
+
+unfoldable pub price-of : Answer → (v : ℕ) → ℕ
+price-of a v = getD (a .prices) v 0
+
+unfoldable pub link-of : Answer → (v : ℕ) → ℕ
+link-of a v = getD (a .tree) v no-arc
+
+unfoldable pub walk-of : Table → Answer → (v : ℕ) → List ℕ
+walk-of t a v = returned t (a .tree) v
+
+-- a node is given a walk where its distance is not 2⁶⁴ − 1
+unfoldable pub Given : Answer → (v : ℕ) → Type 0
+Given a v = distance-of a v ≡ no-distance → ⊥
+
+pub record Demands (t : Table) (ws : List ℕ) (a : Answer) : Type 0 where
+  -- Each wanted node that has a walk is given one.
+  pub given : (k : ℕ) (walk : List ℕ) → k < length ws → is-walk t walk (getD ws k 0) ≡ true → Given a (getD ws k 0)
+  -- The walk returned to a node is a walk from the origin to it, as long as the node's distance,
+  pub walk : (v : ℕ) → Given a v → is-walk t (walk-of t a v) v ≡ true
+  pub as-long : (v : ℕ) → Given a v → walk-length t (walk-of t a v) ≡ distance-of a v
+  -- and no other walk there is shorter.
+  pub least : (v : ℕ) → Given a v → (other : List ℕ) → is-walk t other v ≡ true → distance-of a v ≤ walk-length t other
+  -- Its link attains the distance, and is the earliest listed of all that do.
+  pub attains : (v : ℕ) → Given a v → (v ≡ t .origin → ⊥) → Attains t v (distance-of a v) (link-of a v)
+  pub earliest : (v : ℕ) → Given a v → (v ≡ t .origin → ⊥) → (i : ℕ) → Attains t v (distance-of a v) i → link-of a v ≤ i
+  -- The prices show it: on every link the near end's price is at most the link's length plus the far end's price,
+  pub prices-fit : (i : ℕ) → i < arc-count t → price-of a (tail-at t i) ≤ length-at t i + price-of a (head-at t i)
+  -- equal along the walks returned, and the origin's price less the node's is the walk's length.
+  pub prices-equal : (v : ℕ) → Given a v → equal-along t (a .prices) (walk-of t a v) ≡ true
+  pub prices-show : (v : ℕ) → Given a v → price-of a (t .origin) ≡ walk-length t (walk-of t a v) + price-of a v
+  -- "No route", number 8, exactly when some wanted node has no walk; its place is the first such node's.
+  pub numbers : (a .number ≡ 0) ⊎ (a .number ≡ 8)
+  pub route : a .number ≡ 0 → (k : ℕ) → k < length ws → Has-walk t (getD ws k 0)
+  pub no-route : a .number ≡ 8 → First-without-walk t ws (a .place)
+  -- Iterations, contractions, extensions and deletions are those of the auction: after just so many of its steps, and not before, it stops in a state
+  -- with just these counts.
+  pub counts : a .iterations ≡ a .contractions + a .extensions + a .deletions
+  pub last : State
+  pub steps : after (a .iterations) t ≡ some last
+  pub counted : (last .contractions ≡ a .contractions) × (last .extensions ≡ a .extensions) × (last .deletions ≡ a .deletions)
+  pub not-before : (k : ℕ) (x : State) → k < a .iterations → after k t ≡ some x → all-reached ws x ≡ false
+  -- The iterations are at most 2(n³ − n)/3 + 3(n − 1), and even at most (n³ − n)/3 + 3(n − 1).
+  pub few : a .iterations ≤ most-iterations (t .n)
+  pub fewer : a .iterations ≤ (t .n * t .n * t .n - t .n) / 3 + 3 * (t .n - 1)
+
+-- The promise: all of that, of every table that is not turned down and every wanted list.
+unfoldable pub Demands-met : Type 0
+Demands-met = (t : Table) (ws : List ℕ) → is-table t ws ≡ true → Demands t ws (handed-over t ws (auction t ws))

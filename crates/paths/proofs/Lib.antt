@@ -1,0 +1,9 @@
+pub mod Early
+pub mod Entries
+pub mod Counting
+pub mod Writing
+pub mod Answers
+pub mod Returned
+pub mod Listable
+pub mod Promised
+pub mod Examples

@@ -1,0 +1,71 @@
+-- Listing from the columns of a table: where the walk returned is a walk with fewer than n arcs, its nodes are listed. Assumes nothing.
+use mathlib.Core.Path.{_≡_, refl, sym, ap, _∙_}
+use mathlib.Core.Bool.{true}
+use mathlib.Core.List.{List, [], _∷_}
+use Prim.Native.Nat.{ℕ, zero, suc, _<_}
+use native.Mathlib.Omega.{arith}
+use lib.ListN.{length, getD}
+use borrow.Author.Tests.{le-ltb}
+use Rattle.table.specs.Table.{Table, Arc, arc, table, table-of, arcs-of, is-table, arc-count, arc-at, tail-at, head-at, is-walk, no-arc, most-nodes, most-arcs}
+use Rattle.auction.specs.HandOver.{returned}
+use Rattle.auction.proofs.Good.{good}
+use Rattle.paths.specs.Listing.{Tree, tree-in, path, nodes-of, ground-of, listed}
+use Rattle.paths.specs.Promises.{nodes-of-walk, Gives}
+use Rattle.paths.proofs.Early.{count-fine, ends-fine, no-ground}
+use Rattle.paths.proofs.Answers.{at-most-n, without-room, fits}
+use Rattle.paths.proofs.Returned.{Columns, path-is-walk}
+
+-- three columns of equal length hold as many arcs, and each arc's ends stand at its position
+arcs-length : (ts hs ls : List ℕ) → length ts ≡ length hs → length hs ≡ length ls → length (arcs-of ts hs ls) ≡ length ts
+unfolding arcs-of
+arcs-length [] hs ls e f = refl
+arcs-length (t ∷ ts) [] ls e f = absurd (omega arith)
+arcs-length (t ∷ ts) (h ∷ hs) [] e f = absurd (omega arith)
+arcs-length (t ∷ ts) (h ∷ hs) (l ∷ ls) e f = ap suc (arcs-length ts hs ls (omega arith) (omega arith))
+
+arc-there : (ts hs ls : List ℕ) (i : ℕ) (d : Arc) → i < length (arcs-of ts hs ls) →
+    (getD ts i 0 ≡ getD (arcs-of ts hs ls) i d .tail) × (getD hs i 0 ≡ getD (arcs-of ts hs ls) i d .head)
+unfolding arcs-of arc
+arc-there [] hs ls i d h = absurd (omega arith)
+arc-there (t ∷ ts) [] ls i d h = absurd (omega arith)
+arc-there (t ∷ ts) (a ∷ hs) [] i d h = absurd (omega arith)
+arc-there (t ∷ ts) (a ∷ hs) (l ∷ ls) zero d h = (refl, refl)
+arc-there (t ∷ ts) (a ∷ hs) (l ∷ ls) (suc i) d h = arc-there ts hs ls i d (omega arith)
+
+module _ (n o : ℕ) (ts hs ls column : List ℕ) (e : length ts ≡ length hs) (f : length hs ≡ length ls) (long : length column ≡ n) where
+  columns : Columns (table-of n o ts hs ls) (tree-in ts hs column)
+  unfolding table-of table arc-count tail-at head-at arc-at
+  columns =
+      record {
+        nodes = long;
+        arcs = sym (arcs-length ts hs ls e f);
+        tails = λ i h. arc-there ts hs ls i (arc no-arc no-arc 0) h .0;
+        heads = λ i h. arc-there ts hs ls i (arc no-arc no-arc 0) h .1;
+      }
+
+  module _ (ws : List ℕ) (v : ℕ) where
+    abbrev t : Table
+    t = table-of n o ts hs ls
+
+    abbrev k : Tree
+    k = tree-in ts hs column
+
+    pub walk-listed : is-table t ws ≡ true → v < n → is-walk t (returned t column v) v ≡ true → length (returned t column v) < n →
+        Gives o v k (nodes-of-walk t (returned t column v))
+    unfolding table-of table nodes-of-walk nodes-of ground-of
+    walk-listed table-good low walk few =
+        let g = good t ws table-good in
+        let p = path-is-walk t k columns (g .tail-in) v walk few in
+        let nodes = nodes-of-walk t (returned t column v) in
+        let same : nodes-of (path o v k) ≡ nodes = ap nodes-of p in
+        let some-node : 0 < length (nodes-of (path o v k)) = omega (arith, ap length same) in
+        let fine =
+        no-ground (length column) (length ts) (length hs) o v
+        (count-fine (length column) (λ z. omega (arith, long)) (le-ltb most-nodes (length column) (omega (arith, long, g .few-nodes))))
+        (ends-fine (length ts) (length hs) e (le-ltb most-arcs (length ts) (omega (arith, columns .arcs, g .few-arcs))))
+        (omega (arith, long, g .origin-in)) (omega (arith, long)) in
+        record {
+          within = omega (arith, at-most-n o v k, ap length same);
+          roomy = λ room h. fits o v k room fine some-node (omega (arith, ap length same)) ∙ ap listed same;
+          short = λ room h. without-room o v k room fine some-node (omega (arith, ap length same));
+        }

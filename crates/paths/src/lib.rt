@@ -1,0 +1,184 @@
+// Listing a path: the nodes from the origin to a node, read off a tree column. specs/Listing.antt says what a listing gives.
+//
+// The path is followed twice: once to count its nodes, which finds ground 14 before anything is written, and once to write them, from the last to
+// the first.
+ghost use mathlib.Core.Path.{_≡_};
+ghost use mathlib.Core.Bool.{true};
+ghost use mathlib.Core.List.{_++_};
+ghost use Prim.Native.Nat.{_≤_, _<_};
+ghost use lib.ListN.{length, getD, drop};
+ghost use Rattle.table.specs.Table.{no-arc};
+ghost use Rattle.paths.specs.Listing.{tree-in, node-before, leads-back, path, nodes-of, early-ground, listing, Lists};
+
+// The refusal's number, 0 where there is none; its place, always 0; and how many nodes are listed, 0 on a refusal.
+pub struct Listed {
+    pub number: u32,
+    pub place: u32,
+    pub count: u32,
+}
+
+// The most nodes a table has, as a length.
+const MOST_NODES: usize = table::MOST_NODES as usize;
+
+// The grounds of a listing, by their numbers, and none.
+const NO_REFUSAL: u32 = 0;
+
+const BAD_NODE_COUNT: u32 = 1;
+
+const BAD_COLUMNS: u32 = 2;
+
+const BAD_ORIGIN: u32 = 4;
+
+const BAD_NODE: u32 = 5;
+
+const SHORT_OUTPUT: u32 = 13;
+
+const NO_PATH: u32 = 14;
+
+// A node or a position as an index.
+fn wide(x: u16) -> usize
+    ensures { λ r. ⌜ r ≡ x ⌝ }
+{
+    x as usize
+}
+
+// Grounds 1, 2, 4 and 5, by the columns' lengths, the origin and the node.
+fn early_ground(n: usize, tails: usize, heads: usize, origin: u16, node: u16) -> u32
+    ensures { λ r. ⌜ r ≡ early-ground n tails heads origin node ⌝ }
+{
+    if n == 0 || MOST_NODES < n {
+        return BAD_NODE_COUNT;
+    }
+    if tails != heads || table::MOST_ARCS < tails {
+        return BAD_COLUMNS;
+    }
+    if n <= origin as usize {
+        return BAD_ORIGIN;
+    }
+    if n <= node as usize {
+        return BAD_NODE;
+    }
+    NO_REFUSAL
+}
+
+// A node's tree entry.
+fn entry_at(node: u16, tree: &[u16]) -> usize
+    requires { ⌜ node < length (now tree) ⌝ }
+    ensures { λ r. ⌜ r ≡ getD (now (tree .entry)) node no-arc ⌝ }
+{
+    wide(tree[wide(node)])
+}
+
+// Whether a node's tree entry is an arc that leads into the node, out of a node below n.
+fn leads_back(node: u16, tails: &[u16], heads: &[u16], tree: &[u16]) -> bool
+    requires { ⌜ node < length (now tree) ⌝ }
+    requires { ⌜ length (now tails) ≡ length (now heads) ⌝ }
+    ensures { λ r. ⌜ r ≡ leads-back (tree-in (now (tails .entry)) (now (heads .entry)) (now (tree .entry))) node ⌝ }
+{
+    let entry = entry_at(node, tree);
+    if tails.len() <= entry {
+        return false;
+    }
+    if heads[entry] != node {
+        return false;
+    }
+    wide(tails[entry]) < tree.len()
+}
+
+// The node before a node whose tree entry leads back.
+fn node_before(node: u16, tails: &[u16], heads: &[u16], tree: &[u16]) -> u16
+    requires { ⌜ node < length (now tree) ⌝ }
+    requires { ⌜ leads-back (tree-in (now tails) (now heads) (now tree)) node ≡ true ⌝ }
+    ensures { λ r. ⌜ r ≡ node-before (tree-in (now (tails .entry)) (now (heads .entry)) (now (tree .entry))) node ⌝ }
+{
+    tails[entry_at(node, tree)]
+}
+
+// How many nodes the path to a node has; 0 where the tree column does not lead back to the origin.
+fn count_nodes(origin: u16, node: u16, tails: &[u16], heads: &[u16], tree: &[u16]) -> usize
+    requires { ⌜ node < length (now tree) ⌝ }
+    requires { ⌜ length (now tails) ≡ length (now heads) ⌝ }
+    ensures { λ r. ⌜ r ≡ length (nodes-of (path origin node (tree-in (now (tails .entry)) (now (heads .entry)) (now (tree .entry))))) ⌝ }
+{
+    let mut v = node;
+    let mut count = 1;
+    while v != origin {
+        if tree.len() <= count {
+            return 0;
+        }
+        if !leads_back(v, tails, heads, tree) {
+            return 0;
+        }
+        v = node_before(v, tails, heads, tree);
+        count += 1;
+    }
+    count
+}
+
+// Writes the path's nodes at the output's start, from the last to the first. The origin and the heads only say which path it is.
+fn write_nodes(
+    count: usize,
+    origin: u16,
+    node: u16,
+    tails: &[u16],
+    heads: &[u16],
+    tree: &[u16],
+    output: &mut [u16],
+)
+    requires { ⌜ node < length (now tree) ⌝ }
+    requires { ⌜ count ≡ length (nodes-of (path origin node (tree-in (now tails) (now heads) (now tree)))) ⌝ }
+    requires { ⌜ 0 < count ⌝ }
+    requires { ⌜ count ≤ length (now output) ⌝ }
+    ensures { λ _. ⌜ now (output .exit) ≡ nodes-of (path origin node (tree-in (now (tails .entry)) (now (heads .entry)) (now (tree .entry)))) ++ drop count (now (output .entry)) ⌝ }
+{
+    let mut v = node;
+    let mut at = count - 1;
+    while 0 < at {
+        output[at] = v;
+        v = node_before(v, tails, heads, tree);
+        at -= 1;
+    }
+    output[0] = v;
+}
+
+// A refusal: no place, and nothing listed.
+fn refused(number: u32) -> Listed
+    ensures { λ r. ⌜ (r .number ≡ number) × (r .place ≡ 0) × (r .count ≡ 0) ⌝ }
+{
+    Listed {
+        number: number,
+        place: 0,
+        count: 0,
+    }
+}
+
+// The nodes from the origin to a node, at the start of the output. The grounds are tested in the order 1, 2, 4, 5, 14, 13.
+pub fn list_path(
+    origin: u16,
+    node: u16,
+    tails: &[u16],
+    heads: &[u16],
+    tree: &[u16],
+    output: &mut [u16],
+) -> Listed
+    ensures { λ r. ⌜ Lists (listing origin node (tree-in (now (tails .entry)) (now (heads .entry)) (now (tree .entry))) (length (now (output .entry)))) r (now (output .entry)) (now (output .exit)) ⌝ }
+{
+    let ground = early_ground(tree.len(), tails.len(), heads.len(), origin, node);
+    if ground != NO_REFUSAL {
+        return refused(ground);
+    }
+    let count = count_nodes(origin, node, tails, heads, tree);
+    if count == 0 {
+        return refused(NO_PATH);
+    }
+    if output.len() < count {
+        return refused(SHORT_OUTPUT);
+    }
+    let listed = count as u32;
+    write_nodes(count, origin, node, tails, heads, tree, output);
+    Listed {
+        number: NO_REFUSAL,
+        place: 0,
+        count: listed,
+    }
+}
