@@ -1,6 +1,6 @@
 -- The grounds 5, 6 and 7: what is left to test from an index on decides. Assumes nothing.
 use mathlib.Core.Path.{_≡_, refl, sym, ap, ap₂, subst, _∙_}
-use mathlib.Core.Bool.{Bool, true, false, _||_, cond}
+use mathlib.Core.Bool.{Bool, true, false, _&&_, _||_, not, cond}
 use mathlib.Core.List.{List, [], _∷_}
 use mathlib.Core.Logic.{_⊎_, inl, inr, ⊎-elim}
 use Prim.Native.Nat.{ℕ, zero, suc, _+_, _≤_, _<_}
@@ -9,12 +9,12 @@ use native.Mathlib.Numerals.{add-one}
 use lib.Dec.{ltb, leb, eqb}
 use lib.ListN.{length, getD, drop, drop-of-length-le}
 use lib.Seq.{drop-cons}
-use borrow.Author.Tests.{lt-ltb, le-ltb, le-leb, lt-leb, eq-eqb, ne-eqb}
-use Rattle.table.specs.Table.{Arc, arc, arcs-of, most-wanted}
-use Rattle.table.specs.Grounds.{Refusal, refusal, no-refusal, wanted-from, wanted-refusal, arc-fault, arcs-from, arcs-refusal}
+use borrow.Author.Tests.{lt-ltb, le-ltb, le-leb, lt-leb, eq-eqb, ne-eqb, not-true, not-false}
+use Rattle.table.specs.Table.{Arc, arc, arcs-of, most-nodes, most-arcs, most-wanted}
+use Rattle.table.specs.Grounds.{Refusal, Room, room, refusal, no-refusal, or-else, columns-bad, rooms-fit, table-refusal, wanted-from, wanted-refusal, arc-fault, arcs-from, arcs-refusal}
 use Rattle.auction.proofs.Basics.{true-or}
 use Rattle.planner.specs.declared.grounds.Fault.{Fault}
-use Rattle.planner.specs.Plan.{refusal-of}
+use Rattle.planner.specs.Plan.{refusal-of, rooms}
 
 pub no-fault : (f : Fault) → (f .number ≡ 0) × (f .place ≡ 0) → refusal-of f ≡ no-refusal
 unfolding refusal-of no-refusal
@@ -81,3 +81,92 @@ module _ (n : ℕ) (ts hs ls : List ℕ) (eh : length hs ≡ length ts) (el : le
   pub arcs-done : (i : ℕ) → length ts ≤ i → no-refusal ≡ arcs-left i
   unfolding arcs-of arcs-from
   arcs-done i h = rw (drop-of-length-le ts h)
+
+-- THE TESTS, as Bools
+pub either-first : (a b : Bool) → a ≡ true → (a || b) ≡ true
+either-first a b e = rw e
+
+pub either-second : (a b : Bool) → b ≡ true → (a || b) ≡ true
+either-second true b e = refl
+either-second false b e = e
+
+pub neither : (a b : Bool) → a ≡ false → b ≡ false → (a || b) ≡ false
+neither a b p q = rw (p, q)
+
+not-both : (a b : Bool) → (a ≡ false) ⊎ (b ≡ false) → not (a && b) ≡ true
+not-both true true e = ⊎-elim (λ (z : true ≡ false). sym z) (λ (z : true ≡ false). sym z) e
+not-both true false e = refl
+not-both false b e = refl
+
+-- 2: the three columns
+module _ (ts hs ls : List ℕ) where
+  pub columns-differ : ((length ts ≡ length hs → ⊥) ⊎ (not (eqb (length hs) (length ls)) ≡ true)) → columns-bad ts hs ls ≡ true
+  unfolding columns-bad
+  columns-differ e =
+      either-first (not (eqb (length ts) (length hs) && eqb (length hs) (length ls))) (ltb most-arcs (length ts))
+        (not-both (eqb (length ts) (length hs)) (eqb (length hs) (length ls))
+          (⊎-elim (λ (z : length ts ≡ length hs → ⊥). inl (ne-eqb (length ts) (length hs) z)) (λ (z : not (eqb (length hs) (length ls)) ≡ true). inr (not-true _ z)) e))
+
+  pub too-many-arcs : ltb most-arcs (length ts) ≡ true → columns-bad ts hs ls ≡ true
+  unfolding columns-bad
+  too-many-arcs e = either-second (not (eqb (length ts) (length hs) && eqb (length hs) (length ls))) (ltb most-arcs (length ts)) e
+
+  pub columns-fine : length ts ≡ length hs → not (eqb (length hs) (length ls)) ≡ false → ltb most-arcs (length ts) ≡ false → columns-bad ts hs ls ≡ false
+  unfolding columns-bad
+  columns-fine a b c = rw (eq-eqb (length ts) (length hs) a, not-false (eqb (length hs) (length ls)) b, c)
+
+-- 3: the four buffers
+module _ (n m a b c d : ℕ) where
+  and-false : (p q : Bool) → q ≡ false → (p && q) ≡ false
+  and-false true q e = e
+  and-false false q e = refl
+
+  pub rooms-1 : (a ≡ n → ⊥) → rooms-fit (rooms n m a b c d) ≡ false
+  unfolding rooms-fit rooms room
+  rooms-1 h = rw (ne-eqb a n h)
+
+  pub rooms-2 : not (eqb b n) ≡ true → rooms-fit (rooms n m a b c d) ≡ false
+  unfolding rooms-fit rooms room
+  rooms-2 h = and-false (eqb a n) _ (rw (not-true (eqb b n) h))
+
+  pub rooms-3 : not (eqb c n) ≡ true → rooms-fit (rooms n m a b c d) ≡ false
+  unfolding rooms-fit rooms room
+  rooms-3 h = and-false (eqb a n) _ (and-false (eqb b n) _ (rw (not-true (eqb c n) h)))
+
+  pub rooms-4 : not (eqb d m) ≡ true → rooms-fit (rooms n m a b c d) ≡ false
+  unfolding rooms-fit rooms room
+  rooms-4 h = and-false (eqb a n) _ (and-false (eqb b n) _ (and-false (eqb c n) _ (rw (not-true (eqb d m) h))))
+
+  pub rooms-fine : a ≡ n → not (eqb b n) ≡ false → not (eqb c n) ≡ false → not (eqb d m) ≡ false → rooms-fit (rooms n m a b c d) ≡ true
+  unfolding rooms-fit rooms room
+  rooms-fine p q r s = rw (eq-eqb a n p, not-false (eqb b n) q, not-false (eqb c n) r, not-false (eqb d m) s)
+
+-- 1 TO 7 IN ORDER
+module _ (n o : ℕ) (ts hs ls ws : List ℕ) (rs : List Room) where
+  pub at-1 : (eqb n 0 || ltb most-nodes n) ≡ true → refusal 1 0 ≡ table-refusal n o ts hs ls ws rs
+  unfolding table-refusal
+  at-1 e = rw e
+
+  module _ (nodes-fine : (eqb n 0 || ltb most-nodes n) ≡ false) where
+    pub at-2 : columns-bad ts hs ls ≡ true → refusal 2 0 ≡ table-refusal n o ts hs ls ws rs
+    unfolding table-refusal
+    at-2 e = rw (nodes-fine, e)
+
+    module _ (arcs-fine : columns-bad ts hs ls ≡ false) where
+      pub at-3 : rooms-fit rs ≡ false → refusal 3 0 ≡ table-refusal n o ts hs ls ws rs
+      unfolding table-refusal
+      at-3 e = rw (nodes-fine, arcs-fine, e)
+
+      module _ (buffers-fine : rooms-fit rs ≡ true) where
+        pub at-4 : n ≤ o → refusal 4 0 ≡ table-refusal n o ts hs ls ws rs
+        unfolding table-refusal
+        at-4 e = rw (nodes-fine, arcs-fine, buffers-fine, le-leb n o e)
+
+        module _ (origin-fine : o < n) where
+          pub at-5 : (r : Refusal) → r ≡ wanted-refusal n ws → (r .number ≡ 0 → ⊥) → r ≡ table-refusal n o ts hs ls ws rs
+          unfolding table-refusal or-else
+          at-5 r e d = rw (nodes-fine, arcs-fine, buffers-fine, lt-leb n o origin-fine, ← e, ne-eqb (r .number) 0 d)
+
+          pub at-6 : (w r : Refusal) → w ≡ wanted-refusal n ws → w .number ≡ 0 → r ≡ arcs-refusal n (arcs-of ts hs ls) → r ≡ table-refusal n o ts hs ls ws rs
+          unfolding table-refusal or-else
+          at-6 w r e z f = rw (nodes-fine, arcs-fine, buffers-fine, lt-leb n o origin-fine, ← e, eq-eqb (w .number) 0 z) f

@@ -1,1 +1,4 @@
 pub mod Faults
+pub mod Entries
+pub mod Marks
+pub mod Handing

@@ -4,10 +4,11 @@
 -- as it was lent. Otherwise the answer and the buffers are what the auction hands over, also where it ends without a route, which is number 8.
 use mathlib.Core.Bool.{cond}
 use mathlib.Core.List.{List, [], _∷_}
-use Prim.Native.Nat.{ℕ}
+use mathlib.Core.Path.{_≡_}
+use Prim.Native.Nat.{ℕ, _<_}
 use lib.Dec.{eqb}
-use lib.ListN.{length}
-use Rattle.table.specs.Table.{Table, table-of}
+use lib.ListN.{length, getD}
+use Rattle.table.specs.Table.{Table, table-of, no-distance}
 use Rattle.table.specs.Grounds.{Refusal, Room, refusal, room, table-refusal}
 use Rattle.auction.specs.Auction.{auction}
 use Rattle.auction.specs.HandOver.{Answer, answer, handed-over}
@@ -44,3 +45,15 @@ plan n o ts hs ls ws ds ps tr ms =
 -- a ground's number and place, as the code has them
 unfoldable pub refusal-of : Fault → Refusal
 refusal-of f = refusal (f .number) (f .place)
+
+-- what the hand-over may rely on: the two arrays are as long as each other, and every reached node has a distance
+pub record Known (bound status : List ℕ) : Type 0 where
+  pub as-long : length bound ≡ length status
+  pub has-distance : (v : ℕ) → 0 < getD status v 0 → getD bound v 0 < no-distance
+
+-- and the ends of every arc are nodes
+pub record Ends (tails heads kept status : List ℕ) : Type 0 where
+  pub tail-count : length tails ≡ length heads
+  pub kept-count : length kept ≡ length status
+  pub head-in : (i : ℕ) → i < length heads → getD heads i 0 < length status
+  pub tail-in : (i : ℕ) → i < length heads → getD tails i 0 < length status

@@ -1,1 +1,189 @@
 // What a run hands over. The entries of a buffer are made from the last to the first, as the definitions list them.
+ghost use mathlib.Core.Path.{_≡_};
+ghost use mathlib.Core.Bool.{cond};
+ghost use mathlib.Core.List.{List};
+ghost use Prim.Native.Nat.{ℕ, max, _≤_, _<_};
+ghost use lib.Dec.{ltb, eqb};
+ghost use lib.ListN.{length, getD};
+ghost use Rattle.table.specs.Table.{Table, arc-count, tail-at, head-at, no-arc, no-distance};
+ghost use Rattle.table.specs.Grounds.{no-refusal, refusal};
+ghost use Rattle.auction.specs.HandOver.{horizon, reached-count, distances, prices, tree, marks, mark-number};
+ghost use Rattle.solver.specs.declared.state.Progress.{Progress};
+ghost use Rattle.solver.specs.Seen.{seen};
+ghost use Rattle.planner.specs.Plan.{Known, Ends, refusal-of};
+use super::grounds::Fault;
+use solver::run::Ended;
+use solver::state::State;
+use table::{NO_ARC, NO_DISTANCE};
+
+// A 16-bit node number as an index.
+fn wide(x: u16) -> usize
+    ensures same { λ r. ⌜ r ≡ x ⌝ }
+    ensures low { λ r. ⌜ r < 65536 ⌝ }
+{
+    x as usize
+}
+
+// A reached node's distance, or another number.
+fn distance_or(other: u64, v: usize, bound: &[u64], status: &[u8]) -> u64
+    requires { ⌜ (v < length (now bound)) × (v < length (now status)) ⌝ }
+    ensures { λ r. ⌜ r ≡ cond (ltb 0 (getD (now (status .entry)) v 0)) (getD (now (bound .entry)) v 0) other ⌝ }
+{
+    if status[v] == State::UNREACHED {
+        return other;
+    }
+    bound[v]
+}
+
+fn larger(a: u64, b: u64) -> u64
+    ensures { λ r. ⌜ r ≡ max a b ⌝ }
+{
+    if a < b {
+        return b;
+    }
+    a
+}
+
+// The horizon: the largest distance reached.
+fn horizon_of(bound: &[u64], status: &[u8]) -> u64
+    requires { ⌜ Known (now bound) (now status) ⌝ }
+    ensures { λ r. ⌜ ((t : Table) (path price kept : List ℕ) (g : Progress) → t .n ≡ length (now (status .entry)) → r ≡ horizon t (seen path price (now (bound .entry)) kept (now (status .entry)) g)) ⌝ }
+{
+    let mut h: u64 = 0;
+    let mut v = status.len();
+    while 0 < v {
+        v = v - 1;
+        h = larger(distance_or(0, v, bound, status), h);
+    }
+    h
+}
+
+// 1 for a reached node, else 0.
+fn one_if_reached(v: usize, status: &[u8]) -> u32
+    requires { ⌜ v < length (now status) ⌝ }
+    ensures { λ r. ⌜ r ≡ cond (ltb 0 (getD (now (status .entry)) v 0)) 1 0 ⌝ }
+{
+    if status[v] == State::UNREACHED {
+        return 0;
+    }
+    1
+}
+
+// How many nodes have been reached.
+fn count_reached(status: &[u8]) -> u32
+    requires { ⌜ length (now status) ≤ 1024 ⌝ }
+    ensures { λ r. ⌜ ((t : Table) (path price bound kept : List ℕ) (g : Progress) → t .n ≡ length (now (status .entry)) → r ≡ reached-count t (seen path price bound kept (now (status .entry)) g)) ⌝ }
+{
+    let mut count: u32 = 0;
+    let mut v = status.len();
+    while 0 < v {
+        v = v - 1;
+        count = one_if_reached(v, status) + count;
+    }
+    count
+}
+
+// The distance column.
+fn fill_distances(bound: &[u64], status: &[u8], out: &mut [u64])
+    requires { ⌜ Known (now bound) (now status) ⌝ }
+    requires { ⌜ length (now out) ≡ length (now status) ⌝ }
+    ensures { λ _. ⌜ ((t : Table) (path price kept : List ℕ) (g : Progress) → t .n ≡ length (now (status .entry)) → now (out .exit) ≡ distances t (seen path price (now (bound .entry)) kept (now (status .entry)) g)) ⌝ }
+{
+    let mut v = out.len();
+    while 0 < v {
+        v = v - 1;
+        out[v] = distance_or(NO_DISTANCE, v, bound, status);
+    }
+}
+
+// The price column: the horizon less the distance.
+fn fill_prices(horizon: u64, bound: &[u64], status: &[u8], out: &mut [u64])
+    requires { ⌜ Known (now bound) (now status) ⌝ }
+    requires { ⌜ length (now out) ≡ length (now status) ⌝ }
+    requires { ⌜ ((v : ℕ) → v < length (now status) → 0 < getD (now status) v 0 → getD (now bound) v 0 ≤ horizon) ⌝ }
+    ensures { λ _. ⌜ ((t : Table) (path price kept : List ℕ) (g : Progress) → t .n ≡ length (now (status .entry)) → horizon ≡ Rattle.auction.specs.HandOver.horizon t (seen path price (now (bound .entry)) kept (now (status .entry)) g) → now (out .exit) ≡ prices t (seen path price (now (bound .entry)) kept (now (status .entry)) g)) ⌝ }
+{
+    let mut v = out.len();
+    while 0 < v {
+        v = v - 1;
+        out[v] = horizon - distance_or(horizon, v, bound, status);
+    }
+}
+
+// A reached node's kept arc, or no arc.
+fn arc_of(v: usize, kept: &[u16], status: &[u8]) -> u16
+    requires { ⌜ (v < length (now kept)) × (v < length (now status)) ⌝ }
+    ensures { λ r. ⌜ r ≡ cond (ltb 0 (getD (now (status .entry)) v 0)) (getD (now (kept .entry)) v 0) no-arc ⌝ }
+{
+    if status[v] == State::UNREACHED {
+        return NO_ARC;
+    }
+    kept[v]
+}
+
+// The tree column.
+fn fill_tree(kept: &[u16], status: &[u8], out: &mut [u16])
+    requires { ⌜ (length (now kept) ≡ length (now status)) × (length (now out) ≡ length (now status)) ⌝ }
+    ensures { λ _. ⌜ ((t : Table) (path price bound : List ℕ) (g : Progress) → t .n ≡ length (now (status .entry)) → now (out .exit) ≡ tree t (seen path price bound (now (kept .entry)) (now (status .entry)) g)) ⌝ }
+{
+    let mut v = out.len();
+    while 0 < v {
+        v = v - 1;
+        out[v] = arc_of(v, kept, status);
+    }
+}
+
+// An arc's mark, by whether its head and its tail have been reached and whether it is its head's kept arc.
+fn mark(head: bool, tail: bool, kept: bool) -> u8
+    ensures { λ r. ⌜ r ≡ mark-number head tail kept ⌝ }
+{
+    let case = (head as u8) * 4 + (tail as u8) * 2 + (kept as u8);
+    match case {
+        // the tree arc of a reached node
+        5 | 7 => 3,
+        // another arc into a reached node, or out of one and not kept
+        2 | 4 | 6 => 1,
+        // kept into an unreached node
+        3 => 2,
+        // both ends unreached
+        _ => 0,
+    }
+}
+
+// The mark of the arc at a position.
+fn mark_at(i: usize, tails: &[u16], heads: &[u16], kept: &[u16], status: &[u8]) -> u8
+    requires { ⌜ Ends (now tails) (now heads) (now kept) (now status) ⌝ }
+    requires { ⌜ (i < length (now heads)) × (i < no-arc) ⌝ }
+    ensures { λ r. ⌜ r ≡ mark-number (ltb 0 (getD (now (status .entry)) (getD (now (heads .entry)) i 0) 0)) (ltb 0 (getD (now (status .entry)) (getD (now (tails .entry)) i 0) 0)) (eqb (getD (now (kept .entry)) (getD (now (heads .entry)) i 0) 0) i) ⌝ }
+{
+    let head = wide(heads[i]);
+    let tail = wide(tails[i]);
+    mark(status[head] != State::UNREACHED, status[tail] != State::UNREACHED, wide(kept[head]) == i)
+}
+
+// The marks.
+fn fill_marks(tails: &[u16], heads: &[u16], kept: &[u16], status: &[u8], out: &mut [u8])
+    requires { ⌜ Ends (now tails) (now heads) (now kept) (now status) ⌝ }
+    requires { ⌜ (length (now out) ≡ length (now heads)) × (length (now heads) < no-arc) ⌝ }
+    ensures { λ _. ⌜ ((t : Table) (path price bound : List ℕ) (g : Progress) → arc-count t ≡ length (now (heads .entry)) → ((i : ℕ) → i < arc-count t → head-at t i ≡ getD (now (heads .entry)) i 0) → ((i : ℕ) → i < arc-count t → tail-at t i ≡ getD (now (tails .entry)) i 0) → now (out .exit) ≡ marks t (seen path price bound (now (kept .entry)) (now (status .entry)) g)) ⌝ }
+{
+    let mut i = out.len();
+    while 0 < i {
+        i = i - 1;
+        out[i] = mark_at(i, tails, heads, kept, status);
+    }
+}
+
+// 8 at the first wanted node that is missing, or no refusal where none is.
+fn route_fault(missing: usize, wanted: usize) -> Fault
+    requires { ⌜ missing ≤ 1024 ⌝ }
+    ensures { λ r. ⌜ refusal-of r ≡ cond (eqb missing wanted) no-refusal (refusal 8 missing) ⌝ }
+{
+    if missing == wanted {
+        return Fault::none();
+    }
+    Fault {
+        number: 8,
+        place: missing as u32,
+    }
+}

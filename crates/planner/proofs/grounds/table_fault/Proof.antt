@@ -1,3 +1,16 @@
+-- The tests in their order, each as a Bool of the definition. Assumes nothing.
+use mathlib.Core.Path.{_≡_, refl, sym, ap, _∙_}
+use mathlib.Core.Bool.{true, false, _||_}
+use mathlib.Core.Logic.{inl, inr, ⊎-elim}
+use Prim.Native.Nat.{ℕ, _≤_, _<_}
+use native.Mathlib.Omega.{arith}
+use lib.Dec.{ltb, eqb}
+use lib.ListN.{length}
+use borrow.Author.Tests.{eq-eqb, ne-eqb, eqb-true, not-false, ltb-false}
+use Rattle.table.specs.Table.{most-nodes}
+use Rattle.table.specs.Grounds.{columns-bad, rooms-fit, refusal}
+use Rattle.planner.specs.Plan.{refusal-of, rooms}
+use Rattle.planner.proofs.Faults.{either-first, either-second, neither, columns-differ, too-many-arcs, columns-fine, rooms-1, rooms-2, rooms-3, rooms-4, rooms-fine, at-1, at-2, at-3, at-4, at-5, at-6}
 use borrow.Author.Needs.{needs}
 use Rattle.planner.proofs.grounds.table_fault.Statement.{statement}
 use Rattle.planner.proofs.grounds.table_fault.Tie as tie
@@ -7,17 +20,55 @@ use Rattle.planner.proofs.grounds.arcs_fault.Reads as arcs-fault-reads
 use Rattle.planner.proofs.grounds.node.Reads as node-reads
 use Rattle.planner.proofs.grounds.wanted_fault.Reads as wanted-fault-reads
 
+-- what each test leaves
+nodes-fine : (c : tie.Else2) → (eqb (c .before .before .before .before .before .before .args .n) 0 || ltb most-nodes (c .before .before .before .before .before .before .args .n)) ≡ false
+nodes-fine c = neither _ _ (ne-eqb (c .before .before .before .before .before .before .args .n) 0 (c .before .if1 .left)) (c .if2 .left)
+
+arcs-fine : (c : tie.Else5) → let a = c .before .before .before .before .before .before .before .before .before .args in columns-bad (a .tails .now) (a .heads .now) (a .lengths .now) ≡ false
+arcs-fine c =
+    let a = c .before .before .before .before .before .before .before .before .before .args in columns-fine (a .tails .now) (a .heads .now) (a .lengths .now) (c .before .before .if3 .left) (c .before .if4 .left) (c .if5 .left)
+
+buffers-fine : (c : tie.Else9) →
+    let a = c .before .before .before .before .before .before .before .before .before .before .before .before .before .args in rooms-fit (rooms (a .n) (length (a .tails .now)) (a .distances) (a .prices) (a .tree) (a .marks)) ≡ true
+buffers-fine c =
+    let a = c .before .before .before .before .before .before .before .before .before .before .before .before .before .args in
+    rooms-fine (a .n) (length (a .tails .now)) (a .distances) (a .prices) (a .tree) (a .marks) (c .before .before .before .if6 .left) (c .before .before .if7 .left) (c .before .if8 .left) (c .if9 .left)
+
 -- src/grounds.rt:94:9
 returns : tie.Need-returns
-returns c = ?
+unfolding refusal-of refusal
+returns c = 
+    let a = c .before .before .before .before .before .args in
+    at-1 (a .n) (a .origin) (a .tails .now) (a .heads .now) (a .lengths .now) (a .wanted .now) _
+      (⊎-elim (λ w. either-first (eqb (a .n) 0) _ (eq-eqb (a .n) 0 (w .taken))) (λ w. either-second (eqb (a .n) 0) _ (w .1 .taken)) (c .if1 .came))
 
 -- src/grounds.rt:97:9
 returns-2 : tie.Need-returns-2
-returns-2 c = ?
+unfolding refusal-of refusal
+returns-2 c = 
+    let a = c .before .before .before .before .before .before .before .args in
+    at-2 (a .n) (a .origin) (a .tails .now) (a .heads .now) (a .lengths .now) (a .wanted .now) _ (nodes-fine (c .before))
+      (⊎-elim (λ w. columns-differ (a .tails .now) (a .heads .now) (a .lengths .now) (inl (w .taken)))
+        (λ z.
+        ⊎-elim (λ w. columns-differ (a .tails .now) (a .heads .now) (a .lengths .now) (inr (w .1 .taken)))
+          (λ w. too-many-arcs (a .tails .now) (a .heads .now) (a .lengths .now) (w .2 .taken)) z)
+        (c .if3 .came))
 
 -- src/grounds.rt:101:9
 returns-3 : tie.Need-returns-3
-returns-3 c = ?
+unfolding refusal-of refusal
+returns-3 c = 
+    let a = c .before .before .before .before .before .before .before .before .before .before .args in
+    let m = length (a .tails .now) in
+    at-3 (a .n) (a .origin) (a .tails .now) (a .heads .now) (a .lengths .now) (a .wanted .now) _ (nodes-fine (c .before .before .before .before)) (arcs-fine (c .before))
+      (⊎-elim (λ w. rooms-1 (a .n) m (a .distances) (a .prices) (a .tree) (a .marks) (w .taken))
+        (λ z.
+        ⊎-elim (λ w. rooms-2 (a .n) m (a .distances) (a .prices) (a .tree) (a .marks) (w .1 .taken))
+          (λ y.
+          ⊎-elim (λ w. rooms-3 (a .n) m (a .distances) (a .prices) (a .tree) (a .marks) (w .2 .taken))
+            (λ w. rooms-4 (a .n) m (a .distances) (a .prices) (a .tree) (a .marks) (w .3 .taken)) y)
+          z)
+        (c .if6 .came))
 
 -- src/grounds.rt:103:13
 node-requires : tie.Need-node-requires
@@ -25,7 +76,11 @@ node-requires c κs = search needs
 
 -- src/grounds.rt:104:9
 returns-4 : tie.Need-returns-4
-returns-4 c = ?
+unfolding refusal-of refusal
+returns-4 c = 
+    let a = c .before .before .before .before .before .before .before .before .before .before .before .before .before .before .before .args in
+    at-4 (a .n) (a .origin) (a .tails .now) (a .heads .now) (a .lengths .now) (a .wanted .now) _ (nodes-fine (c .before .before .before .before .before .before .before .before .before)) (arcs-fine (c .before .before .before .before .before .before)) (buffers-fine (c .before .before))
+      (omega (arith, c .before .node .ensures, c .if10 .taken))
 
 -- src/grounds.rt:106:9
 wanted-fault-requires : tie.Need-wanted-fault-requires
@@ -33,15 +88,27 @@ wanted-fault-requires c κs = search needs
 
 -- src/grounds.rt:108:9
 returns-5 : tie.Need-returns-5
-returns-5 c = ?
+unfolding refusal-of refusal
+returns-5 c = 
+    let a = c .before .before .before .before .before .before .before .before .before .before .before .before .before .before .before .before .before .before .args in
+    at-5 (a .n) (a .origin) (a .tails .now) (a .heads .now) (a .lengths .now) (a .wanted .now) _ (nodes-fine (c .before .before .before .before .before .before .before .before .before .before .before .before)) (arcs-fine (c .before .before .before .before .before .before .before .before .before)) (buffers-fine (c .before .before .before .before .before))
+      (omega (arith, c .before .before .before .before .node .ensures, c .before .before .before .if10 .left)) _ (c .before .before .wanted-fault .ensures) (c .if11 .taken)
 
 -- src/grounds.rt:110:5
 arcs-fault-requires : tie.Need-arcs-fault-requires
-arcs-fault-requires c κs = ?
+arcs-fault-requires c κs = 
+    let a = c .before .before .before .before .before .before .before .before .before .before .before .before .before .before .before .before .before .before .args in
+    let h = c .before .before .before .before .before .before .before .before .before .before .before .if3 .left in
+    let l : length (a .heads .now) ≡ length (a .lengths .now) = eqb-true _ _ (not-false _ (c .before .before .before .before .before .before .before .before .before .before .if4 .left)) in
+    (sym h, (sym (h ∙ l), ltb-false _ _ (c .before .before .before .before .before .before .before .before .before .if5 .left)))
 
 -- src/grounds.rt:89:1
 returns-6 : tie.Need-returns-6
-returns-6 c = ?
+unfolding refusal-of refusal
+returns-6 c = 
+    let a = c .before .before .before .before .before .before .before .before .before .before .before .before .before .before .before .before .before .before .before .args in
+    at-6 (a .n) (a .origin) (a .tails .now) (a .heads .now) (a .lengths .now) (a .wanted .now) _ (nodes-fine (c .before .before .before .before .before .before .before .before .before .before .before .before .before)) (arcs-fine (c .before .before .before .before .before .before .before .before .before .before)) (buffers-fine (c .before .before .before .before .before .before))
+      (omega (arith, c .before .before .before .before .before .node .ensures, c .before .before .before .before .if10 .left)) _ _ (c .before .before .before .wanted-fault .ensures) (c .before .if11 .left) (c .arcs-fault .ensures)
 
 pub table-fault-spec : {M : Type 1} → statement M
 table-fault-spec =
