@@ -5,10 +5,10 @@
 use mathlib.Core.Bool.{cond}
 use mathlib.Core.List.{List, [], _∷_}
 use mathlib.Core.Path.{_≡_}
-use Prim.Native.Nat.{ℕ, _<_}
+use Prim.Native.Nat.{ℕ, _≤_, _<_}
 use lib.Dec.{eqb}
 use lib.ListN.{length, getD}
-use Rattle.table.specs.Table.{Table, table-of, no-distance}
+use Rattle.table.specs.Table.{Table, table-of, arc-count, tail-at, head-at, no-distance, most-nodes, most-arcs}
 use Rattle.table.specs.Grounds.{Refusal, Room, refusal, room, table-refusal}
 use Rattle.auction.specs.Auction.{auction}
 use Rattle.auction.specs.HandOver.{Answer, answer, handed-over}
@@ -57,3 +57,19 @@ pub record Ends (tails heads kept status : List ℕ) : Type 0 where
   pub kept-count : length kept ≡ length status
   pub head-in : (i : ℕ) → i < length heads → getD heads i 0 < length status
   pub tail-in : (i : ℕ) → i < length heads → getD tails i 0 < length status
+
+-- and the buffers have the room that they need, for few nodes and few arcs
+pub record Fitting (n m : ℕ) (distances prices tree marks : List ℕ) : Type 0 where
+  pub few-nodes : n ≤ most-nodes
+  pub few-arcs : m ≤ most-arcs
+  pub distances-long : length distances ≡ n
+  pub prices-long : length prices ≡ n
+  pub tree-long : length tree ≡ n
+  pub marks-long : length marks ≡ m
+
+-- the columns hold the ends of a table's arcs
+pub record Columns (t : Table) (n : ℕ) (tails heads : List ℕ) : Type 0 where
+  pub nodes : t .n ≡ n
+  pub count : arc-count t ≡ length heads
+  pub head : (i : ℕ) → i < arc-count t → head-at t i ≡ getD heads i 0
+  pub tail : (i : ℕ) → i < arc-count t → tail-at t i ≡ getD tails i 0

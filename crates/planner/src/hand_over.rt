@@ -2,7 +2,7 @@
 ghost use mathlib.Core.Path.{_≡_};
 ghost use mathlib.Core.Bool.{cond};
 ghost use mathlib.Core.List.{List};
-ghost use Prim.Native.Nat.{ℕ, max, _≤_, _<_};
+ghost use Prim.Native.Nat.{ℕ, max, _+_, _≤_, _<_};
 ghost use lib.Dec.{ltb, eqb};
 ghost use lib.ListN.{length, getD};
 ghost use Rattle.table.specs.Table.{Table, arc-count, tail-at, head-at, no-arc, no-distance};
@@ -10,8 +10,10 @@ ghost use Rattle.table.specs.Grounds.{no-refusal, refusal};
 ghost use Rattle.auction.specs.HandOver.{horizon, reached-count, distances, prices, tree, marks, mark-number};
 ghost use Rattle.solver.specs.declared.state.Progress.{Progress};
 ghost use Rattle.solver.specs.Seen.{seen};
-ghost use Rattle.planner.specs.Plan.{Known, Ends, refusal-of};
+ghost use Rattle.solver.specs.Steps.{Ran};
+ghost use Rattle.planner.specs.Plan.{Known, Ends, Fitting, Columns, answered, routed, refusal-of};
 use super::grounds::Fault;
+use super::Planned;
 use solver::run::Ended;
 use solver::state::State;
 use table::{NO_ARC, NO_DISTANCE};
@@ -47,7 +49,8 @@ fn larger(a: u64, b: u64) -> u64
 // The horizon: the largest distance reached.
 fn horizon_of(bound: &[u64], status: &[u8]) -> u64
     requires { ⌜ Known (now bound) (now status) ⌝ }
-    ensures { λ r. ⌜ ((t : Table) (path price kept : List ℕ) (g : Progress) → t .n ≡ length (now (status .entry)) → r ≡ horizon t (seen path price (now (bound .entry)) kept (now (status .entry)) g)) ⌝ }
+    ensures so { λ r. ⌜ ((t : Table) (path price kept : List ℕ) (g : Progress) → t .n ≡ length (now (status .entry)) → r ≡ horizon t (seen path price (now (bound .entry)) kept (now (status .entry)) g)) ⌝ }
+    ensures above { λ r. ⌜ ((v : ℕ) → v < length (now (status .entry)) → 0 < getD (now (status .entry)) v 0 → getD (now (bound .entry)) v 0 ≤ r) ⌝ }
 {
     let mut h: u64 = 0;
     let mut v = status.len();
@@ -185,5 +188,45 @@ fn route_fault(missing: usize, wanted: usize) -> Fault
     Fault {
         number: 8,
         place: missing as u32,
+    }
+}
+
+// The answer and the four buffers, from where a run has ended.
+pub fn hand_over(
+    end: Ended,
+    wanted: usize,
+    tails: &[u16],
+    heads: &[u16],
+    bound: &[u64],
+    kept: &[u16],
+    status: &[u8],
+    distances: &mut [u64],
+    prices: &mut [u64],
+    tree: &mut [u16],
+    marks: &mut [u8],
+) -> Planned
+    requires { ⌜ Known (now bound) (now status) ⌝ }
+    requires { ⌜ Ends (now tails) (now heads) (now kept) (now status) ⌝ }
+    requires { ⌜ Fitting (length (now status)) (length (now heads)) (now distances) (now prices) (now tree) (now marks) ⌝ }
+    requires { ⌜ (end .missing ≤ 1024) × (end .progress .contractions + end .progress .extensions + end .progress .deletions < 4294967296) ⌝ }
+    ensures { λ r. ⌜ ((t : Table) (ws path price : List ℕ) → Columns t (length (now (status .entry))) (now (tails .entry)) (now (heads .entry)) → length ws ≡ wanted → Ran t ws (end .missing) (seen path price (now (bound .entry)) (now (kept .entry)) (now (status .entry)) (end .progress)) → answered r (now (distances .exit)) (now (prices .exit)) (now (tree .exit)) (now (marks .exit)) ≡ routed t ws) ⌝ }
+{
+    let fault = route_fault(end.missing, wanted);
+    let reached = count_reached(status);
+    let horizon = horizon_of(bound, status);
+    fill_distances(bound, status, distances);
+    fill_prices(horizon, bound, status, prices);
+    fill_tree(kept, status, tree);
+    fill_marks(tails, heads, kept, status, marks);
+    let counts = end.progress;
+    Planned {
+        number: fault.number,
+        place: fault.place,
+        reached: reached,
+        horizon: horizon,
+        iterations: counts.contractions + counts.extensions + counts.deletions,
+        contractions: counts.contractions,
+        extensions: counts.extensions,
+        deletions: counts.deletions,
     }
 }

@@ -1,6 +1,13 @@
 // Planning: the grounds on which a table is turned down, the run, and the four buffers that are handed over.
 ghost use mathlib.Core.Path.{_≡_};
-ghost use Rattle.planner.specs.Plan.{answered, plan};
+ghost use mathlib.Core.Bool.{true};
+ghost use lib.ListN.{length};
+ghost use Rattle.table.specs.Table.{table-of, is-table};
+ghost use Rattle.planner.specs.Plan.{Fitting, answered, routed, plan};
+use grounds::table_fault;
+use hand_over::hand_over;
+use solver::run::run;
+use solver::state::State;
 mod grounds;
 mod hand_over;
 
@@ -14,4 +21,65 @@ pub struct Planned {
     pub contractions: u64,
     pub extensions: u64,
     pub deletions: u64,
+}
+
+// The run on a table that is not turned down, and what it hands over.
+fn plan_table(
+    n: usize,
+    origin: u16,
+    tails: &[u16],
+    heads: &[u16],
+    lengths: &[u32],
+    wanted: &[u16],
+    distances: &mut [u64],
+    prices: &mut [u64],
+    tree: &mut [u16],
+    marks: &mut [u8],
+) -> Planned
+    requires { ⌜ (length (now heads) ≡ length (now tails)) × (length (now lengths) ≡ length (now tails)) ⌝ }
+    requires { ⌜ is-table (table-of n origin (now tails) (now heads) (now lengths)) (now wanted) ≡ true ⌝ }
+    requires { ⌜ Fitting n (length (now heads)) (now distances) (now prices) (now tree) (now marks) ⌝ }
+    ensures { λ r. ⌜ answered r (now (distances .exit)) (now (prices .exit)) (now (tree .exit)) (now (marks .exit)) ≡ routed (table-of n origin (now (tails .entry)) (now (heads .entry)) (now (lengths .entry))) (now (wanted .entry)) ⌝ }
+{
+    let state = State::fresh(origin);
+    let mut path = state.path;
+    let mut price = state.price;
+    let mut bound = state.bound;
+    let mut kept = state.kept;
+    let mut status = state.status;
+    let progress = state.progress;
+    let end = run(progress, origin, tails, heads, lengths, wanted, &mut path[..n], &mut price[..n], &mut bound[..n], &mut kept[..n], &mut status[..n]);
+    hand_over(end, wanted.len(), tails, heads, &bound[..n], &kept[..n], &status[..n], distances, prices, tree, marks)
+}
+
+// Plans the routes of a link table from its origin to the wanted nodes: the answer, and a distance, a price and a tree arc for each
+// node and a mark for each arc in the four buffers. specs/Plan.antt says what they hold, for every input.
+pub fn plan_routes(
+    n: u32,
+    origin: u16,
+    tails: &[u16],
+    heads: &[u16],
+    lengths: &[u32],
+    wanted: &[u16],
+    distances: &mut [u64],
+    prices: &mut [u64],
+    tree: &mut [u16],
+    marks: &mut [u8],
+) -> Planned
+    ensures { λ r. ⌜ answered r (now (distances .exit)) (now (prices .exit)) (now (tree .exit)) (now (marks .exit)) ≡ plan n origin (now (tails .entry)) (now (heads .entry)) (now (lengths .entry)) (now (wanted .entry)) (now (distances .entry)) (now (prices .entry)) (now (tree .entry)) (now (marks .entry)) ⌝ }
+{
+    let fault = table_fault(n, origin, tails, heads, lengths, wanted, distances.len(), prices.len(), tree.len(), marks.len());
+    if fault.number != 0 {
+        return Planned {
+            number: fault.number,
+            place: fault.place,
+            reached: 0,
+            horizon: 0,
+            iterations: 0,
+            contractions: 0,
+            extensions: 0,
+            deletions: 0,
+        };
+    }
+    plan_table(n as usize, origin, tails, heads, lengths, wanted, distances, prices, tree, marks)
 }

@@ -226,6 +226,11 @@ module _ {ws : List ℕ} {o : ℕ} {hs ls first nexts : List ℕ} where
     counted-so : (t : Table) (bg : Begun start t ws o hs ls first nexts x₀) → iterations (seen p u b k s g) < 4294967296
     counted-so t bg = omega (arith, i .round t bg .running .few, few-in-all (t .n) (i .round t bg .running .good .few-nodes))
 
+    bounded-so : (t : Table) (bg : Begun start t ws o hs ls first nexts x₀) (v : ℕ) → was-reached (seen p u b k s g) v ≡ true →
+        bound-at (seen p u b k s g) v ≡ none → ⊥
+    bounded-so t bg v e z =
+        omega (arith, reached-status (seen p u b k s g) v e, i .round t bg .running .invariant .sound .nodes .unbounded v z)
+
     -- the two ends
     pub ends : length ws ≤ w → (t : Table) → Begun start t ws o hs ls first nexts x₀ → Ran t ws w (seen p u b k s g)
     ends h t bg =
@@ -233,6 +238,8 @@ module _ {ws : List ℕ} {o : ℕ} {hs ls first nexts : List ℕ} where
         record {
           ended-so = rw (eq-eqb w (length ws) (omega (arith, i .low))) (done (r .running) (none-missing ws (seen p u b k s g) (omega (arith, r .missing))));
           first-so = r .missing;
+          inside = i .low;
+          bounded = bounded-so t bg;
           few = counted-so t bg;
         }
 
@@ -246,5 +253,7 @@ module _ {ws : List ℕ} {o : ℕ} {hs ls first nexts : List ℕ} where
         record {
           ended-so = rw (ne-eqb w (length ws) (λ z. omega arith)) (stuck (r .running) (still-missing h t bg) e);
           first-so = r .missing;
+          inside = i .low;
+          bounded = bounded-so t bg;
           few = counted-so t bg;
         }

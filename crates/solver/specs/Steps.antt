@@ -7,7 +7,7 @@ use Prim.Native.Nat.{ℕ, _+_, _≤_, _<_}
 use lib.Dec.{eqb}
 use lib.ListN.{length, getD, drop}
 use Rattle.table.specs.Table.{Table, is-table, tail-at, head-at, length-at, no-arc}
-use Rattle.auction.specs.Auction.{State, Bid, offer, distance, lower-bid, auction, ended, iterations}
+use Rattle.auction.specs.Auction.{State, Bid, offer, distance, lower-bid, auction, ended, iterations, was-reached, bound-at}
 use Rattle.auction.specs.HandOver.{first-missing}
 use Rattle.solver.specs.declared.state.Progress.{Progress}
 use Rattle.solver.specs.Seen.{seen, greatest-sum}
@@ -40,10 +40,13 @@ pub record Begun (from : Table → State) (t : Table) (ws : List ℕ) (origin : 
   pub good : is-table t ws ≡ true
   pub begun : x ≡ from t
 
--- The run has ended: every wanted node has been reached exactly where none is missing, and the first missing one is known.
+-- The run has ended in the auction's last state: every wanted node has been reached exactly where none is missing, and the first missing one is known.
+-- Every reached node has a distance, and the iterations are few.
 pub record Ran (t : Table) (ws : List ℕ) (missing : ℕ) (x : State) : Type 0 where
   pub ended-so : auction t ws ≡ ended (eqb missing (length ws)) x
   pub first-so : missing ≡ first-missing 0 ws x
+  pub inside : missing ≤ length ws
+  pub bounded : (v : ℕ) → was-reached x v ≡ true → bound-at x v ≡ none → ⊥
   pub few : iterations x < 4294967296
 
 -- The index of the first wanted node, from an index on, that has not been reached.

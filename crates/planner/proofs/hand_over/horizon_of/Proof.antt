@@ -6,7 +6,7 @@ use native.Mathlib.Omega.{arith}
 use lib.ListN.{length}
 use Rattle.auction.specs.HandOver.{entries, greatest}
 use Rattle.planner.proofs.Entries.{greatest-none, greatest-more, all-entries}
-use Rattle.planner.proofs.Handing.{distance-entry, horizon-so}
+use Rattle.planner.proofs.Handing.{distance-entry, horizon-so, below-horizon}
 use Rattle.planner.proofs.hand_over.horizon_of.Statement.{statement}
 use Rattle.planner.proofs.hand_over.horizon_of.Tie as tie
 use Rattle.planner.proofs.hand_over.horizon_of.Reads as reads
@@ -55,13 +55,13 @@ loop-again c =
 
 -- src/hand_over.rt:48:1
 returns : tie.Need-returns Inv-loop μ-loop
-returns c = 
-    λ t path price kept g e.
+returns c =
     let s = c .before .before .before .before in
     let a = s .args in
     let l = c .before .loop in
-    l .inv .1 ∙ ap greatest (all-entries (length (a .status .now)) (l .v) (distance-entry 0 (a .bound .now) (a .status .now)) (c .loop-test .left))
-    ∙ horizon-so path price (a .bound .now) kept (a .status .now) g (s .pre) t e
+    let all = l .inv .1 ∙ ap greatest (all-entries (length (a .status .now)) (l .v) (distance-entry 0 (a .bound .now) (a .status .now)) (c .loop-test .left)) in
+    ( λ t path price kept g e. all ∙ horizon-so path price (a .bound .now) kept (a .status .now) g (s .pre) t e
+    , below-horizon (a .bound .now) (a .status .now) _ all)
 
 pub horizon-of-spec : {M : Type 1} → statement M
 horizon-of-spec =

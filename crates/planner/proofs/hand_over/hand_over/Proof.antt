@@ -1,0 +1,114 @@
+-- Each part of the answer is the definition's. Assumes nothing.
+use mathlib.Core.Path.{_≡_, refl, sym, subst, _∙_}
+use Prim.Native.Nat.{ℕ, _+_, _≤_, _<_}
+use native.Mathlib.Omega.{arith}
+use Rattle.auction.specs.Auction.{state, iterations}
+use Rattle.solver.specs.Seen.{seen}
+use mathlib.Core.Bool.{cond}
+use lib.Dec.{eqb}
+use Rattle.table.specs.Grounds.{no-refusal, refusal}
+use Rattle.planner.specs.Plan.{answered, refusal-of}
+use Rattle.planner.proofs.Handing.{assembled}
+use borrow.Author.Needs.{needs}
+use Rattle.planner.proofs.hand_over.hand_over.Statement.{statement}
+use Rattle.planner.proofs.hand_over.hand_over.Tie as tie
+use Rattle.planner.proofs.hand_over.hand_over.Reads as reads
+use Rattle.planner.proofs.hand_over.hand_over.Lts as lts
+use Rattle.planner.proofs.hand_over.count_reached.Reads as count-reached-reads
+use Rattle.planner.proofs.hand_over.fill_distances.Reads as fill-distances-reads
+use Rattle.planner.proofs.hand_over.fill_marks.Reads as fill-marks-reads
+use Rattle.planner.proofs.hand_over.fill_prices.Reads as fill-prices-reads
+use Rattle.planner.proofs.hand_over.fill_tree.Reads as fill-tree-reads
+use Rattle.planner.proofs.hand_over.horizon_of.Reads as horizon-of-reads
+use Rattle.planner.proofs.hand_over.route_fault.Reads as route-fault-reads
+
+-- src/hand_over.rt:213:9
+route-fault-requires : tie.Need-route-fault-requires
+route-fault-requires c κs = search needs
+
+-- src/hand_over.rt:214:9
+count-reached-requires : tie.Need-count-reached-requires
+count-reached-requires c κs = search needs
+
+-- src/hand_over.rt:215:9
+horizon-of-requires : tie.Need-horizon-of-requires
+horizon-of-requires c κs = search needs
+
+-- src/hand_over.rt:216:5
+fill-distances-requires : tie.Need-fill-distances-requires
+fill-distances-requires c κs = search needs
+
+-- src/hand_over.rt:217:5
+fill-prices-requires : tie.Need-fill-prices-requires
+fill-prices-requires c κs = 
+    let s = c .before .before .before .before .before .before .before .before .before .before .before .before .before .before .before .before .before in (s .pre .0, (s .pre .1 .1 .0 .prices-long, c .before .before .before .before .before .horizon-of .ensures .1))
+
+-- src/hand_over.rt:218:5
+fill-tree-requires : tie.Need-fill-tree-requires
+fill-tree-requires c κs = 
+    let s = c .before .before .before .before .before .before .before .before .before .before .before .before .before .before .before .before .before .before .before .before .before in (s .pre .1 .0 .kept-count, s .pre .1 .1 .0 .tree-long)
+
+-- src/hand_over.rt:219:5
+fill-marks-requires : tie.Need-fill-marks-requires
+fill-marks-requires c κs = 
+    let s = c .before .before .before .before .before .before .before .before .before .before .before .before .before .before .before .before .before .before .before .before .before .before .before .before .before in (s .pre .1 .0, (s .pre .1 .1 .0 .marks-long, omega (arith, s .pre .1 .1 .0 .few-arcs)))
+
+-- src/hand_over.rt:226:21
+add-t25 : tie.Need-add-t25
+add-t25 c = omega (arith, c .before .before .before .before .before .before .before .before .before .before .before .before .before .before .before .before .before .before .before .before .before .before .before .before .before .before .before .before .before .before .pre .1 .1 .1 .1)
+
+-- src/hand_over.rt:226:21
+add-t26 : tie.Need-add-t26
+add-t26 c = omega (arith, c .before .before .before .before .before .before .before .before .before .before .before .before .before .before .before .before .before .before .before .before .before .before .before .before .before .before .before .before .before .before .before .pre .1 .1 .1 .1)
+
+-- src/hand_over.rt:194:1
+same-length : tie.Need-same-length
+same-length c = search needs
+
+-- src/hand_over.rt:194:1
+same-length-2 : tie.Need-same-length-2
+same-length-2 c = search needs
+
+-- src/hand_over.rt:194:1
+same-length-3 : tie.Need-same-length-3
+same-length-3 c = search needs
+
+-- src/hand_over.rt:194:1
+same-length-4 : tie.Need-same-length-4
+same-length-4 c = search needs
+
+-- src/hand_over.rt:194:1
+returns : tie.Need-returns
+unfolding answered iterations seen state
+returns c = 
+    λ t ws path price columns many ran.
+    let s = c .before .before .before .before .before .before .before .before .before .before .before .before .before .before .before .before .before .before .before .before .before .before .before .before .before .before .before .before .before .before .before in
+    let a = s .args in
+    let e = columns .nodes in
+    let h = c .before .before .before .before .before .before .before .before .before .before .before .before .before .before .before .before .before .before .before .horizon-of .ensures .0 t path price (a .kept .now) (a .end .progress) e in
+    assembled t ws (a .end .missing) _ ran (c .before .before .before .before .before .before .before .before .before .before .before .before .before .before .before .before .before .before .before .before .before .route-fault .result) _ _ _ _ _ _ _ _ _ _
+      (subst (λ (m : ℕ). refusal-of (c .before .before .before .before .before .before .before .before .before .before .before .before .before .before .before .before .before .before .before .before .before .route-fault .result) ≡ cond (eqb (a .end .missing) m) no-refusal (refusal 8 (a .end .missing))) (sym many) (c .before .before .before .before .before .before .before .before .before .before .before .before .before .before .before .before .before .before .before .before .before .route-fault .ensures))
+      (c .before .before .before .before .before .before .before .before .before .before .before .before .before .before .before .before .before .before .before .before .count-reached .ensures t path price (a .bound .now) (a .kept .now) (a .end .progress) e) h refl refl refl refl
+      (c .before .before .before .before .before .before .before .before .before .before .before .before .before .before .before .before .before .fill-distances .ensures t path price (a .kept .now) (a .end .progress) e)
+      (c .before .before .before .before .before .before .before .before .before .before .before .before .before .fill-prices .ensures t path price (a .kept .now) (a .end .progress) e h)
+      (c .before .before .before .before .before .before .before .before .before .fill-tree .ensures t path price (a .bound .now) (a .end .progress) e)
+      (c .before .before .before .before .before .fill-marks .ensures t path price (a .bound .now) (a .end .progress) (columns .count) (columns .head) (columns .tail))
+
+pub hand-over-spec : {M : Type 1} → statement M
+hand-over-spec =
+    tie.close
+    (tie.spec
+    route-fault-requires
+    count-reached-requires
+    horizon-of-requires
+    fill-distances-requires
+    fill-prices-requires
+    fill-tree-requires
+    fill-marks-requires
+    add-t25
+    add-t26
+    same-length
+    same-length-2
+    same-length-3
+    same-length-4
+    returns)
