@@ -52,8 +52,7 @@ module _ (p u b k s : List ℕ) (g : Progress) where
         rw (reached-is v)
           (⊎-elim
             (λ (e : ltb 0 (getD s v 0) ≡ true).
-            let low = known .has-distance v (ltb-true 0 (getD s v 0) e) in
-            rw e (sym (seen-distance p u b k s g v (omega (arith, known .as-long)) (λ z. omega (arith, low)))))
+            rw e (sym (seen-distance p u b k s g v (omega (arith, known .as-long)) (known .has-distance v (ltb-true 0 (getD s v 0) e)))))
             (λ (e : ltb 0 (getD s v 0) ≡ false). rw e)
             (true-or (ltb 0 (getD s v 0))))
 

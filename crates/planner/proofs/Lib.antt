@@ -2,3 +2,4 @@ pub mod Faults
 pub mod Entries
 pub mod Marks
 pub mod Handing
+pub mod Planning

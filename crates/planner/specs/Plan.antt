@@ -49,7 +49,7 @@ refusal-of f = refusal (f .number) (f .place)
 -- what the hand-over may rely on: the two arrays are as long as each other, and every reached node has a distance
 pub record Known (bound status : List ℕ) : Type 0 where
   pub as-long : length bound ≡ length status
-  pub has-distance : (v : ℕ) → 0 < getD status v 0 → getD bound v 0 < no-distance
+  pub has-distance : (v : ℕ) → 0 < getD status v 0 → getD bound v 0 ≡ no-distance → ⊥
 
 -- and the ends of every arc are nodes
 pub record Ends (tails heads kept status : List ℕ) : Type 0 where

@@ -3,11 +3,13 @@ ghost use mathlib.Core.Path.{_≡_};
 ghost use mathlib.Core.Bool.{true};
 ghost use lib.ListN.{length};
 ghost use Rattle.table.specs.Table.{table-of, is-table};
+ghost use Rattle.auction.specs.Auction.{fresh};
+ghost use Rattle.solver.specs.Seen.{seen, Sized};
 ghost use Rattle.planner.specs.Plan.{Fitting, answered, routed, plan};
 use grounds::table_fault;
 use hand_over::hand_over;
 use solver::run::run;
-use solver::state::State;
+use solver::state::{Progress, State};
 mod grounds;
 mod hand_over;
 
@@ -23,7 +25,36 @@ pub struct Planned {
     pub deletions: u64,
 }
 
-// The run on a table that is not turned down, and what it hands over.
+// The run from the fresh state that is lent, and what it hands over.
+fn run_lent(
+    progress: Progress,
+    origin: u16,
+    tails: &[u16],
+    heads: &[u16],
+    lengths: &[u32],
+    wanted: &[u16],
+    path: &mut [u16],
+    price: &mut [u64],
+    bound: &mut [u64],
+    kept: &mut [u16],
+    status: &mut [u8],
+    distances: &mut [u64],
+    prices: &mut [u64],
+    tree: &mut [u16],
+    marks: &mut [u8],
+) -> Planned
+    requires { ⌜ (length (now heads) ≡ length (now tails)) × (length (now lengths) ≡ length (now tails)) ⌝ }
+    requires { ⌜ is-table (table-of (length (now status)) origin (now tails) (now heads) (now lengths)) (now wanted) ≡ true ⌝ }
+    requires { ⌜ (length (now path) ≡ length (now status)) × Sized (length (now status)) (now price) (now bound) (now kept) (now status) ⌝ }
+    requires { ⌜ seen (now path) (now price) (now bound) (now kept) (now status) progress ≡ fresh (table-of (length (now status)) origin (now tails) (now heads) (now lengths)) ⌝ }
+    requires { ⌜ Fitting (length (now status)) (length (now heads)) (now distances) (now prices) (now tree) (now marks) ⌝ }
+    ensures { λ r. ⌜ answered r (now (distances .exit)) (now (prices .exit)) (now (tree .exit)) (now (marks .exit)) ≡ routed (table-of (length (now (status .entry))) origin (now (tails .entry)) (now (heads .entry)) (now (lengths .entry))) (now (wanted .entry)) ⌝ }
+{
+    let end = run(progress, origin, tails, heads, lengths, wanted, path, price, bound, kept, status);
+    hand_over(end, wanted.len(), tails, heads, bound, kept, status, distances, prices, tree, marks)
+}
+
+// The plan of a table that is not turned down.
 fn plan_table(
     n: usize,
     origin: u16,
@@ -48,8 +79,23 @@ fn plan_table(
     let mut kept = state.kept;
     let mut status = state.status;
     let progress = state.progress;
-    let end = run(progress, origin, tails, heads, lengths, wanted, &mut path[..n], &mut price[..n], &mut bound[..n], &mut kept[..n], &mut status[..n]);
-    hand_over(end, wanted.len(), tails, heads, &bound[..n], &kept[..n], &status[..n], distances, prices, tree, marks)
+    run_lent(
+        progress,
+        origin,
+        tails,
+        heads,
+        lengths,
+        wanted,
+        &mut path[..n],
+        &mut price[..n],
+        &mut bound[..n],
+        &mut kept[..n],
+        &mut status[..n],
+        distances,
+        prices,
+        tree,
+        marks,
+    )
 }
 
 // Plans the routes of a link table from its origin to the wanted nodes: the answer, and a distance, a price and a tree arc for each

@@ -6,7 +6,7 @@ use mathlib.Core.Option.{Option, none, some}
 use Prim.Native.Nat.{ℕ, zero, suc, _+_, _≤_, _<_}
 use native.Mathlib.Omega.{arith}
 use lib.Dec.{eqb}
-use lib.ListN.{length, getD, set, take, replicate}
+use lib.ListN.{length, getD, set, take, replicate, length-set, length-replicate}
 use lib.Seq.{take-set-lt}
 use borrow.Author.Tests.{ne-eqb, eq-eqb}
 use Rattle.table.specs.Table.{Table, no-arc, no-distance, most-nodes}
@@ -92,6 +92,9 @@ take-replicate (suc m) (suc n) a h = ap (λ l. a ∷ l) (take-replicate m n a (o
 map-replicate : (f : ℕ → Option ℕ) (n a : ℕ) → map f (replicate n a) ≡ replicate n (f a)
 map-replicate f zero a = refl
 map-replicate f (suc n) a = ap (λ l. f a ∷ l) (map-replicate f n a)
+
+pub stored-long : (m a i b : ℕ) → length (set (replicate m a) i b) ≡ m
+stored-long m a i b = length-set (replicate m a) i b ∙ length-replicate {A = ℕ} m a
 
 path-begins : (m n o : ℕ) → o < n → n ≤ m → getD (take n (set (replicate m 0) 0 o)) 0 0 ≡ o
 path-begins m zero o h l = absurd (omega arith)

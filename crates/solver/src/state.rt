@@ -2,10 +2,10 @@
 ghost use mathlib.Core.Path.{_≡_};
 ghost use mathlib.Core.List.{List};
 ghost use Prim.Native.Nat.{ℕ, _≤_, _<_};
-ghost use lib.ListN.{take};
+ghost use lib.ListN.{length, take};
 ghost use Rattle.table.specs.Table.{Table};
 ghost use Rattle.auction.specs.Auction.{fresh};
-ghost use Rattle.solver.specs.Seen.{seen};
+ghost use Rattle.solver.specs.Seen.{seen, Sized};
 use table::NO_ARC;
 use table::NO_DISTANCE;
 
@@ -37,7 +37,8 @@ impl State {
     // The state before anything is reached, for any number of nodes above the origin.
     pub fn fresh(origin: u16) -> State
         requires { ⌜ origin < 1024 ⌝ }
-        ensures { λ r. ⌜ ((t : Table) → t .origin ≡ origin → t .origin < t .n → t .n ≤ 1024 → seen (take (t .n) (r .path)) (take (t .n) (r .price)) (take (t .n) (r .bound)) (take (t .n) (r .kept)) (take (t .n) (r .status)) (r .progress) ≡ fresh t) ⌝ }
+        ensures so { λ r. ⌜ ((t : Table) → t .origin ≡ origin → t .origin < t .n → t .n ≤ 1024 → seen (take (t .n) (r .path)) (take (t .n) (r .price)) (take (t .n) (r .bound)) (take (t .n) (r .kept)) (take (t .n) (r .status)) (r .progress) ≡ fresh t) ⌝ }
+        ensures long { λ r. ⌜ (length (r .path) ≡ 1024) × Sized 1024 (r .price) (r .bound) (r .kept) (r .status) ⌝ }
     {
         let at = super::wide(origin);
         let mut path: [u16; 1024] = [0; 1024];

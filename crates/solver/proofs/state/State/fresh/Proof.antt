@@ -1,6 +1,9 @@
 -- The arrays are filled as the definition fills its lists. Assumes nothing.
 use mathlib.Core.Path.{refl}
-use Rattle.solver.proofs.Arrays.{fresh-seen}
+use Prim.Native.Nat.{ℕ}
+use lib.ListN.{length-replicate}
+use Rattle.table.specs.Table.{no-arc, no-distance}
+use Rattle.solver.proofs.Arrays.{fresh-seen, stored-long}
 use borrow.Author.Needs.{needs}
 use Rattle.solver.proofs.state.State.fresh.Statement.{statement}
 use Rattle.solver.proofs.state.State.fresh.Tie as tie
@@ -26,7 +29,15 @@ array-write-bound c = search needs
 
 -- src/state.rt:35:5
 returns : tie.Need-returns
-returns c = λ t eo h l. fresh-seen 1024 t (c .before .args .origin) (c .wide .result) _ (c .wide .ensures .0) eo h l refl refl refl refl
+returns c =
+    ( λ t eo h l. fresh-seen 1024 t (c .before .args .origin) (c .wide .result) _ (c .wide .ensures .0) eo h l refl refl refl refl
+    , (stored-long 1024 0 0 (c .before .args .origin)
+      , record {
+          prices = length-replicate {A = ℕ} 1024 0;
+          bounds = stored-long 1024 no-distance (c .wide .result) 0;
+          kepts = length-replicate {A = ℕ} 1024 no-arc;
+          statuses = length-replicate {A = ℕ} 1024 0;
+        }))
 
 pub fresh-spec : {M : Type 1} → statement M
 fresh-spec =
