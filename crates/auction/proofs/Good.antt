@@ -89,7 +89,7 @@ wanted-in t ws e k h =
 -- THE BRIDGE
 
 -- a refusal whose number is not 0 was not met
-passed : (b : Bool) (r : Refusal) (m p : ℕ) → cond b (refusal (suc m) p) r .number ≡ 0 → (b ≡ false) × (r .number ≡ 0)
+pub passed : (b : Bool) (r : Refusal) (m p : ℕ) → cond b (refusal (suc m) p) r .number ≡ 0 → (b ≡ false) × (r .number ≡ 0)
 unfolding refusal
 passed true r m p e = absurd (omega arith)
 passed false r m p e = (refl, e)

@@ -65,8 +65,8 @@ fill-begins {n} {f} out e =
       low = omega arith;
       long = e;
       made =
-        let z : length out ≤ length out = omega arith in
-        drop-of-length-le out z ∙ sym (subst (λ (k : ℕ). entries (k - length out) (length out) f ≡ []) e (no-entries (length out) f));
+          let z : length out ≤ length out = omega arith in
+          drop-of-length-le out z ∙ sym (subst (λ (k : ℕ). entries (k - length out) (length out) f ≡ []) e (no-entries (length out) f));
     }
 
 pub fill-on : {n : ℕ} {f : ℕ → ℕ} {out : List ℕ} {p : ℕ} (a : ℕ) → Filling n f out p → 0 < p → a ≡ f (p - 1) → Filling n f (set out (p - 1) a) (p - 1)
@@ -77,8 +77,8 @@ fill-on {n} {f} {out} {p} a i pos e =
       low = omega (arith, i .low);
       long = length-set out (p - 1) a ∙ i .long;
       made =
-        drop-set-here out (p - 1) a inside ∙ ap (λ k. a ∷ drop k out) b ∙ ap₂ (λ (x : ℕ) (l : List ℕ). x ∷ l) e (i .made)
-        ∙ sym (one-more n f p pos (i .low));
+          drop-set-here out (p - 1) a inside ∙ ap (λ k. a ∷ drop k out) b ∙ ap₂ (λ (x : ℕ) (l : List ℕ). x ∷ l) e (i .made)
+          ∙ sym (one-more n f p pos (i .low));
     }
 
 pub fill-ends : {n : ℕ} {f : ℕ → ℕ} {out : List ℕ} {p : ℕ} → Filling n f out p → p ≤ 0 → out ≡ entries n 0 f

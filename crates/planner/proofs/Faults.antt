@@ -48,9 +48,9 @@ module _ (n t h l : ℕ) where
   unfolding arc-fault arc
   bad-end e =
       ⊎-elim (λ (q : n ≤ t). rw (le-leb n t q))
-        (λ (q : n ≤ h).
-        ⊎-elim (λ (z : leb n t ≡ true). rw z) (λ (z : leb n t ≡ false). rw (z, le-leb n h q)) (true-or (leb n t)))
-        e
+      (λ (q : n ≤ h).
+      ⊎-elim (λ (z : leb n t ≡ true). rw z) (λ (z : leb n t ≡ false). rw (z, le-leb n h q)) (true-or (leb n t)))
+      e
 
   pub zero-length : t < n → h < n → l ≡ 0 → 7 ≡ arc-fault n (arc t h l)
   unfolding arc-fault arc
@@ -104,8 +104,8 @@ module _ (ts hs ls : List ℕ) where
   unfolding columns-bad
   columns-differ e =
       either-first (not (eqb (length ts) (length hs) && eqb (length hs) (length ls))) (ltb most-arcs (length ts))
-        (not-both (eqb (length ts) (length hs)) (eqb (length hs) (length ls))
-          (⊎-elim (λ (z : length ts ≡ length hs → ⊥). inl (ne-eqb (length ts) (length hs) z)) (λ (z : not (eqb (length hs) (length ls)) ≡ true). inr (not-true _ z)) e))
+      (not-both (eqb (length ts) (length hs)) (eqb (length hs) (length ls))
+      (⊎-elim (λ (z : length ts ≡ length hs → ⊥). inl (ne-eqb (length ts) (length hs) z)) (λ (z : not (eqb (length hs) (length ls)) ≡ true). inr (not-true _ z)) e))
 
   pub too-many-arcs : ltb most-arcs (length ts) ≡ true → columns-bad ts hs ls ≡ true
   unfolding columns-bad

@@ -50,11 +50,11 @@ module _ (p u b k s : List ℕ) (g : Progress) where
     distance-so : (other v : ℕ) → v < length s → distance-entry other b s v ≡ cond (was-reached (seen p u b k s g) v) (distance (seen p u b k s g) v) other
     distance-so other v h =
         rw (reached-is v)
-          (⊎-elim
-            (λ (e : ltb 0 (getD s v 0) ≡ true).
-            rw e (sym (seen-distance p u b k s g v (omega (arith, known .as-long)) (known .has-distance v (ltb-true 0 (getD s v 0) e)))))
-            (λ (e : ltb 0 (getD s v 0) ≡ false). rw e)
-            (true-or (ltb 0 (getD s v 0))))
+        (⊎-elim
+        (λ (e : ltb 0 (getD s v 0) ≡ true).
+        rw e (sym (seen-distance p u b k s g v (omega (arith, known .as-long)) (known .has-distance v (ltb-true 0 (getD s v 0) e)))))
+        (λ (e : ltb 0 (getD s v 0) ≡ false). rw e)
+        (true-or (ltb 0 (getD s v 0))))
 
     pub distances-so : (t : Table) → t .n ≡ length s → entries (length s) 0 (distance-entry no-distance b s) ≡ distances t (seen p u b k s g)
     unfolding distances
@@ -69,12 +69,12 @@ module _ (p u b k s : List ℕ) (g : Progress) where
     unfolding prices
     prices-so t h e eh =
         rw (← eh, e)
-          (entries-same (length s) 0 _ _
-            (λ v l.
-            ap (λ m. h - m) (distance-so h v (omega arith))
-            ∙ ⊎-elim (λ (r : was-reached (seen p u b k s g) v ≡ true). rw r)
-              (λ (r : was-reached (seen p u b k s g) v ≡ false). let z : h - h ≡ 0 = omega arith in rw r z)
-              (true-or (was-reached (seen p u b k s g) v))))
+        (entries-same (length s) 0 _ _
+        (λ v l.
+        ap (λ m. h - m) (distance-so h v (omega arith))
+        ∙ ⊎-elim (λ (r : was-reached (seen p u b k s g) v ≡ true). rw r)
+        (λ (r : was-reached (seen p u b k s g) v ≡ false). let z : h - h ≡ 0 = omega arith in rw r z)
+        (true-or (was-reached (seen p u b k s g) v))))
 
   pub count-so : (t : Table) → t .n ≡ length s → sum (entries (length s) 0 (reached-entry s)) ≡ reached-count t (seen p u b k s g)
   unfolding reached-count
@@ -88,19 +88,19 @@ module _ (p u b k s : List ℕ) (g : Progress) where
   unfolding tree
   tree-so t lk e =
       rw e
-        (entries-same (length s) 0 _ _
-          (λ v h.
-          ap₂ (λ (c : Bool) (a : ℕ). cond c a no-arc) (sym (reached-is v))
-            (arc-back (getD k v 0) ∙ ap arc-or-none (sym (seen-kept p u b k s g v (omega arith))))))
+      (entries-same (length s) 0 _ _
+      (λ v h.
+      ap₂ (λ (c : Bool) (a : ℕ). cond c a no-arc) (sym (reached-is v))
+      (arc-back (getD k v 0) ∙ ap arc-or-none (sym (seen-kept p u b k s g v (omega arith))))))
 
   kept-so : (i v : ℕ) → v < length k → (i ≡ no-arc → ⊥) → eqb (getD k v 0) i ≡ is-kept (seen p u b k s g) i (kept-at (seen p u b k s g) v)
   unfolding is-kept
   kept-so i v h d =
       rw (seen-kept p u b k s g v h)
-        (⊎-elim
-          (λ (z : getD k v 0 ≡ no-arc). rw (no-kept (getD k v 0) z) (ne-eqb (getD k v 0) i (λ e. d (sym e ∙ z))))
-          (λ (z : getD k v 0 ≡ no-arc → ⊥). rw (some-arc (getD k v 0) z))
-          (same-or (getD k v 0) no-arc))
+      (⊎-elim
+      (λ (z : getD k v 0 ≡ no-arc). rw (no-kept (getD k v 0) z) (ne-eqb (getD k v 0) i (λ e. d (sym e ∙ z))))
+      (λ (z : getD k v 0 ≡ no-arc → ⊥). rw (some-arc (getD k v 0) z))
+      (same-or (getD k v 0) no-arc))
 
   pub marks-so : (t : Table) (ts hs : List ℕ) → Ends ts hs k s → length hs < no-arc → arc-count t ≡ length hs →
       ((i : ℕ) → i < arc-count t → head-at t i ≡ getD hs i 0) → ((i : ℕ) → i < arc-count t → tail-at t i ≡ getD ts i 0) →
@@ -108,12 +108,12 @@ module _ (p u b k s : List ℕ) (g : Progress) where
   unfolding marks mark
   marks-so t ts hs ends few e heads tails =
       rw e
-        (entries-same (length hs) 0 _ _
-          (λ i h.
-          let inside : i < length hs = omega arith in
-          let hd = heads i (omega (arith, e)) in
-          let tl = tails i (omega (arith, e)) in
-          rw (hd, tl, reached-is (getD hs i 0), reached-is (getD ts i 0), kept-so i (getD hs i 0) (omega (arith, ends .head-in i inside, ends .kept-count)) (λ z. omega arith))))
+      (entries-same (length hs) 0 _ _
+      (λ i h.
+      let inside : i < length hs = omega arith in
+      let hd = heads i (omega (arith, e)) in
+      let tl = tails i (omega (arith, e)) in
+      rw (hd, tl, reached-is (getD hs i 0), reached-is (getD ts i 0), kept-so i (getD hs i 0) (omega (arith, ends .head-in i inside, ends .kept-count)) (λ z. omega arith))))
 
 -- no distance is above the horizon
 pub below-horizon : (b s : List ℕ) (h : ℕ) → h ≡ greatest (entries (length s) 0 (distance-entry 0 b s)) →

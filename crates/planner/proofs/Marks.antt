@@ -46,8 +46,8 @@ module _ (h t k : Bool) where
   unfolding mark-of
   is-1 e =
       ⊎-elim (λ (z : case-of h t k ≡ 2). by 2 1 refl z)
-        (λ (w : (case-of h t k ≡ 4) ⊎ (case-of h t k ≡ 6)). ⊎-elim (λ (z : case-of h t k ≡ 4). by 4 1 refl z) (λ (z : case-of h t k ≡ 6). by 6 1 refl z) w)
-        e
+      (λ (w : (case-of h t k ≡ 4) ⊎ (case-of h t k ≡ 6)). ⊎-elim (λ (z : case-of h t k ≡ 4). by 4 1 refl z) (λ (z : case-of h t k ≡ 6). by 6 1 refl z) w)
+      e
 
   pub is-2 : case-of h t k ≡ 3 → 2 ≡ mark-number h t k
   unfolding mark-of

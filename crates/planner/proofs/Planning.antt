@@ -12,15 +12,17 @@ use borrow.Author.Tests.{lt-ltb, leb-true, eqb-true, eqb-false, eq-eqb, ne-eqb, 
 use Rattle.table.specs.Table.{Table, table, table-of, is-table, arc-count, tail-at, head-at, arcs-good, nodes-below, no-distance, most-nodes, most-arcs, Below}
 use Rattle.table.specs.Grounds.{Refusal, Room, refusal, room, table-refusal, columns-bad, rooms-fit}
 use Rattle.auction.specs.Auction.{State, fresh, was-reached, bound-at, iterations}
-use Rattle.auction.specs.HandOver.{Answer}
-use Rattle.auction.proofs.Basics.{both-true, inside}
-use Rattle.auction.proofs.Good.{Good, good, not-turned-down}
+use Rattle.auction.specs.HandOver.{Answer, answer}
+use Rattle.auction.proofs.Basics.{both-true, either-false, inside}
+use Rattle.auction.specs.Promises.{Not-turned-down}
+use Rattle.auction.proofs.Good.{Good, good, not-turned-down, passed}
 use Rattle.solver.specs.declared.state.Progress.{Progress}
 use Rattle.solver.specs.Seen.{seen, bound-of}
 use Rattle.solver.specs.Steps.{Ran}
 use Rattle.solver.proofs.Arrays.{seen-bound, seen-status, no-bound}
 use Rattle.solver.proofs.Columns.{count-so, tail-so, head-so, nodes-so, origin-so}
-use Rattle.planner.specs.Plan.{Known, Ends, Fitting, Columns, rooms, ground, plan, routed, turned-down}
+use Rattle.planner.specs.declared.grounds.Fault.{Fault}
+use Rattle.planner.specs.Plan.{Known, Ends, Fitting, Columns, rooms, ground, plan, routed, turned-down, refusal-of}
 
 -- AFTER THE RUN
 module _ (t : Table) (ws : List ℕ) (m : ℕ) (p u b k s : List ℕ) (g : Progress) (ran : Ran t ws m (seen p u b k s g)) where
@@ -33,15 +35,15 @@ module _ (t : Table) (ws : List ℕ) (m : ℕ) (p u b k s : List ℕ) (g : Progr
       record {
         as-long = l;
         has-distance = λ v h e.
-          ran .bounded v (reached-so v h) (seen-bound p u b k s g v (omega (arith, inside s v h)) ∙ no-bound (getD b v 0) e);
+            ran .bounded v (reached-so v h) (seen-bound p u b k s g v (omega (arith, inside s v h)) ∙ no-bound (getD b v 0) e);
       }
 
 few-wanted : (t : Table) (ws : List ℕ) → is-table t ws ≡ true → length ws ≤ 1024
 unfolding is-table
 few-wanted t ws e =
     let a =
-        both-true ((leb 1 (t .n) && leb (t .n) 1024) && (ltb (t .origin) (t .n) && leb (arc-count t) 6000))
-          (arcs-good (t .n) (t .arcs) && (leb (length ws) 1024 && nodes-below (t .n) ws)) e .1 in
+    both-true ((leb 1 (t .n) && leb (t .n) 1024) && (ltb (t .origin) (t .n) && leb (arc-count t) 6000))
+    (arcs-good (t .n) (t .arcs) && (leb (length ws) 1024 && nodes-below (t .n) ws)) e .1 in
     let b = both-true (arcs-good (t .n) (t .arcs)) (leb (length ws) 1024 && nodes-below (t .n) ws) a .1 in
     leb-true (length ws) 1024 (both-true (leb (length ws) 1024) (nodes-below (t .n) ws) b .0)
 
@@ -81,7 +83,7 @@ module _ (n o : ℕ) (ts hs ls ws : List ℕ) (eh : length hs ≡ length ts) (el
   -- the fresh state, as far as it is lent
   pub fresh-so : (p u b k s : List ℕ) (g : Progress) →
       ((t : Table) → t .origin ≡ o → t .origin < t .n → t .n ≤ 1024 →
-        seen (take (t .n) p) (take (t .n) u) (take (t .n) b) (take (t .n) k) (take (t .n) s) g ≡ fresh t) →
+      seen (take (t .n) p) (take (t .n) u) (take (t .n) b) (take (t .n) k) (take (t .n) s) g ≡ fresh t) →
       seen (take n p) (take n u) (take n b) (take n k) (take n s) g ≡ fresh (table-of n o ts hs ls)
   unfolding table-of table
   fresh-so p u b k s g f = f (table-of n o ts hs ls) refl origin-low nodes-low
@@ -92,3 +94,57 @@ part-fits l n e h = omega arith
 
 pub part-long : (l : List ℕ) (n : ℕ) → length l ≡ 1024 → n ≤ most-nodes → n ≡ length (take n l)
 part-long l n e h = sym (length-take-le n l (omega arith))
+
+-- THE GROUNDS
+module _ (n o : ℕ) (ts hs ls ws ds ps tr ms : List ℕ) where
+  pub turned : (f : Fault) → refusal-of f ≡ ground n o ts hs ls ws ds ps tr ms → (f .number ≡ 0 → ⊥) →
+      answer (f .number) (f .place) 0 0 0 0 0 0 ds ps tr ms ≡ plan n o ts hs ls ws ds ps tr ms
+  unfolding plan turned-down refusal-of refusal
+  turned f e d = rw (← e, ne-eqb (f .number) 0 d)
+
+  pub planned : (f : Fault) (a : Answer) → refusal-of f ≡ ground n o ts hs ls ws ds ps tr ms → f .number ≡ 0 → a ≡ routed (table-of n o ts hs ls) ws →
+      a ≡ plan n o ts hs ls ws ds ps tr ms
+  unfolding plan refusal-of refusal
+  planned f a e z r = rw (← e, eq-eqb (f .number) 0 z) r
+
+  -- where none applies
+  pub record Fine : Type 0 where
+    pub heads-count : length hs ≡ length ts
+    pub lengths-count : length ls ≡ length ts
+    pub table-good : is-table (table-of n o ts hs ls) ws ≡ true
+    pub fitting : Fitting n (length hs) ds ps tr ms
+
+  rooms-so : (m a b c d : ℕ) → rooms-fit (rooms n m a b c d) ≡ true → (a ≡ n) × (b ≡ n) × (c ≡ n) × (d ≡ m)
+  unfolding rooms-fit rooms room
+  rooms-so m a b c d e =
+      let p = both-true (eqb a n) (eqb b n && (eqb c n && (eqb d m && true))) e in
+      let q = both-true (eqb b n) (eqb c n && (eqb d m && true)) (p .1) in
+      let r = both-true (eqb c n) (eqb d m && true) (q .1) in
+      let s = both-true (eqb d m) true (r .1) in
+      (eqb-true a n (p .0), eqb-true b n (q .0), eqb-true c n (r .0), eqb-true d m (s .0))
+
+  pub fine : Below (2 ^ 32) ls → ground n o ts hs ls ws ds ps tr ms .number ≡ 0 → Fine
+  unfolding ground table-refusal columns-bad Not-turned-down
+  fine low e =
+      let p = passed (eqb n 0 || ltb most-nodes n) _ 0 0 e in
+      let q = passed (columns-bad ts hs ls) _ 1 0 (p .1) in
+      let r = passed (not (rooms-fit (rooms n (length ts) (length ds) (length ps) (length tr) (length ms)))) _ 2 0 (q .1) in
+      let c = either-false (not (eqb (length ts) (length hs) && eqb (length hs) (length ls))) (ltb most-arcs (length ts)) (q .0) in
+      let h = both-true (eqb (length ts) (length hs)) (eqb (length hs) (length ls)) (not-false _ (c .0)) in
+      let eh = eqb-true (length ts) (length hs) (h .0) in
+      let el = eqb-true (length hs) (length ls) (h .1) in
+      let fit = rooms-so (length ts) (length ds) (length ps) (length tr) (length ms) (not-false _ (r .0)) in
+      record {
+        heads-count = sym eh;
+        lengths-count = sym (eh ∙ el);
+        table-good = not-turned-down n o ts hs ls ws _ low e;
+        fitting =
+            record {
+              few-nodes = ltb-false most-nodes n (either-false (eqb n 0) (ltb most-nodes n) (p .0) .1);
+              few-arcs = omega (arith, ltb-false most-arcs (length ts) (c .1), eh);
+              distances-long = fit .0;
+              prices-long = fit .1;
+              tree-long = fit .2;
+              marks-long = fit .3 ∙ eh;
+            };
+      }

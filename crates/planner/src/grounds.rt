@@ -5,7 +5,8 @@ ghost use lib.ListN.{length};
 ghost use Rattle.table.specs.Table.{arc, arcs-of, most-arcs};
 ghost use Rattle.table.specs.Grounds.{arc-fault, arcs-refusal, wanted-refusal, table-refusal};
 ghost use Rattle.planner.specs.Plan.{refusal-of, rooms};
-use table::{MOST_ARCS, MOST_NODES};
+use table::MOST_ARCS;
+use table::MOST_NODES;
 
 // A ground's number and place; number 0 is no refusal.
 pub struct Fault {
@@ -20,7 +21,10 @@ impl Fault {
     pub fn none() -> Fault
         ensures { λ r. ⌜ (r .number ≡ 0) × (r .place ≡ 0) ⌝ }
     {
-        Fault { number: 0, place: 0 }
+        Fault {
+            number: 0,
+            place: 0,
+        }
     }
 }
 
@@ -44,12 +48,18 @@ fn wanted_fault(n: u32, wanted: &[u16]) -> Fault
     ensures { λ r. ⌜ refusal-of r ≡ wanted-refusal n (now (wanted .entry)) ⌝ }
 {
     if Fault::MOST_WANTED < wanted.len() {
-        return Fault { number: 5, place: place(Fault::MOST_WANTED) };
+        return Fault {
+            number: 5,
+            place: place(Fault::MOST_WANTED),
+        };
     }
     let mut i = 0;
     while i < wanted.len() {
         if n <= node(wanted[i]) {
-            return Fault { number: 5, place: place(i) };
+            return Fault {
+                number: 5,
+                place: place(i),
+            };
         }
         i = i + 1;
     }
@@ -78,7 +88,10 @@ fn arcs_fault(n: u32, tails: &[u16], heads: &[u16], lengths: &[u32]) -> Fault
     while i < tails.len() {
         let number = arc_number(n, tails[i], heads[i], lengths[i]);
         if number != 0 {
-            return Fault { number: number, place: place(i) };
+            return Fault {
+                number: number,
+                place: place(i),
+            };
         }
         i = i + 1;
     }
@@ -86,22 +99,45 @@ fn arcs_fault(n: u32, tails: &[u16], heads: &[u16], lengths: &[u32]) -> Fault
 }
 
 // 1 to 7: a table's first fault, with the lengths of the buffers lent for it.
-pub fn table_fault(n: u32, origin: u16, tails: &[u16], heads: &[u16], lengths: &[u32], wanted: &[u16], distances: usize, prices: usize, tree: usize, marks: usize) -> Fault
+pub fn table_fault(
+    n: u32,
+    origin: u16,
+    tails: &[u16],
+    heads: &[u16],
+    lengths: &[u32],
+    wanted: &[u16],
+    distances: usize,
+    prices: usize,
+    tree: usize,
+    marks: usize,
+) -> Fault
     ensures { λ r. ⌜ refusal-of r ≡ table-refusal n origin (now (tails .entry)) (now (heads .entry)) (now (lengths .entry)) (now (wanted .entry)) (rooms n (length (now (tails .entry))) distances prices tree marks) ⌝ }
 {
     let m = tails.len();
     if n == 0 || MOST_NODES < n {
-        return Fault { number: 1, place: 0 };
+        return Fault {
+            number: 1,
+            place: 0,
+        };
     }
     if m != heads.len() || heads.len() != lengths.len() || MOST_ARCS < m {
-        return Fault { number: 2, place: 0 };
+        return Fault {
+            number: 2,
+            place: 0,
+        };
     }
     let nodes = n as usize;
     if distances != nodes || prices != nodes || tree != nodes || marks != m {
-        return Fault { number: 3, place: 0 };
+        return Fault {
+            number: 3,
+            place: 0,
+        };
     }
     if n <= node(origin) {
-        return Fault { number: 4, place: 0 };
+        return Fault {
+            number: 4,
+            place: 0,
+        };
     }
     let fault = wanted_fault(n, wanted);
     if fault.number != 0 {

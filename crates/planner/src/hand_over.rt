@@ -12,11 +12,12 @@ ghost use Rattle.solver.specs.declared.state.Progress.{Progress};
 ghost use Rattle.solver.specs.Seen.{seen};
 ghost use Rattle.solver.specs.Steps.{Ran};
 ghost use Rattle.planner.specs.Plan.{Known, Ends, Fitting, Columns, answered, routed, refusal-of};
-use super::grounds::Fault;
 use super::Planned;
+use super::grounds::Fault;
 use solver::run::Ended;
 use solver::state::State;
-use table::{NO_ARC, NO_DISTANCE};
+use table::NO_ARC;
+use table::NO_DISTANCE;
 
 // A 16-bit node number as an index.
 fn wide(x: u16) -> usize
@@ -161,7 +162,11 @@ fn mark_at(i: usize, tails: &[u16], heads: &[u16], kept: &[u16], status: &[u8]) 
 {
     let head = wide(heads[i]);
     let tail = wide(tails[i]);
-    mark(status[head] != State::UNREACHED, status[tail] != State::UNREACHED, wide(kept[head]) == i)
+    mark(
+        status[head] != State::UNREACHED,
+        status[tail] != State::UNREACHED,
+        wide(kept[head]) == i,
+    )
 }
 
 // The marks.

@@ -9,7 +9,9 @@ ghost use Rattle.planner.specs.Plan.{Fitting, answered, routed, plan};
 use grounds::table_fault;
 use hand_over::hand_over;
 use solver::run::run;
-use solver::state::{Progress, State};
+use solver::state::Progress;
+use solver::state::State;
+
 mod grounds;
 mod hand_over;
 
@@ -50,8 +52,32 @@ fn run_lent(
     requires { ⌜ Fitting (length (now status)) (length (now heads)) (now distances) (now prices) (now tree) (now marks) ⌝ }
     ensures { λ r. ⌜ answered r (now (distances .exit)) (now (prices .exit)) (now (tree .exit)) (now (marks .exit)) ≡ routed (table-of (length (now (status .entry))) origin (now (tails .entry)) (now (heads .entry)) (now (lengths .entry))) (now (wanted .entry)) ⌝ }
 {
-    let end = run(progress, origin, tails, heads, lengths, wanted, path, price, bound, kept, status);
-    hand_over(end, wanted.len(), tails, heads, bound, kept, status, distances, prices, tree, marks)
+    let end = run(
+        progress,
+        origin,
+        tails,
+        heads,
+        lengths,
+        wanted,
+        path,
+        price,
+        bound,
+        kept,
+        status,
+    );
+    hand_over(
+        end,
+        wanted.len(),
+        tails,
+        heads,
+        bound,
+        kept,
+        status,
+        distances,
+        prices,
+        tree,
+        marks,
+    )
 }
 
 // The plan of a table that is not turned down.
@@ -114,7 +140,18 @@ pub fn plan_routes(
 ) -> Planned
     ensures { λ r. ⌜ answered r (now (distances .exit)) (now (prices .exit)) (now (tree .exit)) (now (marks .exit)) ≡ plan n origin (now (tails .entry)) (now (heads .entry)) (now (lengths .entry)) (now (wanted .entry)) (now (distances .entry)) (now (prices .entry)) (now (tree .entry)) (now (marks .entry)) ⌝ }
 {
-    let fault = table_fault(n, origin, tails, heads, lengths, wanted, distances.len(), prices.len(), tree.len(), marks.len());
+    let fault = table_fault(
+        n,
+        origin,
+        tails,
+        heads,
+        lengths,
+        wanted,
+        distances.len(),
+        prices.len(),
+        tree.len(),
+        marks.len(),
+    );
     if fault.number != 0 {
         return Planned {
             number: fault.number,
@@ -127,5 +164,16 @@ pub fn plan_routes(
             deletions: 0,
         };
     }
-    plan_table(n as usize, origin, tails, heads, lengths, wanted, distances, prices, tree, marks)
+    plan_table(
+        n as usize,
+        origin,
+        tails,
+        heads,
+        lengths,
+        wanted,
+        distances,
+        prices,
+        tree,
+        marks,
+    )
 }

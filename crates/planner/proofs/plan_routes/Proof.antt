@@ -1,3 +1,11 @@
+-- A ground turns the table down, or none applies and the table is planned. Assumes nothing.
+use mathlib.Core.Path.{_≡_, ap, sym, _∙_}
+use Prim.Native.Nat.{ℕ}
+use native.Mathlib.Omega.{arith}
+use Rattle.table.specs.Table.{Below}
+use Rattle.table.specs.Grounds.{Refusal, refusal}
+use Rattle.planner.specs.Plan.{answered, ground, refusal-of}
+use Rattle.planner.proofs.Planning.{Fine, fine, turned, planned}
 use borrow.Author.Needs.{needs}
 use Rattle.planner.proofs.plan_routes.Statement.{statement}
 use Rattle.planner.proofs.plan_routes.Tie as tie
@@ -12,11 +20,23 @@ table-fault-requires c κs = search needs
 
 -- src/lib.rt:73:9
 returns : tie.Need-returns
-returns c = ?
+unfolding answered ground
+returns c =
+    let a = c .before .before .before .before .before .before .before .before .before .before .before .args in
+    turned (a .n) (a .origin) (a .tails .now) (a .heads .now) (a .lengths .now) (a .wanted .now) (a .distances .now) (a .prices .now) (a .tree .now) (a .marks .now)
+    (c .before .before .table-fault .result) (c .before .before .table-fault .ensures) (c .if1 .taken)
 
 -- src/lib.rt:84:5
 plan-table-requires : tie.Need-plan-table-requires
-plan-table-requires c κs = ?
+unfolding ground Below refusal-of refusal
+plan-table-requires c κs =
+    let a = c .before .before .before .before .before .before .before .before .before .before .before .before .before .before .before .args in
+    let known = c .before .before .before .before .before .before .before .before .before .before .before .before .shared-slice-known3 .given in
+    let none = sym (ap (λ (r : Refusal). r .number) (c .before .before .before .before .before .before .table-fault .ensures)) ∙ c .before .before .before .before .if1 .left in
+    let f =
+    fine (a .n) (a .origin) (a .tails .now) (a .heads .now) (a .lengths .now) (a .wanted .now) (a .distances .now) (a .prices .now) (a .tree .now) (a .marks .now)
+    (λ i. known i .fits) none in
+    ((f .heads-count, f .lengths-count), (f .table-good, f .fitting))
 
 -- src/lib.rt:57:1
 same-length : tie.Need-same-length
@@ -36,7 +56,11 @@ same-length-4 c = search needs
 
 -- src/lib.rt:57:1
 returns-2 : tie.Need-returns-2
-returns-2 c = ?
+unfolding ground
+returns-2 c =
+    let a = c .before .before .before .before .before .before .before .before .before .before .before .before .before .before .before .before .before .before .before .before .before .before .before .before .args in
+    planned (a .n) (a .origin) (a .tails .now) (a .heads .now) (a .lengths .now) (a .wanted .now) (a .distances .now) (a .prices .now) (a .tree .now) (a .marks .now)
+    (c .before .before .before .before .before .before .before .before .before .before .before .before .before .before .before .table-fault .result) _ (c .before .before .before .before .before .before .before .before .before .before .before .before .before .before .before .table-fault .ensures) (c .before .before .before .before .before .before .before .before .before .before .before .before .before .if1 .left) (c .before .before .before .before .before .before .before .before .plan-table .ensures)
 
 pub plan-routes-spec : {M : Type 1} → statement M
 plan-routes-spec =

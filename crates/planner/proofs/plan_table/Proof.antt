@@ -22,7 +22,7 @@ few s = s .pre .1 .1 .few-nodes
 
 -- src/lib.rt:75:9
 fresh-requires : tie.Need-fresh-requires
-fresh-requires c κs = 
+fresh-requires c κs =
     let s = c .before .before .before .before .before .before .before .before in
     let a = s .args in
     omega (arith, origin-low (a .n) (a .origin) (a .tails .now) (a .heads .now) (a .lengths .now) (a .wanted .now) (s .pre .0 .0) (s .pre .0 .1) (s .pre .1 .0), few s)
@@ -69,7 +69,7 @@ slice-aggregate-run-lent-5 c = let f = c .before .before .before .before .before
 
 -- src/lib.rt:82:5
 run-lent-requires : tie.Need-run-lent-requires
-run-lent-requires c κs = 
+run-lent-requires c κs =
     let s = c .before .before .before .before .before .before .before .before .before .before .before .before .before .before .before .before .before .before .before .before .before .before .before .before in
     let a = s .args in
     let n = a .n in
@@ -77,26 +77,35 @@ run-lent-requires c κs =
     let x = f .result in
     let long = f .ensures .1 in
     subst
-      (λ (m : ℕ).
-      ((length (a .heads .now) ≡ length (a .tails .now)) × (length (a .lengths .now) ≡ length (a .tails .now)))
-      × ((is-table (table-of m (a .origin) (a .tails .now) (a .heads .now) (a .lengths .now)) (a .wanted .now) ≡ true)
-        × (((length (take n (x .path)) ≡ m) × Sized m (take n (x .price)) (take n (x .bound)) (take n (x .kept)) (take n (x .status)))
-          × ((seen (take n (x .path)) (take n (x .price)) (take n (x .bound)) (take n (x .kept)) (take n (x .status)) (x .progress)
-            ≡ fresh (table-of m (a .origin) (a .tails .now) (a .heads .now) (a .lengths .now)))
-            × Fitting m (length (a .heads .now)) (a .distances .now) (a .prices .now) (a .tree .now) (a .marks .now)))))
-      (part-long (x .status) n (long .1 .statuses) (few s))
-      ( s .pre .0
-      , (s .pre .1 .0
-        , ((sym (part-long (x .path) n (long .0) (few s))
-          , record {
+    (λ (m : ℕ).
+    ((length (a .heads .now) ≡ length (a .tails .now)) × (length (a .lengths .now) ≡ length (a .tails .now)))
+    × ((is-table (table-of m (a .origin) (a .tails .now) (a .heads .now) (a .lengths .now)) (a .wanted .now) ≡ true)
+    × (((length (take n (x .path)) ≡ m) × Sized m (take n (x .price)) (take n (x .bound)) (take n (x .kept)) (take n (x .status)))
+    × ((seen (take n (x .path)) (take n (x .price)) (take n (x .bound)) (take n (x .kept)) (take n (x .status)) (x .progress)
+    ≡ fresh (table-of m (a .origin) (a .tails .now) (a .heads .now) (a .lengths .now)))
+    × Fitting m (length (a .heads .now)) (a .distances .now) (a .prices .now) (a .tree .now) (a .marks .now)))))
+    (part-long (x .status) n (long .1 .statuses) (few s)) (
+      s .pre .0,
+      (
+        s .pre .1 .0,
+        (
+          (
+            sym (part-long (x .path) n (long .0) (few s)),
+            record {
               prices = sym (part-long (x .price) n (long .1 .prices) (few s));
               bounds = sym (part-long (x .bound) n (long .1 .bounds) (few s));
               kepts = sym (part-long (x .kept) n (long .1 .kepts) (few s));
               statuses = sym (part-long (x .status) n (long .1 .statuses) (few s));
-            })
-          , (fresh-so n (a .origin) (a .tails .now) (a .heads .now) (a .lengths .now) (a .wanted .now) (s .pre .0 .0) (s .pre .0 .1) (s .pre .1 .0)
-              (x .path) (x .price) (x .bound) (x .kept) (x .status) (x .progress) (f .ensures .0)
-            , s .pre .1 .1))))
+            },
+          ),
+          (
+            fresh-so n (a .origin) (a .tails .now) (a .heads .now) (a .lengths .now) (a .wanted .now) (s .pre .0 .0) (s .pre .0 .1) (s .pre .1 .0)
+                (x .path) (x .price) (x .bound) (x .kept) (x .status) (x .progress) (f .ensures .0),
+            s .pre .1 .1,
+          ),
+        ),
+      ),
+    )
 
 -- src/lib.rt:58:1
 same-length : tie.Need-same-length
@@ -116,12 +125,12 @@ same-length-4 c = search needs
 
 -- src/lib.rt:58:1
 returns : tie.Need-returns
-returns c = 
+returns c =
     let a = c .before .before .before .before .before .before .before .before .before .before .before .before .before .before .before .before .before .before .before .before .before .before .before .before .before .before .before .before .before .before .before .before .before .before .before .before .before .before .args in
     let x = c .before .before .before .before .before .before .before .before .before .before .before .before .before .before .before .before .before .before .before .before .before .before .before .before .before .before .before .before .before .fresh in
     c .before .before .before .before .before .before .before .before .before .before .before .before .before .run-lent .ensures
     ∙ ap (λ m. routed (table-of m (a .origin) (a .tails .now) (a .heads .now) (a .lengths .now)) (a .wanted .now))
-      (sym (part-long (x .result .status) (a .n) (x .ensures .1 .1 .statuses) (few (c .before .before .before .before .before .before .before .before .before .before .before .before .before .before .before .before .before .before .before .before .before .before .before .before .before .before .before .before .before .before .before .before .before .before .before .before .before .before))))
+    (sym (part-long (x .result .status) (a .n) (x .ensures .1 .1 .statuses) (few (c .before .before .before .before .before .before .before .before .before .before .before .before .before .before .before .before .before .before .before .before .before .before .before .before .before .before .before .before .before .before .before .before .before .before .before .before .before .before))))
 
 pub plan-table-spec : {M : Type 1} → statement M
 plan-table-spec =

@@ -22,22 +22,29 @@ run-requires c κs = let s = c .before .before .before .before .before .before .
 -- src/lib.rt:54:5
 hand-over-requires : tie.Need-hand-over-requires
 unfolding iterations seen state
-hand-over-requires c κs = 
+hand-over-requires c κs =
     let s = c .before .before .before .before .before .before .before .before .before .before .before .before .before .before .before .before .before .before .before .before .before .before .before .before .before .before .before .before .before .before .before .before .before .before .before .before in
     let a = s .args in
     let r = c .before .before .before .before .before .before .before .before .before .before .before .before .before .before .before .before .before .run in
     let z = s .pre .1 .1 .0 .1 in
     let n : length (r .last .1 .1 .1 .1 .1 .1 .1 .1 .1 .1 .0) ≡ length (a .status .now) = r .kept .1 .1 .1 .1 .1 .1 .1 .1 .1 .1 .0 in
     let lb : length (r .last .1 .1 .1 .1 .1 .1 .1 .1 .0) ≡ length (r .last .1 .1 .1 .1 .1 .1 .1 .1 .1 .1 .0) = omega (arith, r .kept .1 .1 .1 .1 .1 .1 .1 .1 .0, z .bounds, n) in
-    let lk : length (r .last .1 .1 .1 .1 .1 .1 .1 .1 .1 .0) ≡ length (r .last .1 .1 .1 .1 .1 .1 .1 .1 .1 .1 .0) = omega (arith, r .kept .1 .1 .1 .1 .1 .1 .1 .1 .1 .0, z .kepts, n) in
-    ( known-so _ (a .wanted .now) (r .result .missing) (r .last .1 .1 .1 .1 .1 .1 .0) (r .last .1 .1 .1 .1 .1 .1 .1 .0) (r .last .1 .1 .1 .1 .1 .1 .1 .1 .0) (r .last .1 .1 .1 .1 .1 .1 .1 .1 .1 .0) (r .last .1 .1 .1 .1 .1 .1 .1 .1 .1 .1 .0) (r .result .progress)
-        (r .ensures) lb
-    , (ends-so (length (a .status .now)) (a .origin) (a .tails .now) (a .heads .now) (a .lengths .now) (a .wanted .now) (s .pre .0 .0) (s .pre .0 .1) (s .pre .1 .0)
-        (r .last .1 .1 .1 .1 .1 .1 .1 .1 .1 .0) (r .last .1 .1 .1 .1 .1 .1 .1 .1 .1 .1 .0) lk (sym n)
-      , (subst (λ (m : ℕ). Fitting m (length (a .heads .now)) (a .distances .now) (a .prices .now) (a .tree .now) (a .marks .now)) (sym n) (s .pre .1 .1 .1 .1)
-        , (place-low (length (a .status .now)) (a .origin) (a .tails .now) (a .heads .now) (a .lengths .now) (a .wanted .now) (s .pre .0 .0) (s .pre .0 .1)
-            (s .pre .1 .0) (r .result .missing) (r .ensures .inside)
-          , r .ensures .few))))
+    let lk : length (r .last .1 .1 .1 .1 .1 .1 .1 .1 .1 .0) ≡ length (r .last .1 .1 .1 .1 .1 .1 .1 .1 .1 .1 .0) = omega (arith, r .kept .1 .1 .1 .1 .1 .1 .1 .1 .1 .0, z .kepts, n) in (
+      known-so _ (a .wanted .now) (r .result .missing) (r .last .1 .1 .1 .1 .1 .1 .0) (r .last .1 .1 .1 .1 .1 .1 .1 .0) (r .last .1 .1 .1 .1 .1 .1 .1 .1 .0) (r .last .1 .1 .1 .1 .1 .1 .1 .1 .1 .0) (r .last .1 .1 .1 .1 .1 .1 .1 .1 .1 .1 .0) (r .result .progress)
+          (r .ensures) lb,
+      (
+        ends-so (length (a .status .now)) (a .origin) (a .tails .now) (a .heads .now) (a .lengths .now) (a .wanted .now) (s .pre .0 .0) (s .pre .0 .1) (s .pre .1 .0)
+            (r .last .1 .1 .1 .1 .1 .1 .1 .1 .1 .0) (r .last .1 .1 .1 .1 .1 .1 .1 .1 .1 .1 .0) lk (sym n),
+        (
+          subst (λ (m : ℕ). Fitting m (length (a .heads .now)) (a .distances .now) (a .prices .now) (a .tree .now) (a .marks .now)) (sym n) (s .pre .1 .1 .1 .1),
+          (
+            place-low (length (a .status .now)) (a .origin) (a .tails .now) (a .heads .now) (a .lengths .now) (a .wanted .now) (s .pre .0 .0) (s .pre .0 .1)
+                (s .pre .1 .0) (r .result .missing) (r .ensures .inside),
+            r .ensures .few,
+          ),
+        ),
+      ),
+    )
 
 -- src/lib.rt:29:1
 same-length : tie.Need-same-length
@@ -77,14 +84,14 @@ same-length-9 c = search needs
 
 -- src/lib.rt:29:1
 returns : tie.Need-returns
-returns c = 
+returns c =
     let s = c .before .before .before .before .before .before .before .before .before .before .before .before .before .before .before .before .before .before .before .before .before .before .before .before .before .before .before .before .before .before .before .before .before .before .before .before .before .before .before .before .before .before .before .before .before in
     let a = s .args in
     let r = c .before .before .before .before .before .before .before .before .before .before .before .before .before .before .before .before .before .before .before .before .before .before .before .before .before .before .run in
     c .before .before .before .before .before .before .before .before .hand-over .ensures _ (a .wanted .now) (r .last .1 .1 .1 .1 .1 .1 .0) (r .last .1 .1 .1 .1 .1 .1 .1 .0)
-      (columns-so (length (a .status .now)) (a .origin) (a .tails .now) (a .heads .now) (a .lengths .now) (a .wanted .now) (s .pre .0 .0) (s .pre .0 .1) (s .pre .1 .0)
-        (length (r .last .1 .1 .1 .1 .1 .1 .1 .1 .1 .1 .0)) (sym (r .kept .1 .1 .1 .1 .1 .1 .1 .1 .1 .1 .0)))
-      refl (r .ensures)
+    (columns-so (length (a .status .now)) (a .origin) (a .tails .now) (a .heads .now) (a .lengths .now) (a .wanted .now) (s .pre .0 .0) (s .pre .0 .1) (s .pre .1 .0)
+    (length (r .last .1 .1 .1 .1 .1 .1 .1 .1 .1 .1 .0)) (sym (r .kept .1 .1 .1 .1 .1 .1 .1 .1 .1 .1 .0)))
+    refl (r .ensures)
 
 pub run-lent-spec : {M : Type 1} → statement M
 run-lent-spec =

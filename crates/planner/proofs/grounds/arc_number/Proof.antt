@@ -20,24 +20,24 @@ node-requires-2 c κs = search needs
 
 -- src/grounds.rt:64:9
 returns : tie.Need-returns
-returns c = 
+returns c =
     let a = c .before .before .args in
     bad-end (a .n) (a .tail) (a .head) (a .length)
-      (⊎-elim (λ w. inl (omega (arith, w .taken, c .before .node .ensures))) (λ w. inr (omega (arith, leb-true (a .n) (w .1 .result) (w .2 .taken), w .1 .ensures))) (c .if1 .came))
+    (⊎-elim (λ w. inl (omega (arith, w .taken, c .before .node .ensures))) (λ w. inr (omega (arith, leb-true (a .n) (w .1 .result) (w .2 .taken), w .1 .ensures))) (c .if1 .came))
 
 -- src/grounds.rt:67:9
 returns-2 : tie.Need-returns-2
-returns-2 c = 
+returns-2 c =
     let a = c .before .before .before .before .before .args in
     zero-length (a .n) (a .tail) (a .head) (a .length) (omega (arith, c .before .before .before .before .node .ensures, c .before .before .before .if1 .left))
-      (omega (arith, c .before .before .node2 .ensures, leb-false (a .n) (c .before .before .node2 .result) (c .before .if2 .left))) (c .if3 .taken)
+    (omega (arith, c .before .before .node2 .ensures, leb-false (a .n) (c .before .before .node2 .result) (c .before .if2 .left))) (c .if3 .taken)
 
 -- src/grounds.rt:60:1
 returns-3 : tie.Need-returns-3
-returns-3 c = 
+returns-3 c =
     let a = c .before .before .before .before .before .args in
     good-arc (a .n) (a .tail) (a .head) (a .length) (omega (arith, c .before .before .before .before .node .ensures, c .before .before .before .if1 .left))
-      (omega (arith, c .before .before .node2 .ensures, leb-false (a .n) (c .before .before .node2 .result) (c .before .if2 .left))) (c .if3 .left)
+    (omega (arith, c .before .before .node2 .ensures, leb-false (a .n) (c .before .before .node2 .result) (c .before .if2 .left))) (c .if3 .left)
 
 pub arc-number-spec : {M : Type 1} → statement M
 arc-number-spec = tie.close (tie.spec node-requires node-requires-2 returns returns-2 returns-3)

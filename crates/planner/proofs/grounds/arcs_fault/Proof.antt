@@ -62,11 +62,11 @@ place-requires c κs = omega (arith, c .before .before .before .before .before .
 -- src/grounds.rt:81:13
 returns : tie.Need-returns Inv-loop μ-loop
 unfolding refusal-of
-returns c = 
+returns c =
     let s = c .before .before .before .before .before .before .before .before .before .before .before in
     let a = s .args in
     arc-bad (a .n) (a .tails .now) (a .heads .now) (a .lengths .now) (s .pre .0) (s .pre .1 .0) (c .before .before .before .before .before .before .before .loop .i) (c .before .before .before .before .before .before .loop-test .taken)
-      (c .before .before .arc-number .result) (c .place .result) (c .before .before .arc-number .ensures) (c .before .if1 .taken) (c .place .ensures)
+    (c .before .before .arc-number .result) (c .place .result) (c .before .before .arc-number .ensures) (c .before .if1 .taken) (c .place .ensures)
     ∙ c .before .before .before .before .before .before .before .loop .inv .1
 
 -- src/grounds.rt:83:13
@@ -79,13 +79,14 @@ loop-less c = omega arith
 
 -- src/grounds.rt:78:5
 loop-again : tie.Need-loop-again Inv-loop μ-loop
-loop-again c = 
+loop-again c =
     let s = c .before .before .before .before .before .before .before .before .before .before in
-    let a = s .args in
-    ( omega arith
-    , arc-good (a .n) (a .tails .now) (a .heads .now) (a .lengths .now) (s .pre .0) (s .pre .1 .0) (c .before .before .before .before .before .before .loop .i) (c .before .before .before .before .before .loop-test .taken)
-        (sym (c .before .arc-number .ensures) ∙ c .if1 .left)
-      ∙ c .before .before .before .before .before .before .loop .inv .1)
+    let a = s .args in (
+      omega arith,
+      arc-good (a .n) (a .tails .now) (a .heads .now) (a .lengths .now) (s .pre .0) (s .pre .1 .0) (c .before .before .before .before .before .before .loop .i) (c .before .before .before .before .before .loop-test .taken)
+          (sym (c .before .arc-number .ensures) ∙ c .if1 .left)
+          ∙ c .before .before .before .before .before .before .loop .inv .1,
+    )
 
 -- src/grounds.rt:85:5
 none-requires : tie.Need-none-requires Inv-loop μ-loop
@@ -93,7 +94,7 @@ none-requires c κs = search needs
 
 -- src/grounds.rt:73:1
 returns-2 : tie.Need-returns-2 Inv-loop μ-loop
-returns-2 c = 
+returns-2 c =
     let s = c .before .before .before .before .before .before in
     let a = s .args in
     no-fault (c .none .result) (c .none .ensures)

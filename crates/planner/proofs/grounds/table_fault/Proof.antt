@@ -37,38 +37,38 @@ buffers-fine c =
 -- src/grounds.rt:94:9
 returns : tie.Need-returns
 unfolding refusal-of refusal
-returns c = 
+returns c =
     let a = c .before .before .before .before .before .args in
     at-1 (a .n) (a .origin) (a .tails .now) (a .heads .now) (a .lengths .now) (a .wanted .now) _
-      (⊎-elim (λ w. either-first (eqb (a .n) 0) _ (eq-eqb (a .n) 0 (w .taken))) (λ w. either-second (eqb (a .n) 0) _ (w .1 .taken)) (c .if1 .came))
+    (⊎-elim (λ w. either-first (eqb (a .n) 0) _ (eq-eqb (a .n) 0 (w .taken))) (λ w. either-second (eqb (a .n) 0) _ (w .1 .taken)) (c .if1 .came))
 
 -- src/grounds.rt:97:9
 returns-2 : tie.Need-returns-2
 unfolding refusal-of refusal
-returns-2 c = 
+returns-2 c =
     let a = c .before .before .before .before .before .before .before .args in
     at-2 (a .n) (a .origin) (a .tails .now) (a .heads .now) (a .lengths .now) (a .wanted .now) _ (nodes-fine (c .before))
-      (⊎-elim (λ w. columns-differ (a .tails .now) (a .heads .now) (a .lengths .now) (inl (w .taken)))
-        (λ z.
-        ⊎-elim (λ w. columns-differ (a .tails .now) (a .heads .now) (a .lengths .now) (inr (w .1 .taken)))
-          (λ w. too-many-arcs (a .tails .now) (a .heads .now) (a .lengths .now) (w .2 .taken)) z)
-        (c .if3 .came))
+    (⊎-elim (λ w. columns-differ (a .tails .now) (a .heads .now) (a .lengths .now) (inl (w .taken)))
+    (λ z.
+    ⊎-elim (λ w. columns-differ (a .tails .now) (a .heads .now) (a .lengths .now) (inr (w .1 .taken)))
+    (λ w. too-many-arcs (a .tails .now) (a .heads .now) (a .lengths .now) (w .2 .taken)) z)
+    (c .if3 .came))
 
 -- src/grounds.rt:101:9
 returns-3 : tie.Need-returns-3
 unfolding refusal-of refusal
-returns-3 c = 
+returns-3 c =
     let a = c .before .before .before .before .before .before .before .before .before .before .args in
     let m = length (a .tails .now) in
     at-3 (a .n) (a .origin) (a .tails .now) (a .heads .now) (a .lengths .now) (a .wanted .now) _ (nodes-fine (c .before .before .before .before)) (arcs-fine (c .before))
-      (⊎-elim (λ w. rooms-1 (a .n) m (a .distances) (a .prices) (a .tree) (a .marks) (w .taken))
-        (λ z.
-        ⊎-elim (λ w. rooms-2 (a .n) m (a .distances) (a .prices) (a .tree) (a .marks) (w .1 .taken))
-          (λ y.
-          ⊎-elim (λ w. rooms-3 (a .n) m (a .distances) (a .prices) (a .tree) (a .marks) (w .2 .taken))
-            (λ w. rooms-4 (a .n) m (a .distances) (a .prices) (a .tree) (a .marks) (w .3 .taken)) y)
-          z)
-        (c .if6 .came))
+    (⊎-elim (λ w. rooms-1 (a .n) m (a .distances) (a .prices) (a .tree) (a .marks) (w .taken))
+    (λ z.
+    ⊎-elim (λ w. rooms-2 (a .n) m (a .distances) (a .prices) (a .tree) (a .marks) (w .1 .taken))
+    (λ y.
+    ⊎-elim (λ w. rooms-3 (a .n) m (a .distances) (a .prices) (a .tree) (a .marks) (w .2 .taken))
+    (λ w. rooms-4 (a .n) m (a .distances) (a .prices) (a .tree) (a .marks) (w .3 .taken)) y)
+    z)
+    (c .if6 .came))
 
 -- src/grounds.rt:103:13
 node-requires : tie.Need-node-requires
@@ -77,10 +77,10 @@ node-requires c κs = search needs
 -- src/grounds.rt:104:9
 returns-4 : tie.Need-returns-4
 unfolding refusal-of refusal
-returns-4 c = 
+returns-4 c =
     let a = c .before .before .before .before .before .before .before .before .before .before .before .before .before .before .before .args in
     at-4 (a .n) (a .origin) (a .tails .now) (a .heads .now) (a .lengths .now) (a .wanted .now) _ (nodes-fine (c .before .before .before .before .before .before .before .before .before)) (arcs-fine (c .before .before .before .before .before .before)) (buffers-fine (c .before .before))
-      (omega (arith, c .before .node .ensures, c .if10 .taken))
+    (omega (arith, c .before .node .ensures, c .if10 .taken))
 
 -- src/grounds.rt:106:9
 wanted-fault-requires : tie.Need-wanted-fault-requires
@@ -89,14 +89,14 @@ wanted-fault-requires c κs = search needs
 -- src/grounds.rt:108:9
 returns-5 : tie.Need-returns-5
 unfolding refusal-of refusal
-returns-5 c = 
+returns-5 c =
     let a = c .before .before .before .before .before .before .before .before .before .before .before .before .before .before .before .before .before .before .args in
     at-5 (a .n) (a .origin) (a .tails .now) (a .heads .now) (a .lengths .now) (a .wanted .now) _ (nodes-fine (c .before .before .before .before .before .before .before .before .before .before .before .before)) (arcs-fine (c .before .before .before .before .before .before .before .before .before)) (buffers-fine (c .before .before .before .before .before))
-      (omega (arith, c .before .before .before .before .node .ensures, c .before .before .before .if10 .left)) _ (c .before .before .wanted-fault .ensures) (c .if11 .taken)
+    (omega (arith, c .before .before .before .before .node .ensures, c .before .before .before .if10 .left)) _ (c .before .before .wanted-fault .ensures) (c .if11 .taken)
 
 -- src/grounds.rt:110:5
 arcs-fault-requires : tie.Need-arcs-fault-requires
-arcs-fault-requires c κs = 
+arcs-fault-requires c κs =
     let a = c .before .before .before .before .before .before .before .before .before .before .before .before .before .before .before .before .before .before .args in
     let h = c .before .before .before .before .before .before .before .before .before .before .before .if3 .left in
     let l : length (a .heads .now) ≡ length (a .lengths .now) = eqb-true _ _ (not-false _ (c .before .before .before .before .before .before .before .before .before .before .if4 .left)) in
@@ -105,10 +105,10 @@ arcs-fault-requires c κs =
 -- src/grounds.rt:89:1
 returns-6 : tie.Need-returns-6
 unfolding refusal-of refusal
-returns-6 c = 
+returns-6 c =
     let a = c .before .before .before .before .before .before .before .before .before .before .before .before .before .before .before .before .before .before .before .args in
     at-6 (a .n) (a .origin) (a .tails .now) (a .heads .now) (a .lengths .now) (a .wanted .now) _ (nodes-fine (c .before .before .before .before .before .before .before .before .before .before .before .before .before)) (arcs-fine (c .before .before .before .before .before .before .before .before .before .before)) (buffers-fine (c .before .before .before .before .before .before))
-      (omega (arith, c .before .before .before .before .before .node .ensures, c .before .before .before .before .if10 .left)) _ _ (c .before .before .before .wanted-fault .ensures) (c .before .if11 .left) (c .arcs-fault .ensures)
+    (omega (arith, c .before .before .before .before .before .node .ensures, c .before .before .before .before .if10 .left)) _ _ (c .before .before .before .wanted-fault .ensures) (c .before .if11 .left) (c .arcs-fault .ensures)
 
 pub table-fault-spec : {M : Type 1} → statement M
 table-fault-spec =

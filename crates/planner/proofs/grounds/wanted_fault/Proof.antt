@@ -33,7 +33,7 @@ returns c = too-many (c .before .before .before .args .n) (c .before .before .be
 
 -- src/grounds.rt:50:5
 loop-holds : tie.Need-loop-holds Inv-loop μ-loop
-loop-holds c = 
+loop-holds c =
     let a = c .before .before .args in (c .if1 .left, search needs, few-enough (a .n) (a .wanted .now) (c .if1 .left))
 
 -- src/grounds.rt:51:22
@@ -55,7 +55,7 @@ place-requires-2 c κs = omega arith
 -- src/grounds.rt:52:13
 returns-2 : tie.Need-returns-2 Inv-loop μ-loop
 unfolding refusal-of
-returns-2 c = 
+returns-2 c =
     let a = c .before .before .before .before .before .before .before .before .args in
     let i = c .before .before .before .before .before .loop .i in
     wanted-bad (a .n) (a .wanted .now) i (c .place2 .result) (c .place2 .ensures) (c .before .before .before .before .loop-test .taken) (omega (arith, c .before .before .node .ensures, c .before .if2 .taken))
@@ -71,12 +71,13 @@ loop-less c = omega arith
 
 -- src/grounds.rt:50:5
 loop-again : tie.Need-loop-again Inv-loop μ-loop
-loop-again c = 
+loop-again c =
     let a = c .before .before .before .before .before .before .before .args in
-    let l = c .before .before .before .before .loop in
-    ( l .inv .0
-    , omega arith
-    , wanted-good (a .n) (a .wanted .now) (l .i) (c .before .before .before .loop-test .taken) (omega (arith, c .before .node .ensures, c .if2 .left)) ∙ l .inv .2)
+    let l = c .before .before .before .before .loop in (
+      l .inv .0,
+      omega arith,
+      wanted-good (a .n) (a .wanted .now) (l .i) (c .before .before .before .loop-test .taken) (omega (arith, c .before .node .ensures, c .if2 .left)) ∙ l .inv .2,
+    )
 
 -- src/grounds.rt:56:5
 none-requires : tie.Need-none-requires Inv-loop μ-loop
@@ -84,7 +85,7 @@ none-requires c κs = search needs
 
 -- src/grounds.rt:43:1
 returns-3 : tie.Need-returns-3 Inv-loop μ-loop
-returns-3 c = 
+returns-3 c =
     let a = c .before .before .before .before .before .args in
     no-fault (c .none .result) (c .none .ensures) ∙ wanted-done (a .n) (a .wanted .now) (c .before .before .loop .i) (c .before .loop-test .left) ∙ c .before .before .loop .inv .2
 

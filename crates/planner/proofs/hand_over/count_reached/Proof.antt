@@ -34,7 +34,7 @@ one-if-reached-requires c κs = omega (arith, c .before .loop .inv .0)
 
 -- src/hand_over.rt:81:17
 add-count : tie.Need-add-count Inv-loop μ-loop
-add-count c = 
+add-count c =
     let l = c .before .before .loop in
     omega (arith, l .inv .0, c .before .before .before .before .pre, c .one-if-reached .ensures, at-most-one (ltb 0 (getD (c .before .before .before .before .args .status .now) (l .v - 1) 0)))
 
@@ -44,16 +44,17 @@ loop-less c = omega arith
 
 -- src/hand_over.rt:79:5
 loop-again : tie.Need-loop-again Inv-loop μ-loop
-loop-again c = 
+loop-again c =
     let a = c .before .before .before .before .args in
-    let l = c .before .before .loop in
-    ( omega (arith, l .inv .0, c .one-if-reached .ensures, at-most-one (ltb 0 (getD (a .status .now) (l .v - 1) 0)))
-    , ap (λ (m : ℕ). m + l .count) (c .one-if-reached .ensures)
-      ∙ sum-more (length (a .status .now)) (reached-entry (a .status .now)) (l .v) (c .before .loop-test .taken) (omega (arith, l .inv .0)) (l .count) (l .inv .1))
+    let l = c .before .before .loop in (
+      omega (arith, l .inv .0, c .one-if-reached .ensures, at-most-one (ltb 0 (getD (a .status .now) (l .v - 1) 0))),
+      ap (λ (m : ℕ). m + l .count) (c .one-if-reached .ensures)
+          ∙ sum-more (length (a .status .now)) (reached-entry (a .status .now)) (l .v) (c .before .loop-test .taken) (omega (arith, l .inv .0)) (l .count) (l .inv .1),
+    )
 
 -- src/hand_over.rt:73:1
 returns : tie.Need-returns Inv-loop μ-loop
-returns c = 
+returns c =
     λ t path price bound kept g e.
     let a = c .before .before .before .args in
     let l = c .before .loop in

@@ -29,7 +29,7 @@ sub-v c = omega arith
 
 -- src/hand_over.rt:95:18
 distance-or-requires : tie.Need-distance-or-requires Inv-loop μ-loop
-distance-or-requires c κs = 
+distance-or-requires c κs =
     let s = c .before .before .before .before .before in
     let l = c .before .loop in (omega (arith, l .inv .low, s .pre .0 .as-long), omega (arith, l .inv .low))
 
@@ -55,7 +55,7 @@ same-length c = omega (arith, c .before .loop .inv .long, c .before .before .bef
 
 -- src/hand_over.rt:87:1
 returns : tie.Need-returns Inv-loop μ-loop
-returns c = 
+returns c =
     λ t path price kept g e.
     let s = c .before .before .before .before .before in
     fill-ends (c .before .loop .inv) (c .loop-test .left) ∙ distances-so path price (s .args .bound .now) kept (s .args .status .now) g (s .pre .0) t e

@@ -28,7 +28,7 @@ sub-i c = omega arith
 
 -- src/hand_over.rt:173:18
 mark-at-requires : tie.Need-mark-at-requires Inv-loop μ-loop
-mark-at-requires c κs = 
+mark-at-requires c κs =
     let s = c .before .before .before .before .before .before .before in
     let l = c .before .loop in (s .pre .0, (omega (arith, l .inv .low), omega (arith, l .inv .low, s .pre .1 .1)))
 
@@ -50,7 +50,7 @@ same-length c = omega (arith, c .before .loop .inv .long, c .before .before .bef
 
 -- src/hand_over.rt:165:1
 returns : tie.Need-returns Inv-loop μ-loop
-returns c = 
+returns c =
     λ t path price bound g e heads tails.
     let s = c .before .before .before .before .before .before .before in
     let a = s .args in

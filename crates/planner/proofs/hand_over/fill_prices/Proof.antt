@@ -27,20 +27,20 @@ sub-v c = omega arith
 
 -- src/hand_over.rt:109:28
 distance-or-requires : tie.Need-distance-or-requires Inv-loop μ-loop
-distance-or-requires c κs = 
+distance-or-requires c κs =
     let s = c .before .before .before .before .before in
     let l = c .before .loop in (omega (arith, l .inv .low, s .pre .0 .as-long), omega (arith, l .inv .low))
 
 -- src/hand_over.rt:109:18
 sub-out : tie.Need-sub-out Inv-loop μ-loop
-sub-out c = 
+sub-out c =
     let s = c .before .before .before .before .before .before in
     let a = s .args in
     let l = c .before .before .loop in
     let e = c .distance-or .ensures in
     let low =
-        by-status (getD (a .status .now) (l .v - 1) 0) (getD (a .bound .now) (l .v - 1) 0) (a .horizon) (λ m. m ≤ a .horizon) (λ z. omega arith)
-          (λ z. s .pre .1 .1 (l .v - 1) (omega (arith, l .inv .low)) (omega arith)) in
+    by-status (getD (a .status .now) (l .v - 1) 0) (getD (a .bound .now) (l .v - 1) 0) (a .horizon) (λ m. m ≤ a .horizon) (λ z. omega arith)
+    (λ z. s .pre .1 .1 (l .v - 1) (omega (arith, l .inv .low)) (omega arith)) in
     omega (arith, e, low)
 
 -- src/hand_over.rt:109:9
@@ -57,7 +57,7 @@ loop-less c = omega arith
 
 -- src/hand_over.rt:107:5
 loop-again : tie.Need-loop-again Inv-loop μ-loop
-loop-again c = 
+loop-again c =
     let a = c .before .before .before .before .before .before .args in fill-on _ (c .before .before .loop .inv) (c .before .loop-test .taken) (ap (λ m. a .horizon - m) (c .distance-or .ensures))
 
 -- src/hand_over.rt:100:1
@@ -66,7 +66,7 @@ same-length c = omega (arith, c .before .loop .inv .long, c .before .before .bef
 
 -- src/hand_over.rt:100:1
 returns : tie.Need-returns Inv-loop μ-loop
-returns c = 
+returns c =
     λ t path price kept g e eh.
     let s = c .before .before .before .before .before in
     let a = s .args in

@@ -28,7 +28,7 @@ sub-v c = omega arith
 
 -- src/hand_over.rt:132:18
 arc-of-requires : tie.Need-arc-of-requires Inv-loop μ-loop
-arc-of-requires c κs = 
+arc-of-requires c κs =
     let s = c .before .before .before .before .before in
     let l = c .before .loop in (omega (arith, l .inv .low, s .pre .0), omega (arith, l .inv .low))
 
@@ -54,7 +54,7 @@ same-length c = omega (arith, c .before .loop .inv .long, c .before .before .bef
 
 -- src/hand_over.rt:125:1
 returns : tie.Need-returns Inv-loop μ-loop
-returns c = 
+returns c =
     λ t path price bound g e.
     let s = c .before .before .before .before .before in
     fill-ends (c .before .loop .inv) (c .loop-test .left) ∙ tree-so path price bound (s .args .kept .now) (s .args .status .now) g t (s .pre .0) e

@@ -40,17 +40,17 @@ fill-distances-requires c κs = search needs
 
 -- src/hand_over.rt:217:5
 fill-prices-requires : tie.Need-fill-prices-requires
-fill-prices-requires c κs = 
+fill-prices-requires c κs =
     let s = c .before .before .before .before .before .before .before .before .before .before .before .before .before .before .before .before .before in (s .pre .0, (s .pre .1 .1 .0 .prices-long, c .before .before .before .before .before .horizon-of .ensures .1))
 
 -- src/hand_over.rt:218:5
 fill-tree-requires : tie.Need-fill-tree-requires
-fill-tree-requires c κs = 
+fill-tree-requires c κs =
     let s = c .before .before .before .before .before .before .before .before .before .before .before .before .before .before .before .before .before .before .before .before .before in (s .pre .1 .0 .kept-count, s .pre .1 .1 .0 .tree-long)
 
 -- src/hand_over.rt:219:5
 fill-marks-requires : tie.Need-fill-marks-requires
-fill-marks-requires c κs = 
+fill-marks-requires c κs =
     let s = c .before .before .before .before .before .before .before .before .before .before .before .before .before .before .before .before .before .before .before .before .before .before .before .before .before in (s .pre .1 .0, (s .pre .1 .1 .0 .marks-long, omega (arith, s .pre .1 .1 .0 .few-arcs)))
 
 -- src/hand_over.rt:226:21
@@ -80,19 +80,19 @@ same-length-4 c = search needs
 -- src/hand_over.rt:194:1
 returns : tie.Need-returns
 unfolding answered iterations seen state
-returns c = 
+returns c =
     λ t ws path price columns many ran.
     let s = c .before .before .before .before .before .before .before .before .before .before .before .before .before .before .before .before .before .before .before .before .before .before .before .before .before .before .before .before .before .before .before in
     let a = s .args in
     let e = columns .nodes in
     let h = c .before .before .before .before .before .before .before .before .before .before .before .before .before .before .before .before .before .before .before .horizon-of .ensures .0 t path price (a .kept .now) (a .end .progress) e in
     assembled t ws (a .end .missing) _ ran (c .before .before .before .before .before .before .before .before .before .before .before .before .before .before .before .before .before .before .before .before .before .route-fault .result) _ _ _ _ _ _ _ _ _ _
-      (subst (λ (m : ℕ). refusal-of (c .before .before .before .before .before .before .before .before .before .before .before .before .before .before .before .before .before .before .before .before .before .route-fault .result) ≡ cond (eqb (a .end .missing) m) no-refusal (refusal 8 (a .end .missing))) (sym many) (c .before .before .before .before .before .before .before .before .before .before .before .before .before .before .before .before .before .before .before .before .before .route-fault .ensures))
-      (c .before .before .before .before .before .before .before .before .before .before .before .before .before .before .before .before .before .before .before .before .count-reached .ensures t path price (a .bound .now) (a .kept .now) (a .end .progress) e) h refl refl refl refl
-      (c .before .before .before .before .before .before .before .before .before .before .before .before .before .before .before .before .before .fill-distances .ensures t path price (a .kept .now) (a .end .progress) e)
-      (c .before .before .before .before .before .before .before .before .before .before .before .before .before .fill-prices .ensures t path price (a .kept .now) (a .end .progress) e h)
-      (c .before .before .before .before .before .before .before .before .before .fill-tree .ensures t path price (a .bound .now) (a .end .progress) e)
-      (c .before .before .before .before .before .fill-marks .ensures t path price (a .bound .now) (a .end .progress) (columns .count) (columns .head) (columns .tail))
+    (subst (λ (m : ℕ). refusal-of (c .before .before .before .before .before .before .before .before .before .before .before .before .before .before .before .before .before .before .before .before .before .route-fault .result) ≡ cond (eqb (a .end .missing) m) no-refusal (refusal 8 (a .end .missing))) (sym many) (c .before .before .before .before .before .before .before .before .before .before .before .before .before .before .before .before .before .before .before .before .before .route-fault .ensures))
+    (c .before .before .before .before .before .before .before .before .before .before .before .before .before .before .before .before .before .before .before .before .count-reached .ensures t path price (a .bound .now) (a .kept .now) (a .end .progress) e) h refl refl refl refl
+    (c .before .before .before .before .before .before .before .before .before .before .before .before .before .before .before .before .before .fill-distances .ensures t path price (a .kept .now) (a .end .progress) e)
+    (c .before .before .before .before .before .before .before .before .before .before .before .before .before .fill-prices .ensures t path price (a .kept .now) (a .end .progress) e h)
+    (c .before .before .before .before .before .before .before .before .before .fill-tree .ensures t path price (a .bound .now) (a .end .progress) e)
+    (c .before .before .before .before .before .fill-marks .ensures t path price (a .bound .now) (a .end .progress) (columns .count) (columns .head) (columns .tail))
 
 pub hand-over-spec : {M : Type 1} → statement M
 hand-over-spec =

@@ -22,7 +22,7 @@ abbrev μ-loop : tie.MeasureT-loop
 
 -- src/hand_over.rt:54:5
 loop-holds : tie.Need-loop-holds Inv-loop μ-loop
-loop-holds c = 
+loop-holds c =
     let a = c .before .before .args in (search needs, greatest-none (length (a .status .now)) (distance-entry 0 (a .bound .now) (a .status .now)))
 
 -- src/hand_over.rt:55:13
@@ -31,7 +31,7 @@ sub-v c = omega arith
 
 -- src/hand_over.rt:56:20
 distance-or-requires : tie.Need-distance-or-requires Inv-loop μ-loop
-distance-or-requires c κs = 
+distance-or-requires c κs =
     let s = c .before .before .before .before in
     let l = c .before .loop in (omega (arith, l .inv .0, s .pre .as-long), omega (arith, l .inv .0))
 
@@ -45,13 +45,14 @@ loop-less c = omega arith
 
 -- src/hand_over.rt:54:5
 loop-again : tie.Need-loop-again Inv-loop μ-loop
-loop-again c = 
+loop-again c =
     let a = c .before .before .before .before .before .before .args in
     let l = c .before .before .before .loop in
-    let f = distance-entry 0 (a .bound .now) (a .status .now) in
-    ( omega (arith, l .inv .0)
-    , c .larger .ensures ∙ ap (λ (m : ℕ). max m (l .h)) (c .before .distance-or .ensures)
-      ∙ greatest-more (length (a .status .now)) f (l .v) (c .before .before .loop-test .taken) (l .inv .0) (l .h) (l .inv .1))
+    let f = distance-entry 0 (a .bound .now) (a .status .now) in (
+      omega (arith, l .inv .0),
+      c .larger .ensures ∙ ap (λ (m : ℕ). max m (l .h)) (c .before .distance-or .ensures)
+          ∙ greatest-more (length (a .status .now)) f (l .v) (c .before .before .loop-test .taken) (l .inv .0) (l .h) (l .inv .1),
+    )
 
 -- src/hand_over.rt:48:1
 returns : tie.Need-returns Inv-loop μ-loop
@@ -59,9 +60,10 @@ returns c =
     let s = c .before .before .before .before in
     let a = s .args in
     let l = c .before .loop in
-    let all = l .inv .1 ∙ ap greatest (all-entries (length (a .status .now)) (l .v) (distance-entry 0 (a .bound .now) (a .status .now)) (c .loop-test .left)) in
-    ( λ t path price kept g e. all ∙ horizon-so path price (a .bound .now) kept (a .status .now) g (s .pre) t e
-    , below-horizon (a .bound .now) (a .status .now) _ all)
+    let all = l .inv .1 ∙ ap greatest (all-entries (length (a .status .now)) (l .v) (distance-entry 0 (a .bound .now) (a .status .now)) (c .loop-test .left)) in (
+      λ t path price kept g e. all ∙ horizon-so path price (a .bound .now) kept (a .status .now) g (s .pre) t e,
+      below-horizon (a .bound .now) (a .status .now) _ all,
+    )
 
 pub horizon-of-spec : {M : Type 1} → statement M
 horizon-of-spec =

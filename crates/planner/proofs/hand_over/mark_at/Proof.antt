@@ -52,7 +52,7 @@ mul-wide-3 c = search needs
 
 -- src/hand_over.rt:161:83
 shared-slice-read-wide-3 : tie.Need-shared-slice-read-wide-3
-shared-slice-read-wide-3 c = 
+shared-slice-read-wide-3 c =
     let s = c .before .before .before .before .before .before .before .before .before .before .before in omega (arith, c .before .before .before .before .before .wide .ensures .0, s .pre .0 .head-in (s .args .i) (s .pre .1 .0), s .pre .0 .kept-count)
 
 -- src/hand_over.rt:161:78
@@ -65,10 +65,10 @@ mark-requires c κs = search needs
 
 -- src/hand_over.rt:154:1
 returns : tie.Need-returns
-returns c = 
+returns c =
     let a = c .before .before .before .before .before .before .before .before .before .before .before .before .before .args in
     marked (a .status .now) (a .kept .now) (c .before .before .before .before .before .before .before .wide .result) _ (c .before .before .before .before .before .wide2 .result) _ (c .before .wide3 .result) (a .i) _ (c .before .before .before .before .before .before .before .wide .ensures .0)
-      (c .before .before .before .before .before .wide2 .ensures .0) (c .before .wide3 .ensures .0) (c .mark .ensures)
+    (c .before .before .before .before .before .wide2 .ensures .0) (c .before .wide3 .ensures .0) (c .mark .ensures)
 
 pub mark-at-spec : {M : Type 1} → statement M
 mark-at-spec =

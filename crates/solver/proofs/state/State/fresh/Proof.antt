@@ -29,15 +29,18 @@ array-write-bound c = search needs
 
 -- src/state.rt:35:5
 returns : tie.Need-returns
-returns c =
-    ( λ t eo h l. fresh-seen 1024 t (c .before .args .origin) (c .wide .result) _ (c .wide .ensures .0) eo h l refl refl refl refl
-    , (stored-long 1024 0 0 (c .before .args .origin)
-      , record {
-          prices = length-replicate {A = ℕ} 1024 0;
-          bounds = stored-long 1024 no-distance (c .wide .result) 0;
-          kepts = length-replicate {A = ℕ} 1024 no-arc;
-          statuses = length-replicate {A = ℕ} 1024 0;
-        }))
+returns c = (
+  λ t eo h l. fresh-seen 1024 t (c .before .args .origin) (c .wide .result) _ (c .wide .ensures .0) eo h l refl refl refl refl,
+  (
+    stored-long 1024 0 0 (c .before .args .origin),
+    record {
+      prices = length-replicate {A = ℕ} 1024 0;
+      bounds = stored-long 1024 no-distance (c .wide .result) 0;
+      kepts = length-replicate {A = ℕ} 1024 no-arc;
+      statuses = length-replicate {A = ℕ} 1024 0;
+    },
+  ),
+)
 
 pub fresh-spec : {M : Type 1} → statement M
 fresh-spec =
