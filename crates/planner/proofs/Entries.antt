@@ -3,7 +3,7 @@ use mathlib.Core.Path.{_≡_, refl, sym, ap, ap₂, subst, _∙_}
 use mathlib.Core.List.{List, [], _∷_}
 use Prim.Native.Nat.{ℕ, zero, suc, _+_, _-_, _≤_, _<_, max}
 use native.Mathlib.Omega.{arith}
-use lib.ListN.{length, getD, set, drop, length-set, drop-of-length-le}
+use lib.ListN.{length, set, drop, length-set, drop-of-length-le}
 use Rattle.auction.specs.HandOver.{entries, greatest, sum}
 
 pub entries-same : (k a : ℕ) (f g : ℕ → ℕ) → ((v : ℕ) → v < a + k → f v ≡ g v) → entries k a f ≡ entries k a g

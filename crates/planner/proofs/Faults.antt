@@ -1,16 +1,16 @@
 -- The grounds 5, 6 and 7: what is left to test from an index on decides. Assumes nothing.
-use mathlib.Core.Path.{_≡_, refl, sym, ap, ap₂, subst, _∙_}
-use mathlib.Core.Bool.{Bool, true, false, _&&_, _||_, not, cond}
-use mathlib.Core.List.{List, [], _∷_}
+use mathlib.Core.Path.{_≡_, refl, sym, ap₂, _∙_}
+use mathlib.Core.Bool.{Bool, true, false, _&&_, _||_, not}
+use mathlib.Core.List.{List}
 use mathlib.Core.Logic.{_⊎_, inl, inr, ⊎-elim}
-use Prim.Native.Nat.{ℕ, zero, suc, _+_, _≤_, _<_}
+use Prim.Native.Nat.{ℕ, _+_, _≤_, _<_}
 use native.Mathlib.Omega.{arith}
 use native.Mathlib.Numerals.{add-one}
 use lib.Dec.{ltb, leb, eqb}
 use lib.ListN.{length, getD, drop, drop-of-length-le}
 use lib.Seq.{drop-cons}
 use borrow.Author.Tests.{lt-ltb, le-ltb, le-leb, lt-leb, eq-eqb, ne-eqb, not-true, not-false}
-use Rattle.table.specs.Table.{Arc, arc, arcs-of, most-nodes, most-arcs, most-wanted}
+use Rattle.table.specs.Table.{arc, arcs-of, most-nodes, most-arcs, most-wanted}
 use Rattle.table.specs.Grounds.{Refusal, Room, room, refusal, no-refusal, or-else, columns-bad, rooms-fit, table-refusal, wanted-from, wanted-refusal, arc-fault, arcs-from, arcs-refusal}
 use Rattle.auction.proofs.Basics.{true-or}
 use Rattle.planner.specs.declared.grounds.Fault.{Fault}

@@ -1,17 +1,16 @@
 -- The entries that the code makes are the definition's. Assumes nothing.
-use mathlib.Core.Path.{_≡_, refl, sym, ap, ap₂, subst, _∙_}
+use mathlib.Core.Path.{_≡_, sym, ap, ap₂, subst, _∙_}
 use mathlib.Core.Bool.{Bool, true, false, cond}
 use mathlib.Core.List.{List}
 use mathlib.Core.Logic.{⊎-elim}
-use mathlib.Core.Option.{Option, none, some}
-use Prim.Native.Nat.{ℕ, _+_, _-_, _≤_, _<_}
+use Prim.Native.Nat.{ℕ, _-_, _≤_, _<_}
 use native.Mathlib.Omega.{arith}
 use lib.Dec.{ltb, eqb}
 use lib.ListN.{length, getD}
-use borrow.Author.Tests.{ltb-true, lt-ltb, le-ltb, eq-eqb, ne-eqb}
+use borrow.Author.Tests.{ltb-true, lt-ltb, le-ltb, ne-eqb}
 use Rattle.table.specs.Table.{Table, arc-count, tail-at, head-at, no-arc, no-distance}
 use Rattle.table.specs.Grounds.{Refusal, refusal, no-refusal}
-use Rattle.auction.specs.Auction.{State, Ended, ended, auction, iterations, state, was-reached, status-at, distance, kept-at, is-kept}
+use Rattle.auction.specs.Auction.{State, Ended, ended, auction, iterations, was-reached, distance, kept-at, is-kept}
 use Rattle.auction.specs.HandOver.{answer, handed-over, route-refusal, entries, greatest, sum, horizon, reached-count, distances, prices, tree, marks, mark, mark-number, arc-or-none}
 use Rattle.auction.proofs.Basics.{same-or, true-or}
 use Rattle.auction.proofs.Sums.{greatest-bound}

@@ -1,23 +1,22 @@
 -- From the run to the hand-over, and from the grounds to the run. Assumes nothing.
-use mathlib.Core.Path.{_≡_, refl, sym, ap, subst, _∙_}
-use mathlib.Core.Bool.{Bool, true, false, _&&_, _||_, not, cond}
-use mathlib.Core.List.{List, [], _∷_}
-use mathlib.Core.Option.{Option, none, some}
-use Prim.Native.Nat.{ℕ, zero, suc, _+_, _^_, _≤_, _<_}
+use mathlib.Core.Path.{_≡_, refl, sym, _∙_}
+use mathlib.Core.Bool.{true, _&&_, _||_, not}
+use mathlib.Core.List.{List}
+use Prim.Native.Nat.{ℕ, _^_, _≤_, _<_}
 use native.Mathlib.Omega.{arith}
 use lib.Dec.{ltb, leb, eqb}
 use lib.ListN.{length, getD, take}
 use lib.Seq.{length-take-le}
-use borrow.Author.Tests.{lt-ltb, leb-true, eqb-true, eqb-false, eq-eqb, ne-eqb, not-true, not-false, ltb-false}
-use Rattle.table.specs.Table.{Table, table, table-of, is-table, arc-count, tail-at, head-at, arcs-good, nodes-below, no-distance, most-nodes, most-arcs, Below}
-use Rattle.table.specs.Grounds.{Refusal, Room, refusal, room, table-refusal, columns-bad, rooms-fit}
-use Rattle.auction.specs.Auction.{State, fresh, was-reached, bound-at, iterations}
+use borrow.Author.Tests.{lt-ltb, leb-true, eqb-true, eq-eqb, ne-eqb, not-false, ltb-false}
+use Rattle.table.specs.Table.{Table, table, table-of, is-table, arc-count, arcs-good, nodes-below, most-nodes, most-arcs, Below}
+use Rattle.table.specs.Grounds.{refusal, room, table-refusal, columns-bad, rooms-fit}
+use Rattle.auction.specs.Auction.{fresh, was-reached}
 use Rattle.auction.specs.HandOver.{Answer, answer}
 use Rattle.auction.proofs.Basics.{both-true, either-false, inside}
 use Rattle.auction.specs.Promises.{Not-turned-down}
-use Rattle.auction.proofs.Good.{Good, good, not-turned-down, passed}
+use Rattle.auction.proofs.Good.{good, not-turned-down, passed}
 use Rattle.solver.specs.declared.state.Progress.{Progress}
-use Rattle.solver.specs.Seen.{seen, bound-of}
+use Rattle.solver.specs.Seen.{seen}
 use Rattle.solver.specs.Steps.{Ran}
 use Rattle.solver.proofs.Arrays.{seen-bound, seen-status, no-bound}
 use Rattle.solver.proofs.Columns.{count-so, tail-so, head-so, nodes-so, origin-so}

@@ -1,19 +1,18 @@
 -- A node's outgoing arcs: the arcs that a list jumps over leave other nodes, so they offer nothing and bid nothing. Assumes nothing.
-use mathlib.Core.Path.{_≡_, refl, sym, ap, ap₂, subst, _∙_}
-use mathlib.Core.Bool.{Bool, true, false, _&&_, cond}
+use mathlib.Core.Path.{_≡_, refl, sym, ap, subst, _∙_}
+use mathlib.Core.Bool.{Bool, true, false}
 use mathlib.Core.List.{List}
-use mathlib.Core.Logic.{_⊎_, inl, inr, ⊎-elim}
+use mathlib.Core.Logic.{⊎-elim}
 use mathlib.Core.Option.{Option, none, some}
 use Prim.Native.Nat.{ℕ, zero, suc, _+_, _-_, _≤_, _<_}
 use native.Mathlib.Omega.{arith}
-use native.Mathlib.Nat.{add-zero, add-suc}
-use lib.Dec.{ltb, leb, eqb}
-use lib.ListN.{length, getD}
-use borrow.Author.Tests.{eqb-true, eqb-false, eq-eqb, ne-eqb, leb-true, leb-false, le-leb, lt-leb}
+use lib.Dec.{leb}
+use lib.ListN.{getD}
+use borrow.Author.Tests.{eq-eqb, ne-eqb, leb-true, leb-false, le-leb, lt-leb}
 use Rattle.table.specs.Table.{Table, arc-count, tail-at, head-at, length-at, no-arc, most-arcs}
 use Rattle.auction.specs.Auction.{State, Bid, bid, offer, offers, takes, best-from, to-child, with-bid, lower-bid, price-at}
 use Rattle.auction.proofs.Basics.{same-or, true-or}
-use Rattle.solver.specs.Lists.{next-out, Linked, Listed, Some-table}
+use Rattle.solver.specs.Lists.{next-out, Listed, Some-table}
 use Rattle.solver.specs.Steps.{lower-of}
 
 -- an arc out of v at a position from i on, or none

@@ -1,16 +1,14 @@
 -- What the auction's functions read off the arrays, and what a store does to the state that they hold. Assumes nothing.
-use mathlib.Core.Path.{_≡_, refl, sym, ap, ap₂, subst, _∙_}
-use mathlib.Core.Bool.{Bool, true, false, cond}
+use mathlib.Core.Path.{_≡_, refl, ap, _∙_}
 use mathlib.Core.List.{List, [], _∷_, map}
 use mathlib.Core.Option.{Option, none, some}
-use Prim.Native.Nat.{ℕ, zero, suc, _+_, _≤_, _<_}
+use Prim.Native.Nat.{ℕ, zero, suc, _≤_, _<_}
 use native.Mathlib.Omega.{arith}
-use lib.Dec.{eqb}
 use lib.ListN.{length, getD, set, take, replicate, length-set, length-replicate}
 use lib.Seq.{take-set-lt}
 use borrow.Author.Tests.{ne-eqb, eq-eqb}
-use Rattle.table.specs.Table.{Table, no-arc, no-distance, most-nodes}
-use Rattle.auction.specs.Auction.{State, state, Bid, bid, price-at, bound-at, kept-at, status-at, distance, or-zero, with-kept, with-status, fresh}
+use Rattle.table.specs.Table.{Table, no-arc, no-distance}
+use Rattle.auction.specs.Auction.{state, bid, price-at, bound-at, kept-at, status-at, distance, or-zero, with-kept, with-status, fresh}
 use Rattle.solver.specs.declared.state.Progress.{Progress}
 use Rattle.solver.specs.Seen.{bound-of, arc-of, bid-of, nodes-of, seen}
 

@@ -1,18 +1,18 @@
 -- From the fresh state to the start: the origin has the bound 0, and reaching it is the start. Assumes nothing.
-use mathlib.Core.Path.{_≡_, refl, sym, ap, subst, _∙_}
+use mathlib.Core.Path.{_≡_, sym, ap, _∙_}
 use mathlib.Core.Bool.{true}
 use mathlib.Core.List.{List, _++_}
 use mathlib.Core.Option.{Option, none, some}
 use Prim.Native.Nat.{ℕ, _≤_, _<_}
 use native.Mathlib.Omega.{arith}
-use lib.ListN.{length, getD, set, take, replicate, length-replicate, length-append}
+use lib.ListN.{length, getD, take, replicate, length-replicate, length-append}
 use lib.Seq.{getD-set-same, take-at}
-use Rattle.table.specs.Table.{Table, table-of, is-table, arc-count, tail-at}
+use Rattle.table.specs.Table.{Table, table-of, is-table}
 use Rattle.auction.specs.Auction.{State, state, bound-at, reach, fresh, start}
-use Rattle.auction.proofs.Good.{Good, good}
+use Rattle.auction.proofs.Good.{good}
 use Rattle.solver.specs.declared.state.Progress.{Progress}
 use Rattle.solver.specs.Seen.{seen, greatest-sum}
-use Rattle.solver.specs.Lists.{Listed, Linked, Tails}
+use Rattle.solver.specs.Lists.{Linked, Tails}
 use Rattle.solver.specs.Steps.{Begun}
 use Rattle.solver.proofs.Arrays.{seen-bound}
 use Rattle.solver.proofs.Iterating.{bound-value}

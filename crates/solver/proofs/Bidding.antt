@@ -1,20 +1,20 @@
 -- The bid over one arc, and the least bid over all arcs out of a node. Assumes nothing.
-use mathlib.Core.Path.{_≡_, refl, sym, ap, ap₂, subst, _∙_}
-use mathlib.Core.Bool.{Bool, true, false, _&&_, not, cond}
+use mathlib.Core.Path.{_≡_, refl, sym, ap, subst, _∙_}
+use mathlib.Core.Bool.{Bool, true, false, _&&_, not}
 use mathlib.Core.List.{List}
-use mathlib.Core.Logic.{_⊎_, inl, inr, ⊎-elim}
-use mathlib.Core.Option.{Option, none, some}
-use Prim.Native.Nat.{ℕ, zero, suc, _+_, _-_, _≤_, _<_}
+use mathlib.Core.Logic.{_⊎_, ⊎-elim}
+use mathlib.Core.Option.{none}
+use Prim.Native.Nat.{ℕ, _+_, _-_, _≤_, _<_}
 use native.Mathlib.Omega.{arith}
-use lib.Dec.{ltb, leb, eqb}
+use lib.Dec.{eqb}
 use lib.ListN.{length, getD}
 use borrow.Author.Tests.{le-leb, lt-leb, eq-eqb, ne-eqb}
 use Rattle.table.specs.Table.{Table, arc-count, tail-at, head-at, length-at, no-arc}
-use Rattle.auction.specs.Auction.{State, Bid, bid, best, best-from, to-child, with-bid, lower-bid, is-kept, is-deleted, kept-at, price-at}
+use Rattle.auction.specs.Auction.{State, Bid, bid, best, best-from, to-child, with-bid, lower-bid, is-kept, is-deleted, price-at}
 use Rattle.auction.proofs.Basics.{same-or}
 use Rattle.solver.specs.declared.state.Progress.{Progress}
 use Rattle.solver.specs.Seen.{arc-of, bid-of, seen}
-use Rattle.solver.specs.Lists.{Listed, Some-table}
+use Rattle.solver.specs.Lists.{Listed}
 use Rattle.solver.specs.Steps.{lower-of}
 use Rattle.solver.proofs.Arrays.{some-arc, no-kept, some-bid, no-bid, seen-kept, seen-status, seen-price}
 use Rattle.solver.proofs.Arcs.{On-list, on-first, on-next, bids-first, bids-next, bids-done, lower-of-none, lower-of-bid}

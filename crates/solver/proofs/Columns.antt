@@ -1,10 +1,10 @@
 -- The table that three columns hold, arc by arc; a part of an array that is filled with one value. Assumes nothing.
-use mathlib.Core.Path.{_≡_, refl, sym, ap, _∙_}
+use mathlib.Core.Path.{_≡_, refl, ap}
 use mathlib.Core.List.{List, [], _∷_}
 use Prim.Native.Nat.{ℕ, zero, suc, _≤_, _<_}
 use native.Mathlib.Omega.{arith}
 use lib.ListN.{length, getD, take, replicate}
-use Rattle.table.specs.Table.{Table, Arc, arc, table, arcs-of, table-of, arc-count, arc-at, tail-at, head-at, length-at}
+use Rattle.table.specs.Table.{Arc, arc, table, arcs-of, table-of, arc-count, arc-at, tail-at, head-at, length-at}
 
 arcs-count : (ts hs ls : List ℕ) → length hs ≡ length ts → length ls ≡ length ts → length (arcs-of ts hs ls) ≡ length ts
 unfolding arcs-of

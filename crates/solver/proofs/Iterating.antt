@@ -1,27 +1,25 @@
 -- The run's loop: the arrays hold a state of the run, and the index is that of the first wanted node missing there. Assumes nothing.
 use mathlib.Core.Path.{_≡_, refl, sym, ap, subst, _∙_}
-use mathlib.Core.Bool.{Bool, true, false, cond}
-use mathlib.Core.List.{List, [], _∷_, map}
+use mathlib.Core.Bool.{true, false}
+use mathlib.Core.List.{List, _∷_}
 use mathlib.Core.Logic.{⊎-elim}
-use mathlib.Core.Option.{Option, none, some}
-use Prim.Native.Nat.{ℕ, zero, suc, _+_, _*_, _-_, _/_, _≤_, _<_}
+use mathlib.Core.Option.{none, some}
+use Prim.Native.Nat.{ℕ, zero, suc, _+_, _*_, _-_, _≤_, _<_}
 use native.Mathlib.Omega.{arith}
 use native.Mathlib.Nat.{mul-le-mul-left}
-use lib.Dec.{ltb, eqb}
-use lib.ListN.{length, getD, drop}
-use borrow.Author.Tests.{eq-eqb, ne-eqb, ltb-true, lt-ltb}
-use Rattle.table.specs.Table.{Table, arc-count, head-at, is-table, longest, no-arc, no-distance, most-nodes}
-use Rattle.auction.specs.Auction.{State, state, Bid, bid, best, next, iteration, terminal, price-at, bound-at, kept-at, distance, or-zero, was-reached, all-reached, auction, ended, iterations, most-iterations, start, offer, takes, offers, with-kept, with-status, reach, longer, extension}
+use lib.ListN.{length, getD}
+use borrow.Author.Tests.{eq-eqb, ne-eqb}
+use Rattle.table.specs.Table.{Table, arc-count, head-at, no-arc, no-distance, most-nodes}
+use Rattle.auction.specs.Auction.{State, state, bid, best, next, iteration, terminal, bound-at, was-reached, all-reached, iterations, most-iterations, start, offer, takes, offers, with-kept, with-status, reach, longer, extension}
 use Rattle.auction.specs.HandOver.{first-missing}
 use Rattle.auction.proofs.Basics.{same-or, true-or}
-use Rattle.auction.proofs.Good.{Good, wanted-in}
+use Rattle.auction.proofs.Good.{wanted-in}
 use Rattle.auction.proofs.Effects.{reached-status, status-reached, known-distance}
-use Rattle.auction.proofs.Sound.{Nodes}
 use Rattle.auction.proofs.Bids.{best-bid}
-use Rattle.auction.proofs.Run.{Running, Within, begins, goes-on, done, stuck, stepped}
+use Rattle.auction.proofs.Run.{Running, begins, goes-on, done, stuck, stepped}
 use Rattle.solver.specs.declared.state.Progress.{Progress}
-use Rattle.solver.specs.Seen.{bound-of, bid-of, nodes-of, seen, Sized, greatest-sum}
-use Rattle.solver.specs.Lists.{Listed, Some-table}
+use Rattle.solver.specs.Seen.{bound-of, bid-of, seen, Sized, greatest-sum}
+use Rattle.solver.specs.Lists.{Listed}
 use Rattle.solver.specs.Steps.{Can-step, Begun, Ran, First-from}
 use Rattle.solver.proofs.Arrays.{seen-price, seen-bound, some-bid, some-bound, no-bound}
 use Rattle.solver.proofs.Stepping.{last-entry, as-many, is-extension, is-stop}

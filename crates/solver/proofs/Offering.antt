@@ -1,23 +1,22 @@
 -- Whether an offered bound is kept, and what offering one arc leaves. Assumes nothing.
-use mathlib.Core.Path.{_≡_, refl, sym, ap, ap₂, subst, _∙_}
+use mathlib.Core.Path.{_≡_, refl, sym, ap, _∙_}
 use mathlib.Core.Bool.{Bool, true, false, _&&_, _||_, not, cond}
 use mathlib.Core.List.{List}
 use mathlib.Core.Logic.{⊎-elim}
-use mathlib.Core.Option.{Option, none, some}
-use Prim.Native.Nat.{ℕ, zero, suc, _+_, _-_, _≤_, _<_}
+use Prim.Native.Nat.{ℕ, _+_, _-_, _≤_, _<_}
 use native.Mathlib.Omega.{arith}
 use lib.Dec.{ltb, eqb}
 use lib.ListN.{length, getD, set}
 use lib.Seq.{getD-set-other}
 use borrow.Author.Tests.{lt-ltb, le-ltb, eq-eqb, ne-eqb}
 use Rattle.table.specs.Table.{Table, arc-count, tail-at, head-at, length-at, no-arc, no-distance}
-use Rattle.auction.specs.Auction.{State, improves, takes, offer, offers, reach, distance, was-reached, bound-at, kept-at, with-kept, or-zero}
+use Rattle.auction.specs.Auction.{State, improves, takes, offer, offers, distance, was-reached, bound-at, kept-at, with-kept, or-zero}
 use Rattle.auction.proofs.Basics.{same-or}
 use Rattle.solver.specs.declared.state.Progress.{Progress}
-use Rattle.solver.specs.Seen.{bound-of, arc-of, seen, greatest-sum}
+use Rattle.solver.specs.Seen.{bound-of, arc-of, seen}
 use Rattle.solver.specs.Lists.{Listed}
 use Rattle.solver.specs.Steps.{Offered}
-use Rattle.solver.proofs.Arrays.{some-bound, some-arc, no-bound, no-kept, seen-bound, seen-kept, seen-status, store-kept, seen-distance, store-status}
+use Rattle.solver.proofs.Arrays.{some-bound, some-arc, no-bound, no-kept, seen-bound, seen-kept, seen-status, store-kept, seen-distance}
 use Rattle.solver.proofs.Arcs.{On-list, on-first, on-next, offers-first, offers-next, offers-done}
 
 -- WHETHER A BOUND IS KEPT

@@ -1,20 +1,18 @@
 -- What a deletion, a contraction and an extension do to the arrays. Assumes nothing.
-use mathlib.Core.Path.{_≡_, refl, sym, ap, ap₂, subst, _∙_}
-use mathlib.Core.Bool.{Bool, true, false, cond}
-use mathlib.Core.List.{List, [], _∷_}
-use mathlib.Core.Option.{Option, none, some}
+use mathlib.Core.Path.{_≡_, refl, sym, ap, ap₂, _∙_}
+use mathlib.Core.List.{List, _∷_}
+use mathlib.Core.Option.{none, some}
 use Prim.Native.Nat.{ℕ, zero, suc, _+_, _-_, _≤_, _<_}
 use native.Mathlib.Omega.{arith}
 use native.Mathlib.Numerals.{add-one}
-use lib.Dec.{ltb, eqb}
 use lib.ListN.{length, getD, set}
 use lib.Seq.{getD-set-same, getD-set-other}
 use borrow.Author.Tests.{lt-ltb, le-ltb, eq-eqb, ne-eqb}
 use Rattle.table.specs.Table.{Table, head-at, no-arc}
-use Rattle.auction.specs.Auction.{State, state, Bid, bid, was-reached, price-at, without-terminal, deletion, contraction, longer, extension, reach, iteration}
+use Rattle.auction.specs.Auction.{State, state, bid, was-reached, price-at, without-terminal, deletion, contraction, longer, extension, reach, iteration}
 use Rattle.solver.specs.declared.state.Progress.{Progress}
 use Rattle.solver.specs.Seen.{bid-of, nodes-of, seen}
-use Rattle.solver.proofs.Arrays.{seen-status, seen-price, some-bid, no-bid}
+use Rattle.solver.proofs.Arrays.{seen-status, some-bid, no-bid}
 
 -- THE PATH
 pub shorter : (d : ℕ) (p : List ℕ) → 1 ≤ d → nodes-of (d - 1) p ≡ without-terminal (nodes-of d p)

@@ -1,11 +1,9 @@
 -- A ground turns the table down, or none applies and the table is planned. Assumes nothing.
-use mathlib.Core.Path.{_≡_, ap, sym, _∙_}
-use Prim.Native.Nat.{ℕ}
-use native.Mathlib.Omega.{arith}
+use mathlib.Core.Path.{ap, sym, _∙_}
 use Rattle.table.specs.Table.{Below}
 use Rattle.table.specs.Grounds.{Refusal, refusal}
 use Rattle.planner.specs.Plan.{answered, ground, refusal-of}
-use Rattle.planner.proofs.Planning.{Fine, fine, turned, planned}
+use Rattle.planner.proofs.Planning.{fine, turned, planned}
 use borrow.Author.Needs.{needs}
 use Rattle.planner.proofs.plan_routes.Statement.{statement}
 use Rattle.planner.proofs.plan_routes.Tie as tie

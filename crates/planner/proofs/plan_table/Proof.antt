@@ -1,14 +1,14 @@
 -- The fresh state's arrays are longer than the number of nodes: their first parts are lent. Assumes nothing.
 use mathlib.Core.Path.{_≡_, sym, ap, subst, _∙_}
 use mathlib.Core.Bool.{true}
-use Prim.Native.Nat.{ℕ, _≤_, _<_}
+use Prim.Native.Nat.{ℕ, _≤_}
 use native.Mathlib.Omega.{arith}
 use lib.ListN.{length, take}
 use Rattle.table.specs.Table.{table-of, is-table, most-nodes}
 use Rattle.auction.specs.Auction.{fresh}
 use Rattle.solver.specs.Seen.{seen, Sized}
 use Rattle.planner.specs.Plan.{Fitting, routed}
-use Rattle.planner.proofs.Planning.{origin-low, nodes-low, fresh-so, part-fits, part-long}
+use Rattle.planner.proofs.Planning.{origin-low, fresh-so, part-fits, part-long}
 use borrow.Author.Needs.{needs}
 use Rattle.planner.proofs.plan_table.Statement.{statement}
 use Rattle.planner.proofs.plan_table.Tie as tie

@@ -1,7 +1,5 @@
 -- The entries from v on are made. Assumes nothing.
-use mathlib.Core.Path.{_≡_, _∙_}
-use Prim.Native.Nat.{_≤_, _<_, _-_}
-use borrow.Author.Needs.{needs}
+use mathlib.Core.Path.{_∙_}
 use native.Mathlib.Omega.{arith}
 use lib.ListN.{length}
 use Rattle.planner.proofs.Entries.{Filling, fill-begins, fill-on, fill-ends}

@@ -1,6 +1,6 @@
 -- Each part of the answer is the definition's. Assumes nothing.
-use mathlib.Core.Path.{_≡_, refl, sym, subst, _∙_}
-use Prim.Native.Nat.{ℕ, _+_, _≤_, _<_}
+use mathlib.Core.Path.{_≡_, refl, sym, subst}
+use Prim.Native.Nat.{ℕ}
 use native.Mathlib.Omega.{arith}
 use Rattle.auction.specs.Auction.{state, iterations}
 use Rattle.solver.specs.Seen.{seen}

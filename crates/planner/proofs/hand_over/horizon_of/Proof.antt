@@ -1,6 +1,6 @@
 -- The greatest of the entries from v on. Assumes nothing.
 use mathlib.Core.Path.{_≡_, ap, _∙_}
-use Prim.Native.Nat.{ℕ, max, _≤_, _<_, _-_}
+use Prim.Native.Nat.{ℕ, max, _≤_, _-_}
 use borrow.Author.Needs.{needs}
 use native.Mathlib.Omega.{arith}
 use lib.ListN.{length}

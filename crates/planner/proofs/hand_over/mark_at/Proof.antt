@@ -1,10 +1,5 @@
 -- The three tests are the definition's. Assumes nothing.
-use mathlib.Core.Path.{_≡_, ap, sym, _∙_}
-use Prim.Native.Nat.{ℕ, _<_}
 use native.Mathlib.Omega.{arith}
-use lib.Dec.{ltb, eqb}
-use lib.ListN.{length, getD}
-use Rattle.auction.specs.HandOver.{mark-number}
 use Rattle.planner.proofs.Marks.{marked}
 use borrow.Author.Needs.{needs}
 use Rattle.planner.proofs.hand_over.mark_at.Statement.{statement}

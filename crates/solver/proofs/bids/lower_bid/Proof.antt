@@ -1,13 +1,11 @@
 -- The arc leads to a child, or the least bid stays. Assumes nothing.
-use mathlib.Core.Path.{_≡_, sym, ap, _∙_, subst}
+use mathlib.Core.Path.{ap, _∙_}
 use mathlib.Core.Logic.{inl, inr, ⊎-elim}
-use Prim.Native.Nat.{ℕ, _+_, _≤_, _<_}
+use Prim.Native.Nat.{_+_}
 use native.Mathlib.Omega.{arith}
 use lib.ListN.{getD}
 use borrow.Author.Tests.{eqb-true, eqb-false, leb-true, leb-false}
-use Rattle.auction.specs.Auction.{to-child, bid}
-use Rattle.table.specs.Table.{tail-at}
-use Rattle.solver.specs.Seen.{seen, bid-of}
+use Rattle.solver.specs.Seen.{bid-of}
 use Rattle.solver.proofs.Bidding.{no-child, a-child, stays, not-lower, lower}
 use borrow.Author.Needs.{needs}
 use Rattle.solver.proofs.bids.lower_bid.Statement.{statement}

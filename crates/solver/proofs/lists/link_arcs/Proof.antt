@@ -1,8 +1,7 @@
 -- The arcs from p on are linked; p falls to 0. Assumes nothing.
-use Prim.Native.Nat.{_≤_, _<_, _-_}
+use Prim.Native.Nat.{_-_}
 use borrow.Author.Needs.{needs}
 use native.Mathlib.Omega.{arith}
-use lib.ListN.{length, length-set}
 use Rattle.solver.proofs.Linking.{Linking, begins, goes-on, ends}
 use Rattle.solver.proofs.lists.link_arcs.Statement.{statement}
 use Rattle.solver.proofs.lists.link_arcs.Tie as tie

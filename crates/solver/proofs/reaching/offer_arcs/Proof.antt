@@ -1,10 +1,10 @@
 use mathlib.Core.Path.{ap, _∙_}
 -- The arcs from p on are left to offer; p rises along the node's list. Assumes nothing.
 use mathlib.Core.Path.{_≡_}
-use Prim.Native.Nat.{_+_, _≤_, _<_, _-_}
+use Prim.Native.Nat.{_+_, _≤_, _-_}
 use borrow.Author.Needs.{needs}
 use native.Mathlib.Omega.{arith}
-use lib.ListN.{length, getD}
+use lib.ListN.{getD}
 use Rattle.table.specs.Table.{no-arc}
 use Rattle.solver.proofs.Offering.{Offering, begins, goes-on, ends}
 use Rattle.solver.proofs.Arcs.{Readable, readable}

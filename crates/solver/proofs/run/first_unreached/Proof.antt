@@ -1,8 +1,8 @@
 -- The wanted nodes from the first index up to w have been reached. Assumes nothing.
-use Prim.Native.Nat.{_≤_, _<_, _-_}
+use Prim.Native.Nat.{_-_}
 use borrow.Author.Needs.{needs}
 use native.Mathlib.Omega.{arith}
-use lib.ListN.{length, getD}
+use lib.ListN.{length}
 use Rattle.solver.proofs.Wanted.{Seeking, seeks, seeks-on, found-here, found-none}
 use Rattle.solver.proofs.run.first_unreached.Statement.{statement}
 use Rattle.solver.proofs.run.first_unreached.Tie as tie

@@ -1,16 +1,14 @@
 -- The arrays hold a state of the run; each iteration is counted, and the auction's bound on them is the measure. Assumes nothing.
-use mathlib.Core.Path.{_≡_, sym, ap, _∙_}
+use mathlib.Core.Path.{_∙_}
 use mathlib.Core.Logic.{⊎-elim}
-use Prim.Native.Nat.{ℕ, suc, _+_, _-_, _≤_, _<_}
+use Prim.Native.Nat.{suc, _+_, _-_}
 use borrow.Author.Needs.{needs}
 use borrow.Author.Tests.{eqb-true, eqb-false}
 use native.Mathlib.Omega.{arith}
-use lib.ListN.{length, getD}
-use Rattle.table.specs.Table.{Table}
-use Rattle.auction.specs.Auction.{most-iterations, best}
-use Rattle.solver.specs.Seen.{seen, Sized, bid-of}
-use Rattle.solver.specs.Lists.{Listed, Some-table}
-use Rattle.solver.specs.Steps.{Begun}
+use lib.ListN.{length}
+use Rattle.auction.specs.Auction.{most-iterations}
+use Rattle.solver.specs.Seen.{seen}
+use Rattle.solver.specs.Lists.{Some-table}
 use Rattle.solver.proofs.Iterating.{Iterating, Ready, starts, now-ready, wanted-below, may-step, continues, counted, ends, stops, few-in-all}
 use Rattle.solver.proofs.run.iterate.Statement.{statement}
 use Rattle.solver.proofs.run.iterate.Tie as tie

@@ -1,10 +1,9 @@
 -- The lists of outgoing arcs fill the first parts of two arrays, which are lent again to the run. Assumes nothing.
 use mathlib.Core.Path.{_≡_, sym, subst, _∙_}
 use mathlib.Core.List.{List, _++_}
-use native.Mathlib.Omega.{arith}
 use Prim.Native.Nat.{ℕ, _≤_, _<_}
 use lib.ListN.{length, getD, take, drop, replicate}
-use Rattle.table.specs.Table.{Table, table-of, no-arc}
+use Rattle.table.specs.Table.{table-of, no-arc}
 use Rattle.auction.specs.Auction.{fresh}
 use Rattle.solver.specs.Seen.{seen, Sized}
 use Rattle.solver.specs.Steps.{Begun}

@@ -1,5 +1,5 @@
 -- The child goes on the path; where it is unreached, reaching it is the definition's own last step. Assumes nothing.
-use mathlib.Core.Path.{_≡_, ap, sym, subst}
+use mathlib.Core.Path.{sym, subst}
 use native.Mathlib.Omega.{arith}
 use Prim.Native.Nat.{ℕ, _≤_}
 use lib.ListN.{getD}

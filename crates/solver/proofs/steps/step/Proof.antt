@@ -3,7 +3,7 @@ use mathlib.Core.Path.{_≡_, ap, sym, subst, _∙_}
 use mathlib.Core.Option.{some}
 use native.Mathlib.Omega.{arith}
 use Prim.Native.Nat.{ℕ, _≤_, _<_}
-use lib.ListN.{length, getD}
+use lib.ListN.{getD}
 use Rattle.auction.specs.Auction.{extension}
 use Rattle.table.specs.Table.{arc-count, head-at}
 use Rattle.solver.specs.Lists.{Some-table}
