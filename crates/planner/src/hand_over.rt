@@ -9,23 +9,16 @@ ghost use Rattle.table.specs.Table.{Table, arc-count, tail-at, head-at, no-arc,
 ghost use Rattle.table.specs.Grounds.{no-refusal, refusal};
 ghost use Rattle.auction.specs.HandOver.{horizon, reached-count, distances, prices, tree, marks, mark-number};
 ghost use Rattle.solver.specs.declared.state.Progress.{Progress};
-ghost use Rattle.solver.specs.Seen.{seen};
+ghost use Rattle.solver.specs.Seen.{seen, too-many};
 ghost use Rattle.solver.specs.Steps.{Ran};
 ghost use Rattle.planner.specs.Plan.{Known, Ends, Fitting, Columns, answered, routed, refusal-of};
 use super::Planned;
 use super::grounds::Fault;
 use solver::run::Ended;
 use solver::state::State;
+use solver::wide;
 use table::NO_ARC;
 use table::NO_DISTANCE;
-
-// A 16-bit node number as an index.
-fn wide(x: u16) -> usize
-    ensures same { λ r. ⌜ r ≡ x ⌝ }
-    ensures low { λ r. ⌜ r < 65536 ⌝ }
-{
-    x as usize
-}
 
 // A reached node's distance, or another number.
 fn distance_or(other: u64, v: usize, bound: &[u64], status: &[u8]) -> u64
@@ -213,7 +206,7 @@ pub fn hand_over(
     requires { ⌜ Known (now bound) (now status) ⌝ }
     requires { ⌜ Ends (now tails) (now heads) (now kept) (now status) ⌝ }
     requires { ⌜ Fitting (length (now status)) (length (now heads)) (now distances) (now prices) (now tree) (now marks) ⌝ }
-    requires { ⌜ (end .missing ≤ 1024) × (end .progress .contractions + end .progress .extensions + end .progress .deletions < 4294967296) ⌝ }
+    requires { ⌜ (end .missing ≤ 1024) × (end .progress .contractions + end .progress .extensions + end .progress .deletions < too-many) ⌝ }
     ensures { λ r. ⌜ ((t : Table) (ws path price : List ℕ) → Columns t (length (now (status .entry))) (now (tails .entry)) (now (heads .entry)) → length ws ≡ wanted → Ran t ws (end .missing) (seen path price (now (bound .entry)) (now (kept .entry)) (now (status .entry)) (end .progress)) → answered r (now (distances .exit)) (now (prices .exit)) (now (tree .exit)) (now (marks .exit)) ≡ routed t ws) ⌝ }
 {
     let fault = route_fault(end.missing, wanted);

@@ -40,3 +40,7 @@ pub record Sized (n : ℕ) (price bound kept status : List ℕ) : Type 0 where
 -- no price and no distance of a run is greater
 abbrev pub greatest-sum : ℕ
 greatest-sum = most-nodes * longest
+
+-- no run makes so many iterations
+abbrev pub too-many : ℕ
+too-many = 4294967296

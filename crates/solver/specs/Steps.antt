@@ -10,7 +10,7 @@ use Rattle.table.specs.Table.{Table, is-table, tail-at, head-at, length-at, no-
 use Rattle.auction.specs.Auction.{State, Bid, offer, distance, lower-bid, auction, ended, iterations, was-reached, bound-at}
 use Rattle.auction.specs.HandOver.{first-missing}
 use Rattle.solver.specs.declared.state.Progress.{Progress}
-use Rattle.solver.specs.Seen.{seen, greatest-sum}
+use Rattle.solver.specs.Seen.{seen, greatest-sum, too-many}
 use Rattle.solver.specs.Lists.{Listed}
 
 -- One arc has been offered to its head: the state is the one that `offer` gives, and no bound of a reached node has changed.
@@ -47,7 +47,7 @@ pub record Ran (t : Table) (ws : List ℕ) (missing : ℕ) (x : State) : Type 0 
   pub first-so : missing ≡ first-missing 0 ws x
   pub inside : missing ≤ length ws
   pub bounded : (v : ℕ) → was-reached x v ≡ true → bound-at x v ≡ none → ⊥
-  pub few : iterations x < 4294967296
+  pub few : iterations x < too-many
 
 -- The index of the first wanted node, from an index on, that has not been reached.
 pub record First-from (from : ℕ) (ws status : List ℕ) (r : ℕ) : Type 0 where

@@ -1,7 +1,9 @@
 // The code of the auction's run. Each function's contract equates what it does with the auction's definitions: specs/Seen.antt says
+// which state of the auction the arrays hold, specs/Lists.antt what the lists of outgoing arcs are, specs/Steps.antt what a step may
+// rely on. A run is one call of run::run on a fresh state, State::fresh.
 ghost use mathlib.Core.Path.{_≡_};
 ghost use Prim.Native.Nat.{_<_};
-// which state of the auction the arrays hold.
+
 mod bids;
 mod lists;
 mod reaching;
@@ -10,7 +12,7 @@ pub mod state;
 mod steps;
 
 // A 16-bit node number or position as an index.
-fn wide(x: u16) -> usize
+pub fn wide(x: u16) -> usize
     ensures same { λ r. ⌜ r ≡ x ⌝ }
     ensures low { λ r. ⌜ r < 65536 ⌝ }
 {

@@ -11,10 +11,12 @@ ghost use Rattle.solver.specs.Steps.{Begun, Ran, First-from};
 use super::bids::least_bid;
 use super::lists::link_arcs;
 use super::reaching::reach;
+use super::state::NODES;
 use super::state::Progress;
 use super::state::State;
 use super::steps::step;
 use super::wide;
+use table::MOST_ARCS;
 use table::NO_ARC;
 
 // Where a run has ended: the index of the first wanted node that was not reached, which is their number where all were; the counts.
@@ -152,8 +154,8 @@ pub fn run(
     let n = status.len();
     let m = tails.len();
     let at = wide(origin);
-    let mut first: [u16; 1024] = [NO_ARC; 1024];
-    let mut next: [u16; 6000] = [NO_ARC; 6000];
+    let mut first: [u16; NODES] = [NO_ARC; NODES];
+    let mut next: [u16; MOST_ARCS] = [NO_ARC; MOST_ARCS];
     link_arcs(tails, &mut first[..n], &mut next[..m]);
     run_listed(
         begun,

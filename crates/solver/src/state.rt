@@ -3,11 +3,15 @@ ghost use mathlib.Core.Path.{_≡_};
 ghost use mathlib.Core.List.{List};
 ghost use Prim.Native.Nat.{ℕ, _≤_, _<_};
 ghost use lib.ListN.{length, take};
-ghost use Rattle.table.specs.Table.{Table};
+ghost use Rattle.table.specs.Table.{Table, most-nodes};
 ghost use Rattle.auction.specs.Auction.{fresh};
 ghost use Rattle.solver.specs.Seen.{seen, Sized};
+use table::MOST_NODES;
 use table::NO_ARC;
 use table::NO_DISTANCE;
+
+// The arrays have room for the most nodes.
+pub const NODES: usize = MOST_NODES as usize;
 
 // How many nodes are on the path, and the three counts.
 pub struct Progress {
@@ -19,11 +23,11 @@ pub struct Progress {
 
 // The path from the origin on; for each node its price, bound, kept arc and status; the progress.
 pub struct State {
-    pub path: [u16; 1024],
-    pub price: [u64; 1024],
-    pub bound: [u64; 1024],
-    pub kept: [u16; 1024],
-    pub status: [u8; 1024],
+    pub path: [u16; NODES],
+    pub price: [u64; NODES],
+    pub bound: [u64; NODES],
+    pub kept: [u16; NODES],
+    pub status: [u8; NODES],
     pub progress: Progress,
 }
 
@@ -36,14 +40,14 @@ impl State {
 
     // The state before anything is reached, for any number of nodes above the origin.
     pub fn fresh(origin: u16) -> State
-        requires { ⌜ origin < 1024 ⌝ }
-        ensures so { λ r. ⌜ ((t : Table) → t .origin ≡ origin → t .origin < t .n → t .n ≤ 1024 → seen (take (t .n) (r .path)) (take (t .n) (r .price)) (take (t .n) (r .bound)) (take (t .n) (r .kept)) (take (t .n) (r .status)) (r .progress) ≡ fresh t) ⌝ }
-        ensures long { λ r. ⌜ (length (r .path) ≡ 1024) × Sized 1024 (r .price) (r .bound) (r .kept) (r .status) ⌝ }
+        requires { ⌜ origin < most-nodes ⌝ }
+        ensures so { λ r. ⌜ ((t : Table) → t .origin ≡ origin → t .origin < t .n → t .n ≤ most-nodes → seen (take (t .n) (r .path)) (take (t .n) (r .price)) (take (t .n) (r .bound)) (take (t .n) (r .kept)) (take (t .n) (r .status)) (r .progress) ≡ fresh t) ⌝ }
+        ensures long { λ r. ⌜ (length (r .path) ≡ most-nodes) × Sized most-nodes (r .price) (r .bound) (r .kept) (r .status) ⌝ }
     {
         let at = super::wide(origin);
-        let mut path: [u16; 1024] = [0; 1024];
+        let mut path: [u16; NODES] = [0; NODES];
         path[0] = origin;
-        let mut bound: [u64; 1024] = [NO_DISTANCE; 1024];
+        let mut bound: [u64; NODES] = [NO_DISTANCE; NODES];
         bound[at] = 0;
         let progress = Progress {
             depth: 1,
@@ -53,10 +57,10 @@ impl State {
         };
         State {
             path: path,
-            price: [0; 1024],
+            price: [0; NODES],
             bound: bound,
-            kept: [NO_ARC; 1024],
-            status: [State::UNREACHED; 1024],
+            kept: [NO_ARC; NODES],
+            status: [State::UNREACHED; NODES],
             progress: progress,
         }
     }

@@ -6,7 +6,7 @@ ghost use Prim.Native.Nat.{ℕ, _+_, _≤_, _<_};
 ghost use lib.ListN.{length, getD};
 ghost use Rattle.table.specs.Table.{Table};
 ghost use Rattle.auction.specs.Auction.{deletion, contraction, extension, iteration};
-ghost use Rattle.solver.specs.Seen.{bid-of, seen, greatest-sum};
+ghost use Rattle.solver.specs.Seen.{bid-of, seen, greatest-sum, too-many};
 ghost use Rattle.solver.specs.Lists.{Listed, Some-table};
 ghost use Rattle.solver.specs.Steps.{Can-step};
 use super::bids::LeastBid;
@@ -18,7 +18,7 @@ use table::NO_ARC;
 
 // A node without children is deleted and leaves the path.
 fn delete(g: Progress, v: usize, status: &mut [u8]) -> Progress
-    requires { ⌜ (1 ≤ g .depth) × ((v < length (now status)) × (g .deletions < 4294967296)) ⌝ }
+    requires { ⌜ (1 ≤ g .depth) × ((v < length (now status)) × (g .deletions < too-many)) ⌝ }
     ensures { λ r. ⌜ ((path price bound kept : List ℕ) → seen path price bound kept (now (status .exit)) r ≡ deletion v (seen path price bound kept (now (status .entry)) g)) ⌝ }
 {
     status[v] = State::DELETED;
@@ -32,7 +32,7 @@ fn delete(g: Progress, v: usize, status: &mut [u8]) -> Progress
 
 // A node's price becomes the least bid. It leaves the path, unless it is the origin.
 fn contract(g: Progress, v: usize, origin: usize, value: u64, price: &mut [u64]) -> Progress
-    requires { ⌜ (1 ≤ g .depth) × ((v < length (now price)) × (g .contractions < 4294967296)) ⌝ }
+    requires { ⌜ (1 ≤ g .depth) × ((v < length (now price)) × (g .contractions < too-many)) ⌝ }
     ensures { λ r. ⌜ ((t : Table) (path bound kept status : List ℕ) → t .origin ≡ origin → seen path (now (price .exit)) bound kept status r ≡ contraction t v value (seen path (now (price .entry)) bound kept status g)) ⌝ }
 {
     price[v] = value;
@@ -68,7 +68,7 @@ fn extend(
 ) -> Progress
     requires { ⌜ Some-table (now heads) (now lengths) (now first) (now next) ⌝ }
     requires { ⌜ (length (now bound) ≡ length (now first)) × ((length (now kept) ≡ length (now first)) × (length (now status) ≡ length (now first))) ⌝ }
-    requires { ⌜ (child < length (now first)) × ((getD (now bound) child 0 ≤ greatest-sum) × ((g .depth < length (now path)) × (g .extensions < 4294967296))) ⌝ }
+    requires { ⌜ (child < length (now first)) × ((getD (now bound) child 0 ≤ greatest-sum) × ((g .depth < length (now path)) × (g .extensions < too-many))) ⌝ }
     ensures { λ r. ⌜ ((t : Table) (price : List ℕ) → Listed t (now (heads .entry)) (now (lengths .entry)) (now (first .entry)) (now (next .entry)) → seen (now (path .exit)) price (now (bound .exit)) (now (kept .exit)) (now (status .exit)) r ≡ extension t child (seen (now (path .entry)) price (now (bound .entry)) (now (kept .entry)) (now (status .entry)) g)) ⌝ }
 {
     let depth = g.depth;
@@ -105,7 +105,7 @@ pub fn step(
 ) -> Progress
     requires { ⌜ Some-table (now heads) (now lengths) (now first) (now next) ⌝ }
     requires { ⌜ (length (now price) ≡ length (now first)) × ((length (now bound) ≡ length (now first)) × ((length (now kept) ≡ length (now first)) × (length (now status) ≡ length (now first)))) ⌝ }
-    requires { ⌜ (v < length (now first)) × ((1 ≤ g .depth) × (g .contractions + g .extensions + g .deletions < 4294967296)) ⌝ }
+    requires { ⌜ (v < length (now first)) × ((1 ≤ g .depth) × (g .contractions + g .extensions + g .deletions < too-many)) ⌝ }
     requires { ⌜ Can-step v origin (least .value) (least .arc) (g .depth) (now heads) (now path) (now price) (now bound) ⌝ }
     ensures { λ r. ⌜ ((t : Table) → Listed t (now (heads .entry)) (now (lengths .entry)) (now (first .entry)) (now (next .entry)) → t .origin ≡ origin → iteration (bid-of (least .value) (least .arc)) t v (seen (now (path .entry)) (now (price .entry)) (now (bound .entry)) (now (kept .entry)) (now (status .entry)) g) ≡ some (seen (now (path .exit)) (now (price .exit)) (now (bound .exit)) (now (kept .exit)) (now (status .exit)) r)) ⌝ }
 {

@@ -7,7 +7,7 @@ use Rattle.planner.proofs.hand_over.mark_at.Tie as tie
 use Rattle.planner.proofs.hand_over.mark_at.Reads as reads
 use Rattle.planner.proofs.hand_over.mark_at.Lts as lts
 use Rattle.planner.proofs.hand_over.mark.Reads as mark-reads
-use Rattle.planner.proofs.hand_over.wide.Reads as wide-reads
+use Rattle.solver.proofs.wide.Reads as wide-reads
 
 -- src/hand_over.rt:159:21
 mul-wide : tie.Need-mul-wide
