@@ -40,7 +40,7 @@ loop-less c = omega arith
 
 -- src/hand_over.rt:171:5
 loop-again : tie.Need-loop-again Inv-loop μ-loop
-loop-again c = fill-on (c .mark-at .result) (c .before .before .loop .inv) (c .before .loop-test .taken) (c .mark-at .ensures)
+loop-again c = fill-on (c .mark-at .result) (c .before .before .loop .inv) (omega (arith, c .before .loop-test .taken)) (c .mark-at .ensures)
 
 -- src/hand_over.rt:165:1
 same-length : tie.Need-same-length Inv-loop μ-loop
