@@ -7,16 +7,10 @@ use Rattle.planner.proofs.Planning.{fine, turned, planned}
 use borrow.Author.Needs.{needs}
 use Rattle.planner.proofs.plan_routes.Statement.{statement}
 use Rattle.planner.proofs.plan_routes.Tie as tie
-use Rattle.planner.proofs.plan_routes.Reads as reads
-use Rattle.planner.proofs.plan_routes.Lts as lts
-use Rattle.planner.proofs.grounds.table_fault.Reads as table-fault-reads
-use Rattle.planner.proofs.plan_table.Reads as plan-table-reads
 
--- src/lib.rt:71:9
 table-fault-requires : tie.Need-table-fault-requires
 table-fault-requires c κs = search needs
 
--- src/lib.rt:73:9
 returns : tie.Need-returns
 unfolding answered ground
 returns c =
@@ -24,7 +18,6 @@ returns c =
     turned (a .n) (a .origin) (a .tails .now) (a .heads .now) (a .lengths .now) (a .wanted .now) (a .distances .now) (a .prices .now) (a .tree .now) (a .marks .now)
     (c .before .before .table-fault .result) (c .before .before .table-fault .ensures) (c .if1 .taken)
 
--- src/lib.rt:84:5
 plan-table-requires : tie.Need-plan-table-requires
 unfolding ground Below refusal-of refusal
 plan-table-requires c κs =
@@ -36,23 +29,18 @@ plan-table-requires c κs =
     (λ i. known i .fits) none in
     ((f .heads-count, f .lengths-count), (f .table-good, f .fitting))
 
--- src/lib.rt:57:1
 same-length : tie.Need-same-length
 same-length c = search needs
 
--- src/lib.rt:57:1
 same-length-2 : tie.Need-same-length-2
 same-length-2 c = search needs
 
--- src/lib.rt:57:1
 same-length-3 : tie.Need-same-length-3
 same-length-3 c = search needs
 
--- src/lib.rt:57:1
 same-length-4 : tie.Need-same-length-4
 same-length-4 c = search needs
 
--- src/lib.rt:57:1
 returns-2 : tie.Need-returns-2
 unfolding ground
 returns-2 c =

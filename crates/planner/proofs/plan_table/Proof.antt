@@ -12,62 +12,46 @@ use Rattle.planner.proofs.Planning.{origin-low, fresh-so, part-fits, pa
 use borrow.Author.Needs.{needs}
 use Rattle.planner.proofs.plan_table.Statement.{statement}
 use Rattle.planner.proofs.plan_table.Tie as tie
-use Rattle.planner.proofs.plan_table.Reads as reads
-use Rattle.planner.proofs.plan_table.Lts as lts
-use Rattle.planner.proofs.run_lent.Reads as run-lent-reads
-use Rattle.solver.proofs.state.State.fresh.Reads as fresh-reads
 
 few : (s : tie.Start) → s .args .n ≤ most-nodes
 few s = s .pre .1 .1 .few-nodes
 
--- src/lib.rt:75:9
 fresh-requires : tie.Need-fresh-requires
 fresh-requires c κs =
     let s = c .before .before .before .before .before .before .before .before in
     let a = s .args in
     omega (arith, origin-low (a .n) (a .origin) (a .tails .now) (a .heads .now) (a .lengths .now) (a .wanted .now) (s .pre .0 .0) (s .pre .0 .1) (s .pre .1 .0), few s)
 
--- src/lib.rt:89:9
 array-borrow-prefix-path : tie.Need-array-borrow-prefix-path
 array-borrow-prefix-path c = let f = c .before .before .before .before .before .before .fresh in part-fits (f .result .path) (c .before .before .before .before .before .before .before .before .before .before .before .before .before .before .before .args .n) (f .ensures .1 .0) (few (c .before .before .before .before .before .before .before .before .before .before .before .before .before .before .before))
 
--- src/lib.rt:89:9
 slice-aggregate-run-lent : tie.Need-slice-aggregate-run-lent
 slice-aggregate-run-lent c = let f = c .before .before .before .before .before .before .before .fresh in part-long (f .result .path) (c .before .before .before .before .before .before .before .before .before .before .before .before .before .before .before .before .args .n) (f .ensures .1 .0) (few (c .before .before .before .before .before .before .before .before .before .before .before .before .before .before .before .before))
 
--- src/lib.rt:90:9
 array-borrow-prefix-price : tie.Need-array-borrow-prefix-price
 array-borrow-prefix-price c = let f = c .before .before .before .before .before .before .before .fresh in part-fits (f .result .price) (c .before .before .before .before .before .before .before .before .before .before .before .before .before .before .before .before .args .n) (f .ensures .1 .1 .prices) (few (c .before .before .before .before .before .before .before .before .before .before .before .before .before .before .before .before))
 
--- src/lib.rt:90:9
 slice-aggregate-run-lent-2 : tie.Need-slice-aggregate-run-lent-2
 slice-aggregate-run-lent-2 c = let f = c .before .before .before .before .before .before .before .before .fresh in part-long (f .result .price) (c .before .before .before .before .before .before .before .before .before .before .before .before .before .before .before .before .before .args .n) (f .ensures .1 .1 .prices) (few (c .before .before .before .before .before .before .before .before .before .before .before .before .before .before .before .before .before))
 
--- src/lib.rt:91:9
 array-borrow-prefix-bound : tie.Need-array-borrow-prefix-bound
 array-borrow-prefix-bound c = let f = c .before .before .before .before .before .before .before .before .fresh in part-fits (f .result .bound) (c .before .before .before .before .before .before .before .before .before .before .before .before .before .before .before .before .before .args .n) (f .ensures .1 .1 .bounds) (few (c .before .before .before .before .before .before .before .before .before .before .before .before .before .before .before .before .before))
 
--- src/lib.rt:91:9
 slice-aggregate-run-lent-3 : tie.Need-slice-aggregate-run-lent-3
 slice-aggregate-run-lent-3 c = let f = c .before .before .before .before .before .before .before .before .before .fresh in part-long (f .result .bound) (c .before .before .before .before .before .before .before .before .before .before .before .before .before .before .before .before .before .before .args .n) (f .ensures .1 .1 .bounds) (few (c .before .before .before .before .before .before .before .before .before .before .before .before .before .before .before .before .before .before))
 
--- src/lib.rt:92:9
 array-borrow-prefix-kept : tie.Need-array-borrow-prefix-kept
 array-borrow-prefix-kept c = let f = c .before .before .before .before .before .before .before .before .before .fresh in part-fits (f .result .kept) (c .before .before .before .before .before .before .before .before .before .before .before .before .before .before .before .before .before .before .args .n) (f .ensures .1 .1 .kepts) (few (c .before .before .before .before .before .before .before .before .before .before .before .before .before .before .before .before .before .before))
 
--- src/lib.rt:92:9
 slice-aggregate-run-lent-4 : tie.Need-slice-aggregate-run-lent-4
 slice-aggregate-run-lent-4 c = let f = c .before .before .before .before .before .before .before .before .before .before .fresh in part-long (f .result .kept) (c .before .before .before .before .before .before .before .before .before .before .before .before .before .before .before .before .before .before .before .args .n) (f .ensures .1 .1 .kepts) (few (c .before .before .before .before .before .before .before .before .before .before .before .before .before .before .before .before .before .before .before))
 
--- src/lib.rt:93:9
 array-borrow-prefix-status : tie.Need-array-borrow-prefix-status
 array-borrow-prefix-status c = let f = c .before .before .before .before .before .before .before .before .before .before .fresh in part-fits (f .result .status) (c .before .before .before .before .before .before .before .before .before .before .before .before .before .before .before .before .before .before .before .args .n) (f .ensures .1 .1 .statuses) (few (c .before .before .before .before .before .before .before .before .before .before .before .before .before .before .before .before .before .before .before))
 
--- src/lib.rt:93:9
 slice-aggregate-run-lent-5 : tie.Need-slice-aggregate-run-lent-5
 slice-aggregate-run-lent-5 c = let f = c .before .before .before .before .before .before .before .before .before .before .before .fresh in part-long (f .result .status) (c .before .before .before .before .before .before .before .before .before .before .before .before .before .before .before .before .before .before .before .before .args .n) (f .ensures .1 .1 .statuses) (few (c .before .before .before .before .before .before .before .before .before .before .before .before .before .before .before .before .before .before .before .before))
 
--- src/lib.rt:82:5
 run-lent-requires : tie.Need-run-lent-requires
 run-lent-requires c κs =
     let s = c .before .before .before .before .before .before .before .before .before .before .before .before .before .before .before .before .before .before .before .before .before .before .before .before in
@@ -107,23 +91,18 @@ run-lent-requires c κs =
       ),
     )
 
--- src/lib.rt:58:1
 same-length : tie.Need-same-length
 same-length c = search needs
 
--- src/lib.rt:58:1
 same-length-2 : tie.Need-same-length-2
 same-length-2 c = search needs
 
--- src/lib.rt:58:1
 same-length-3 : tie.Need-same-length-3
 same-length-3 c = search needs
 
--- src/lib.rt:58:1
 same-length-4 : tie.Need-same-length-4
 same-length-4 c = search needs
 
--- src/lib.rt:58:1
 returns : tie.Need-returns
 returns c =
     let a = c .before .before .before .before .before .before .before .before .before .before .before .before .before .before .before .before .before .before .before .before .before .before .before .before .before .before .before .before .before .before .before .before .before .before .before .before .before .before .args in

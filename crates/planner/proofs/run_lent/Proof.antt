@@ -10,16 +10,10 @@ use Rattle.planner.proofs.Planning.{known-so, ends-so, columns-so, plac
 use borrow.Author.Needs.{needs}
 use Rattle.planner.proofs.run_lent.Statement.{statement}
 use Rattle.planner.proofs.run_lent.Tie as tie
-use Rattle.planner.proofs.run_lent.Reads as reads
-use Rattle.planner.proofs.run_lent.Lts as lts
-use Rattle.planner.proofs.hand_over.hand_over.Reads as hand-over-reads
-use Rattle.solver.proofs.run.run.Reads as run-reads
 
--- src/lib.rt:53:9
 run-requires : tie.Need-run-requires
 run-requires c κs = let s = c .before .before .before .before .before .before .before .before .before .before .before .before .before .before .before .before .before .before in (s .pre .0, (s .pre .1 .0, (s .pre .1 .1 .0, s .pre .1 .1 .1 .0)))
 
--- src/lib.rt:54:5
 hand-over-requires : tie.Need-hand-over-requires
 unfolding iterations seen state
 hand-over-requires c κs =
@@ -46,43 +40,33 @@ hand-over-requires c κs =
       ),
     )
 
--- src/lib.rt:29:1
 same-length : tie.Need-same-length
 same-length c = search needs
 
--- src/lib.rt:29:1
 same-length-2 : tie.Need-same-length-2
 same-length-2 c = search needs
 
--- src/lib.rt:29:1
 same-length-3 : tie.Need-same-length-3
 same-length-3 c = search needs
 
--- src/lib.rt:29:1
 same-length-4 : tie.Need-same-length-4
 same-length-4 c = search needs
 
--- src/lib.rt:29:1
 same-length-5 : tie.Need-same-length-5
 same-length-5 c = search needs
 
--- src/lib.rt:29:1
 same-length-6 : tie.Need-same-length-6
 same-length-6 c = search needs
 
--- src/lib.rt:29:1
 same-length-7 : tie.Need-same-length-7
 same-length-7 c = search needs
 
--- src/lib.rt:29:1
 same-length-8 : tie.Need-same-length-8
 same-length-8 c = search needs
 
--- src/lib.rt:29:1
 same-length-9 : tie.Need-same-length-9
 same-length-9 c = search needs
 
--- src/lib.rt:29:1
 returns : tie.Need-returns
 returns c =
     let s = c .before .before .before .before .before .before .before .before .before .before .before .before .before .before .before .before .before .before .before .before .before .before .before .before .before .before .before .before .before .before .before .before .before .before .before .before .before .before .before .before .before .before .before .before .before in

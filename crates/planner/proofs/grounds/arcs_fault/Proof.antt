@@ -10,11 +10,6 @@ use Rattle.planner.specs.Plan.{refusal-of}
 use Rattle.planner.proofs.Faults.{no-fault, arc-good, arc-bad, arcs-done}
 use Rattle.planner.proofs.grounds.arcs_fault.Statement.{statement}
 use Rattle.planner.proofs.grounds.arcs_fault.Tie as tie
-use Rattle.planner.proofs.grounds.arcs_fault.Reads as reads
-use Rattle.planner.proofs.grounds.arcs_fault.Lts as lts
-use Rattle.planner.proofs.grounds.Fault.none.Reads as none-reads
-use Rattle.planner.proofs.grounds.arc_number.Reads as arc-number-reads
-use Rattle.planner.proofs.grounds.place.Reads as place-reads
 
 abbrev Inv-loop : tie.InvT-loop
 Inv-loop n tails heads lengths i₀ i = (i ≤ length tails) × (arcs-from i n (arcs-of (drop i tails) (drop i heads) (drop i lengths)) ≡ arcs-refusal n (arcs-of tails heads lengths))
@@ -22,44 +17,34 @@ Inv-loop n tails heads lengths i₀ i = (i ≤ length tails) × (arcs-from i n (
 abbrev μ-loop : tie.MeasureT-loop
 μ-loop n tails heads lengths i₀ i = length tails - i
 
--- src/grounds.rt:78:5
 loop-holds : tie.Need-loop-holds Inv-loop μ-loop
 unfolding arcs-refusal
 loop-holds c = (search needs, refl)
 
--- src/grounds.rt:79:36
 mul-arc-number : tie.Need-mul-arc-number Inv-loop μ-loop
 mul-arc-number c = search needs
 
--- src/grounds.rt:79:36
 shared-slice-read-arc-number : tie.Need-shared-slice-read-arc-number Inv-loop μ-loop
 shared-slice-read-arc-number c = search needs
 
--- src/grounds.rt:79:46
 mul-arc-number-2 : tie.Need-mul-arc-number-2 Inv-loop μ-loop
 mul-arc-number-2 c = search needs
 
--- src/grounds.rt:79:46
 shared-slice-read-arc-number-2 : tie.Need-shared-slice-read-arc-number-2 Inv-loop μ-loop
 shared-slice-read-arc-number-2 c = omega (arith, c .before .before .before .before .before .before .before .pre .0)
 
--- src/grounds.rt:79:56
 mul-arc-number-3 : tie.Need-mul-arc-number-3 Inv-loop μ-loop
 mul-arc-number-3 c = omega (arith, c .before .before .before .before .before .before .before .pre .1 .1)
 
--- src/grounds.rt:79:56
 shared-slice-read-arc-number-3 : tie.Need-shared-slice-read-arc-number-3 Inv-loop μ-loop
 shared-slice-read-arc-number-3 c = omega (arith, c .before .before .before .before .before .before .before .before .pre .1 .0)
 
--- src/grounds.rt:79:13
 arc-number-requires : tie.Need-arc-number-requires Inv-loop μ-loop
 arc-number-requires c κs = search needs
 
--- src/grounds.rt:81:51
 place-requires : tie.Need-place-requires Inv-loop μ-loop
 place-requires c κs = omega (arith, c .before .before .before .before .before .before .before .before .before .before .pre .1 .1)
 
--- src/grounds.rt:81:13
 returns : tie.Need-returns Inv-loop μ-loop
 unfolding refusal-of
 returns c =
@@ -69,15 +54,12 @@ returns c =
     (c .before .before .arc-number .result) (c .place .result) (c .before .before .arc-number .ensures) (c .before .if1 .taken) (c .place .ensures)
     ∙ c .before .before .before .before .before .before .before .loop .inv .1
 
--- src/grounds.rt:83:13
 add-i : tie.Need-add-i Inv-loop μ-loop
 add-i c = search needs
 
--- src/grounds.rt:78:5
 loop-less : tie.Need-loop-less Inv-loop μ-loop
 loop-less c = omega arith
 
--- src/grounds.rt:78:5
 loop-again : tie.Need-loop-again Inv-loop μ-loop
 loop-again c =
     let s = c .before .before .before .before .before .before .before .before .before .before in
@@ -88,11 +70,9 @@ loop-again c =
           ∙ c .before .before .before .before .before .before .loop .inv .1,
     )
 
--- src/grounds.rt:85:5
 none-requires : tie.Need-none-requires Inv-loop μ-loop
 none-requires c κs = search needs
 
--- src/grounds.rt:73:1
 returns-2 : tie.Need-returns-2 Inv-loop μ-loop
 returns-2 c =
     let s = c .before .before .before .before .before .before in

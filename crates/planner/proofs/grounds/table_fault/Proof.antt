@@ -13,11 +13,6 @@ use Rattle.planner.proofs.Faults.{either-first, either-second, neither,
 use borrow.Author.Needs.{needs}
 use Rattle.planner.proofs.grounds.table_fault.Statement.{statement}
 use Rattle.planner.proofs.grounds.table_fault.Tie as tie
-use Rattle.planner.proofs.grounds.table_fault.Reads as reads
-use Rattle.planner.proofs.grounds.table_fault.Lts as lts
-use Rattle.planner.proofs.grounds.arcs_fault.Reads as arcs-fault-reads
-use Rattle.planner.proofs.grounds.node.Reads as node-reads
-use Rattle.planner.proofs.grounds.wanted_fault.Reads as wanted-fault-reads
 
 -- what each test leaves
 nodes-fine : (c : tie.Else2) → (eqb (c .before .before .before .before .before .before .args .n) 0 || ltb most-nodes (c .before .before .before .before .before .before .args .n)) ≡ false
@@ -33,7 +28,6 @@ buffers-fine c =
     let a = c .before .before .before .before .before .before .before .before .before .before .before .before .before .args in
     rooms-fine (a .n) (length (a .tails .now)) (a .distances) (a .prices) (a .tree) (a .marks) (c .before .before .before .if6 .left) (c .before .before .if7 .left) (c .before .if8 .left) (c .if9 .left)
 
--- src/grounds.rt:94:9
 returns : tie.Need-returns
 unfolding refusal-of refusal
 returns c =
@@ -41,7 +35,6 @@ returns c =
     at-1 (a .n) (a .origin) (a .tails .now) (a .heads .now) (a .lengths .now) (a .wanted .now) _
     (⊎-elim (λ w. either-first (eqb (a .n) 0) _ (eq-eqb (a .n) 0 (w .taken))) (λ w. either-second (eqb (a .n) 0) _ (w .1 .taken)) (c .if1 .came))
 
--- src/grounds.rt:97:9
 returns-2 : tie.Need-returns-2
 unfolding refusal-of refusal
 returns-2 c =
@@ -53,7 +46,6 @@ returns-2 c =
     (λ w. too-many-arcs (a .tails .now) (a .heads .now) (a .lengths .now) (w .2 .taken)) z)
     (c .if3 .came))
 
--- src/grounds.rt:101:9
 returns-3 : tie.Need-returns-3
 unfolding refusal-of refusal
 returns-3 c =
@@ -69,11 +61,9 @@ returns-3 c =
     z)
     (c .if6 .came))
 
--- src/grounds.rt:103:13
 node-requires : tie.Need-node-requires
 node-requires c κs = search needs
 
--- src/grounds.rt:104:9
 returns-4 : tie.Need-returns-4
 unfolding refusal-of refusal
 returns-4 c =
@@ -81,11 +71,9 @@ returns-4 c =
     at-4 (a .n) (a .origin) (a .tails .now) (a .heads .now) (a .lengths .now) (a .wanted .now) _ (nodes-fine (c .before .before .before .before .before .before .before .before .before)) (arcs-fine (c .before .before .before .before .before .before)) (buffers-fine (c .before .before))
     (omega (arith, c .before .node .ensures, c .if10 .taken))
 
--- src/grounds.rt:106:9
 wanted-fault-requires : tie.Need-wanted-fault-requires
 wanted-fault-requires c κs = search needs
 
--- src/grounds.rt:108:9
 returns-5 : tie.Need-returns-5
 unfolding refusal-of refusal
 returns-5 c =
@@ -93,7 +81,6 @@ returns-5 c =
     at-5 (a .n) (a .origin) (a .tails .now) (a .heads .now) (a .lengths .now) (a .wanted .now) _ (nodes-fine (c .before .before .before .before .before .before .before .before .before .before .before .before)) (arcs-fine (c .before .before .before .before .before .before .before .before .before)) (buffers-fine (c .before .before .before .before .before))
     (omega (arith, c .before .before .before .before .node .ensures, c .before .before .before .if10 .left)) _ (c .before .before .wanted-fault .ensures) (c .if11 .taken)
 
--- src/grounds.rt:110:5
 arcs-fault-requires : tie.Need-arcs-fault-requires
 arcs-fault-requires c κs =
     let a = c .before .before .before .before .before .before .before .before .before .before .before .before .before .before .before .before .before .before .args in
@@ -101,7 +88,6 @@ arcs-fault-requires c κs =
     let l : length (a .heads .now) ≡ length (a .lengths .now) = eqb-true _ _ (not-false _ (c .before .before .before .before .before .before .before .before .before .before .if4 .left)) in
     (sym h, (sym (h ∙ l), ltb-false _ _ (c .before .before .before .before .before .before .before .before .before .if5 .left)))
 
--- src/grounds.rt:89:1
 returns-6 : tie.Need-returns-6
 unfolding refusal-of refusal
 returns-6 c =

@@ -10,11 +10,6 @@ use Rattle.planner.specs.Plan.{refusal-of}
 use Rattle.planner.proofs.Faults.{no-fault, too-many, few-enough, wanted-good, wanted-bad, wanted-done}
 use Rattle.planner.proofs.grounds.wanted_fault.Statement.{statement}
 use Rattle.planner.proofs.grounds.wanted_fault.Tie as tie
-use Rattle.planner.proofs.grounds.wanted_fault.Reads as reads
-use Rattle.planner.proofs.grounds.wanted_fault.Lts as lts
-use Rattle.planner.proofs.grounds.Fault.none.Reads as none-reads
-use Rattle.planner.proofs.grounds.node.Reads as node-reads
-use Rattle.planner.proofs.grounds.place.Reads as place-reads
 
 abbrev Inv-loop : tie.InvT-loop
 Inv-loop n wanted i₀ i = (length wanted ≤ most-wanted) × (i ≤ length wanted) × (wanted-from i n (drop i wanted) ≡ wanted-refusal n wanted)
@@ -22,37 +17,29 @@ Inv-loop n wanted i₀ i = (length wanted ≤ most-wanted) × (i ≤ length want
 abbrev μ-loop : tie.MeasureT-loop
 μ-loop n wanted i₀ i = length wanted - i
 
--- src/grounds.rt:47:42
 place-requires : tie.Need-place-requires Inv-loop μ-loop
 place-requires c κs = omega arith
 
--- src/grounds.rt:47:9
 returns : tie.Need-returns Inv-loop μ-loop
 unfolding refusal-of
 returns c = too-many (c .before .before .before .args .n) (c .before .before .before .args .wanted .now) (c .place .result) (c .place .ensures) (c .before .if1 .taken)
 
--- src/grounds.rt:50:5
 loop-holds : tie.Need-loop-holds Inv-loop μ-loop
 loop-holds c =
     let a = c .before .before .args in (c .if1 .left, search needs, few-enough (a .n) (a .wanted .now) (c .if1 .left))
 
--- src/grounds.rt:51:22
 mul-node : tie.Need-mul-node Inv-loop μ-loop
 mul-node c = search needs
 
--- src/grounds.rt:51:22
 shared-slice-read-node : tie.Need-shared-slice-read-node Inv-loop μ-loop
 shared-slice-read-node c = search needs
 
--- src/grounds.rt:51:17
 node-requires : tie.Need-node-requires Inv-loop μ-loop
 node-requires c κs = search needs
 
--- src/grounds.rt:52:46
 place-requires-2 : tie.Need-place-requires-2 Inv-loop μ-loop
 place-requires-2 c κs = omega arith
 
--- src/grounds.rt:52:13
 returns-2 : tie.Need-returns-2 Inv-loop μ-loop
 unfolding refusal-of
 returns-2 c =
@@ -61,15 +48,12 @@ returns-2 c =
     wanted-bad (a .n) (a .wanted .now) i (c .place2 .result) (c .place2 .ensures) (c .before .before .before .before .loop-test .taken) (omega (arith, c .before .before .node .ensures, c .before .if2 .taken))
     ∙ c .before .before .before .before .before .loop .inv .2
 
--- src/grounds.rt:54:13
 add-i : tie.Need-add-i Inv-loop μ-loop
 add-i c = search needs
 
--- src/grounds.rt:50:5
 loop-less : tie.Need-loop-less Inv-loop μ-loop
 loop-less c = omega arith
 
--- src/grounds.rt:50:5
 loop-again : tie.Need-loop-again Inv-loop μ-loop
 loop-again c =
     let a = c .before .before .before .before .before .before .before .args in
@@ -79,11 +63,9 @@ loop-again c =
       wanted-good (a .n) (a .wanted .now) (l .i) (c .before .before .before .loop-test .taken) (omega (arith, c .before .node .ensures, c .if2 .left)) ∙ l .inv .2,
     )
 
--- src/grounds.rt:56:5
 none-requires : tie.Need-none-requires Inv-loop μ-loop
 none-requires c κs = search needs
 
--- src/grounds.rt:43:1
 returns-3 : tie.Need-returns-3 Inv-loop μ-loop
 returns-3 c =
     let a = c .before .before .before .before .before .args in

@@ -5,26 +5,19 @@ use lib.ListN.{getD}
 use borrow.Author.Needs.{needs}
 use Rattle.planner.proofs.hand_over.arc_of.Statement.{statement}
 use Rattle.planner.proofs.hand_over.arc_of.Tie as tie
-use Rattle.planner.proofs.hand_over.arc_of.Reads as reads
-use Rattle.planner.proofs.hand_over.arc_of.Lts as lts
 
--- src/hand_over.rt:118:8
 shared-slice-read-if1 : tie.Need-shared-slice-read-if1
 shared-slice-read-if1 c = search needs
 
--- src/hand_over.rt:119:9
 returns : tie.Need-returns
 returns c = let a = c .before .before .args in rw (le-ltb 0 (getD (a .status .now) (a .v) 0) (omega (arith, c .if1 .taken)))
 
--- src/hand_over.rt:121:5
 mul-result : tie.Need-mul-result
 mul-result c = search needs
 
--- src/hand_over.rt:121:5
 shared-slice-read-result : tie.Need-shared-slice-read-result
 shared-slice-read-result c = search needs
 
--- src/hand_over.rt:114:1
 returns-2 : tie.Need-returns-2
 returns-2 c = let a = c .before .before .before .args in rw (lt-ltb 0 (getD (a .status .now) (a .v) 0) (omega (arith, c .before .if1 .left)))
 

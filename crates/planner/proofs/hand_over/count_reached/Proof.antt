@@ -10,9 +10,6 @@ use Rattle.planner.proofs.Entries.{sum-none, sum-more, all-entries}
 use Rattle.planner.proofs.Handing.{reached-entry, count-so, at-most-one}
 use Rattle.planner.proofs.hand_over.count_reached.Statement.{statement}
 use Rattle.planner.proofs.hand_over.count_reached.Tie as tie
-use Rattle.planner.proofs.hand_over.count_reached.Reads as reads
-use Rattle.planner.proofs.hand_over.count_reached.Lts as lts
-use Rattle.planner.proofs.hand_over.one_if_reached.Reads as one-if-reached-reads
 
 abbrev Inv-loop : tie.InvT-loop
 Inv-loop status count₀ v₀ count v = (count + v ≤ length status) × (count ≡ sum (entries (length status - v) v (reached-entry status)))
@@ -20,29 +17,23 @@ Inv-loop status count₀ v₀ count v = (count + v ≤ length status) × (count 
 abbrev μ-loop : tie.MeasureT-loop
 μ-loop status count₀ v₀ count v = v
 
--- src/hand_over.rt:79:5
 loop-holds : tie.Need-loop-holds Inv-loop μ-loop
 loop-holds c = let a = c .before .args in (search needs, sum-none (length (a .status .now)) (reached-entry (a .status .now)))
 
--- src/hand_over.rt:80:13
 sub-v : tie.Need-sub-v Inv-loop μ-loop
 sub-v c = omega arith
 
--- src/hand_over.rt:81:17
 one-if-reached-requires : tie.Need-one-if-reached-requires Inv-loop μ-loop
 one-if-reached-requires c κs = omega (arith, c .before .loop .inv .0)
 
--- src/hand_over.rt:81:17
 add-count : tie.Need-add-count Inv-loop μ-loop
 add-count c =
     let l = c .before .before .loop in
     omega (arith, l .inv .0, c .before .before .before .before .pre, c .one-if-reached .ensures, at-most-one (ltb 0 (getD (c .before .before .before .before .args .status .now) (l .v - 1) 0)))
 
--- src/hand_over.rt:79:5
 loop-less : tie.Need-loop-less Inv-loop μ-loop
 loop-less c = omega arith
 
--- src/hand_over.rt:79:5
 loop-again : tie.Need-loop-again Inv-loop μ-loop
 loop-again c =
     let a = c .before .before .before .before .args in
@@ -52,7 +43,6 @@ loop-again c =
           ∙ sum-more (length (a .status .now)) (reached-entry (a .status .now)) (l .v) (c .before .loop-test .taken) (omega (arith, l .inv .0)) (l .count) (l .inv .1),
     )
 
--- src/hand_over.rt:73:1
 returns : tie.Need-returns Inv-loop μ-loop
 returns c =
     λ t path price bound kept g e.

@@ -7,9 +7,6 @@ use Rattle.planner.proofs.Entries.{Filling, fill-begins, fill-on, fill-
 use Rattle.planner.proofs.Handing.{distance-entry, distances-so}
 use Rattle.planner.proofs.hand_over.fill_distances.Statement.{statement}
 use Rattle.planner.proofs.hand_over.fill_distances.Tie as tie
-use Rattle.planner.proofs.hand_over.fill_distances.Reads as reads
-use Rattle.planner.proofs.hand_over.fill_distances.Lts as lts
-use Rattle.planner.proofs.hand_over.distance_or.Reads as distance-or-reads
 
 abbrev Inv-loop : tie.InvT-loop
 Inv-loop bound status out₀ v₀ out v = Filling (length status) (distance-entry no-distance bound status) out v
@@ -17,41 +14,32 @@ Inv-loop bound status out₀ v₀ out v = Filling (length status) (distance-entr
 abbrev μ-loop : tie.MeasureT-loop
 μ-loop bound status out₀ v₀ out v = v
 
--- src/hand_over.rt:93:5
 loop-holds : tie.Need-loop-holds Inv-loop μ-loop
 loop-holds c = fill-begins (c .before .before .before .args .out .now) (c .before .before .before .pre .1)
 
--- src/hand_over.rt:94:13
 sub-v : tie.Need-sub-v Inv-loop μ-loop
 sub-v c = omega arith
 
--- src/hand_over.rt:95:18
 distance-or-requires : tie.Need-distance-or-requires Inv-loop μ-loop
 distance-or-requires c κs =
     let s = c .before .before .before .before .before in
     let l = c .before .loop in (omega (arith, l .inv .low, s .pre .0 .as-long), omega (arith, l .inv .low))
 
--- src/hand_over.rt:95:9
 mul-out : tie.Need-mul-out Inv-loop μ-loop
 mul-out c = omega (arith, c .before .before .loop .inv .low, c .before .before .before .before .before .before .pre .1, c .before .before .before .before .before .before .good .1 .1)
 
--- src/hand_over.rt:95:9
 slice-write-out : tie.Need-slice-write-out Inv-loop μ-loop
 slice-write-out c = omega (arith, c .before .before .loop .inv .low, c .before .before .loop .inv .long)
 
--- src/hand_over.rt:93:5
 loop-less : tie.Need-loop-less Inv-loop μ-loop
 loop-less c = omega arith
 
--- src/hand_over.rt:93:5
 loop-again : tie.Need-loop-again Inv-loop μ-loop
 loop-again c = fill-on (c .distance-or .result) (c .before .before .loop .inv) (c .before .loop-test .taken) (c .distance-or .ensures)
 
--- src/hand_over.rt:87:1
 same-length : tie.Need-same-length Inv-loop μ-loop
 same-length c = omega (arith, c .before .loop .inv .long, c .before .before .before .before .before .pre .1)
 
--- src/hand_over.rt:87:1
 returns : tie.Need-returns Inv-loop μ-loop
 returns c =
     λ t path price kept g e.

@@ -6,9 +6,6 @@ use Rattle.planner.proofs.Entries.{Filling, fill-begins, fill-on, fill-
 use Rattle.planner.proofs.Handing.{mark-entry, marks-so}
 use Rattle.planner.proofs.hand_over.fill_marks.Statement.{statement}
 use Rattle.planner.proofs.hand_over.fill_marks.Tie as tie
-use Rattle.planner.proofs.hand_over.fill_marks.Reads as reads
-use Rattle.planner.proofs.hand_over.fill_marks.Lts as lts
-use Rattle.planner.proofs.hand_over.mark_at.Reads as mark-at-reads
 
 abbrev Inv-loop : tie.InvT-loop
 Inv-loop tails heads kept status out₀ i₀ out i = Filling (length heads) (mark-entry tails heads kept status) out i
@@ -16,37 +13,29 @@ Inv-loop tails heads kept status out₀ i₀ out i = Filling (length heads) (mar
 abbrev μ-loop : tie.MeasureT-loop
 μ-loop tails heads kept status out₀ i₀ out i = i
 
--- src/hand_over.rt:171:5
 loop-holds : tie.Need-loop-holds Inv-loop μ-loop
 loop-holds c = fill-begins (c .before .before .before .before .before .args .out .now) (c .before .before .before .before .before .pre .1 .0)
 
--- src/hand_over.rt:172:13
 sub-i : tie.Need-sub-i Inv-loop μ-loop
 sub-i c = omega arith
 
--- src/hand_over.rt:173:18
 mark-at-requires : tie.Need-mark-at-requires Inv-loop μ-loop
 mark-at-requires c κs =
     let s = c .before .before .before .before .before .before .before in
     let l = c .before .loop in (s .pre .0, (omega (arith, l .inv .low), omega (arith, l .inv .low, s .pre .1 .1)))
 
--- src/hand_over.rt:173:9
 slice-write-out : tie.Need-slice-write-out Inv-loop μ-loop
 slice-write-out c = omega (arith, c .before .before .loop .inv .low, c .before .before .loop .inv .long)
 
--- src/hand_over.rt:171:5
 loop-less : tie.Need-loop-less Inv-loop μ-loop
 loop-less c = omega arith
 
--- src/hand_over.rt:171:5
 loop-again : tie.Need-loop-again Inv-loop μ-loop
 loop-again c = fill-on (c .mark-at .result) (c .before .before .loop .inv) (omega (arith, c .before .loop-test .taken)) (c .mark-at .ensures)
 
--- src/hand_over.rt:165:1
 same-length : tie.Need-same-length Inv-loop μ-loop
 same-length c = omega (arith, c .before .loop .inv .long, c .before .before .before .before .before .before .before .pre .1 .0)
 
--- src/hand_over.rt:165:1
 returns : tie.Need-returns Inv-loop μ-loop
 returns c =
     λ t path price bound g e heads tails.

@@ -7,9 +7,6 @@ use Rattle.planner.proofs.Entries.{Filling, fill-begins, fill-on, fill-
 use Rattle.planner.proofs.Handing.{distance-entry, prices-so, by-status}
 use Rattle.planner.proofs.hand_over.fill_prices.Statement.{statement}
 use Rattle.planner.proofs.hand_over.fill_prices.Tie as tie
-use Rattle.planner.proofs.hand_over.fill_prices.Reads as reads
-use Rattle.planner.proofs.hand_over.fill_prices.Lts as lts
-use Rattle.planner.proofs.hand_over.distance_or.Reads as distance-or-reads
 
 abbrev Inv-loop : tie.InvT-loop
 Inv-loop horizon bound status out₀ v₀ out v = Filling (length status) (λ u. horizon - distance-entry horizon bound status u) out v
@@ -17,21 +14,17 @@ Inv-loop horizon bound status out₀ v₀ out v = Filling (length status) (λ u.
 abbrev μ-loop : tie.MeasureT-loop
 μ-loop horizon bound status out₀ v₀ out v = v
 
--- src/hand_over.rt:107:5
 loop-holds : tie.Need-loop-holds Inv-loop μ-loop
 loop-holds c = fill-begins (c .before .before .before .args .out .now) (c .before .before .before .pre .1 .0)
 
--- src/hand_over.rt:108:13
 sub-v : tie.Need-sub-v Inv-loop μ-loop
 sub-v c = omega arith
 
--- src/hand_over.rt:109:28
 distance-or-requires : tie.Need-distance-or-requires Inv-loop μ-loop
 distance-or-requires c κs =
     let s = c .before .before .before .before .before in
     let l = c .before .loop in (omega (arith, l .inv .low, s .pre .0 .as-long), omega (arith, l .inv .low))
 
--- src/hand_over.rt:109:18
 sub-out : tie.Need-sub-out Inv-loop μ-loop
 sub-out c =
     let s = c .before .before .before .before .before .before in
@@ -43,28 +36,22 @@ sub-out c =
     (λ z. s .pre .1 .1 (l .v - 1) (omega (arith, l .inv .low)) (omega arith)) in
     omega (arith, e, low)
 
--- src/hand_over.rt:109:9
 mul-out : tie.Need-mul-out Inv-loop μ-loop
 mul-out c = omega (arith, c .before .before .loop .inv .low, c .before .before .before .before .before .before .pre .1 .0, c .before .before .before .before .before .before .good .1 .1)
 
--- src/hand_over.rt:109:9
 slice-write-out : tie.Need-slice-write-out Inv-loop μ-loop
 slice-write-out c = omega (arith, c .before .before .loop .inv .low, c .before .before .loop .inv .long)
 
--- src/hand_over.rt:107:5
 loop-less : tie.Need-loop-less Inv-loop μ-loop
 loop-less c = omega arith
 
--- src/hand_over.rt:107:5
 loop-again : tie.Need-loop-again Inv-loop μ-loop
 loop-again c =
     let a = c .before .before .before .before .before .before .args in fill-on _ (c .before .before .loop .inv) (c .before .loop-test .taken) (ap (λ m. a .horizon - m) (c .distance-or .ensures))
 
--- src/hand_over.rt:100:1
 same-length : tie.Need-same-length Inv-loop μ-loop
 same-length c = omega (arith, c .before .loop .inv .long, c .before .before .before .before .before .pre .1 .0)
 
--- src/hand_over.rt:100:1
 returns : tie.Need-returns Inv-loop μ-loop
 returns c =
     λ t path price kept g e eh.

@@ -6,9 +6,6 @@ use Rattle.planner.proofs.Entries.{Filling, fill-begins, fill-on, fill-
 use Rattle.planner.proofs.Handing.{arc-entry, tree-so}
 use Rattle.planner.proofs.hand_over.fill_tree.Statement.{statement}
 use Rattle.planner.proofs.hand_over.fill_tree.Tie as tie
-use Rattle.planner.proofs.hand_over.fill_tree.Reads as reads
-use Rattle.planner.proofs.hand_over.fill_tree.Lts as lts
-use Rattle.planner.proofs.hand_over.arc_of.Reads as arc-of-reads
 
 abbrev Inv-loop : tie.InvT-loop
 Inv-loop kept status out₀ v₀ out v = Filling (length status) (arc-entry kept status) out v
@@ -16,41 +13,32 @@ Inv-loop kept status out₀ v₀ out v = Filling (length status) (arc-entry kept
 abbrev μ-loop : tie.MeasureT-loop
 μ-loop kept status out₀ v₀ out v = v
 
--- src/hand_over.rt:130:5
 loop-holds : tie.Need-loop-holds Inv-loop μ-loop
 loop-holds c = fill-begins (c .before .before .before .args .out .now) (c .before .before .before .pre .1)
 
--- src/hand_over.rt:131:13
 sub-v : tie.Need-sub-v Inv-loop μ-loop
 sub-v c = omega arith
 
--- src/hand_over.rt:132:18
 arc-of-requires : tie.Need-arc-of-requires Inv-loop μ-loop
 arc-of-requires c κs =
     let s = c .before .before .before .before .before in
     let l = c .before .loop in (omega (arith, l .inv .low, s .pre .0), omega (arith, l .inv .low))
 
--- src/hand_over.rt:132:9
 mul-out : tie.Need-mul-out Inv-loop μ-loop
 mul-out c = omega (arith, c .before .before .loop .inv .low, c .before .before .before .before .before .before .pre .1, c .before .before .before .before .before .before .good .1 .1)
 
--- src/hand_over.rt:132:9
 slice-write-out : tie.Need-slice-write-out Inv-loop μ-loop
 slice-write-out c = omega (arith, c .before .before .loop .inv .low, c .before .before .loop .inv .long)
 
--- src/hand_over.rt:130:5
 loop-less : tie.Need-loop-less Inv-loop μ-loop
 loop-less c = omega arith
 
--- src/hand_over.rt:130:5
 loop-again : tie.Need-loop-again Inv-loop μ-loop
 loop-again c = fill-on (c .arc-of .result) (c .before .before .loop .inv) (c .before .loop-test .taken) (c .arc-of .ensures)
 
--- src/hand_over.rt:125:1
 same-length : tie.Need-same-length Inv-loop μ-loop
 same-length c = omega (arith, c .before .loop .inv .long, c .before .before .before .before .before .pre .1)
 
--- src/hand_over.rt:125:1
 returns : tie.Need-returns Inv-loop μ-loop
 returns c =
     λ t path price bound g e.

@@ -12,72 +12,49 @@ use Rattle.planner.proofs.Handing.{assembled}
 use borrow.Author.Needs.{needs}
 use Rattle.planner.proofs.hand_over.hand_over.Statement.{statement}
 use Rattle.planner.proofs.hand_over.hand_over.Tie as tie
-use Rattle.planner.proofs.hand_over.hand_over.Reads as reads
-use Rattle.planner.proofs.hand_over.hand_over.Lts as lts
-use Rattle.planner.proofs.hand_over.count_reached.Reads as count-reached-reads
-use Rattle.planner.proofs.hand_over.fill_distances.Reads as fill-distances-reads
-use Rattle.planner.proofs.hand_over.fill_marks.Reads as fill-marks-reads
-use Rattle.planner.proofs.hand_over.fill_prices.Reads as fill-prices-reads
-use Rattle.planner.proofs.hand_over.fill_tree.Reads as fill-tree-reads
-use Rattle.planner.proofs.hand_over.horizon_of.Reads as horizon-of-reads
-use Rattle.planner.proofs.hand_over.route_fault.Reads as route-fault-reads
 
--- src/hand_over.rt:213:9
 route-fault-requires : tie.Need-route-fault-requires
 route-fault-requires c κs = search needs
 
--- src/hand_over.rt:214:9
 count-reached-requires : tie.Need-count-reached-requires
 count-reached-requires c κs = search needs
 
--- src/hand_over.rt:215:9
 horizon-of-requires : tie.Need-horizon-of-requires
 horizon-of-requires c κs = search needs
 
--- src/hand_over.rt:216:5
 fill-distances-requires : tie.Need-fill-distances-requires
 fill-distances-requires c κs = search needs
 
--- src/hand_over.rt:217:5
 fill-prices-requires : tie.Need-fill-prices-requires
 fill-prices-requires c κs =
     let s = c .before .before .before .before .before .before .before .before .before .before .before .before .before .before .before .before .before in (s .pre .0, (s .pre .1 .1 .0 .prices-long, c .before .before .before .before .before .horizon-of .ensures .1))
 
--- src/hand_over.rt:218:5
 fill-tree-requires : tie.Need-fill-tree-requires
 fill-tree-requires c κs =
     let s = c .before .before .before .before .before .before .before .before .before .before .before .before .before .before .before .before .before .before .before .before .before in (s .pre .1 .0 .kept-count, s .pre .1 .1 .0 .tree-long)
 
--- src/hand_over.rt:219:5
 fill-marks-requires : tie.Need-fill-marks-requires
 fill-marks-requires c κs =
     let s = c .before .before .before .before .before .before .before .before .before .before .before .before .before .before .before .before .before .before .before .before .before .before .before .before .before in (s .pre .1 .0, (s .pre .1 .1 .0 .marks-long, omega (arith, s .pre .1 .1 .0 .few-arcs)))
 
--- src/hand_over.rt:226:21
 add-t25 : tie.Need-add-t25
 add-t25 c = omega (arith, c .before .before .before .before .before .before .before .before .before .before .before .before .before .before .before .before .before .before .before .before .before .before .before .before .before .before .before .before .before .before .pre .1 .1 .1 .1)
 
--- src/hand_over.rt:226:21
 add-t26 : tie.Need-add-t26
 add-t26 c = omega (arith, c .before .before .before .before .before .before .before .before .before .before .before .before .before .before .before .before .before .before .before .before .before .before .before .before .before .before .before .before .before .before .before .pre .1 .1 .1 .1)
 
--- src/hand_over.rt:194:1
 same-length : tie.Need-same-length
 same-length c = search needs
 
--- src/hand_over.rt:194:1
 same-length-2 : tie.Need-same-length-2
 same-length-2 c = search needs
 
--- src/hand_over.rt:194:1
 same-length-3 : tie.Need-same-length-3
 same-length-3 c = search needs
 
--- src/hand_over.rt:194:1
 same-length-4 : tie.Need-same-length-4
 same-length-4 c = search needs
 
--- src/hand_over.rt:194:1
 returns : tie.Need-returns
 unfolding answered iterations seen state
 returns c =

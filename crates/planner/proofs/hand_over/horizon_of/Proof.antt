@@ -9,10 +9,6 @@ use Rattle.planner.proofs.Entries.{greatest-none, greatest-more, all-en
 use Rattle.planner.proofs.Handing.{distance-entry, horizon-so, below-horizon}
 use Rattle.planner.proofs.hand_over.horizon_of.Statement.{statement}
 use Rattle.planner.proofs.hand_over.horizon_of.Tie as tie
-use Rattle.planner.proofs.hand_over.horizon_of.Reads as reads
-use Rattle.planner.proofs.hand_over.horizon_of.Lts as lts
-use Rattle.planner.proofs.hand_over.distance_or.Reads as distance-or-reads
-use Rattle.planner.proofs.hand_over.larger.Reads as larger-reads
 
 abbrev Inv-loop : tie.InvT-loop
 Inv-loop bound status h₀ v₀ h v = (v ≤ length status) × (h ≡ greatest (entries (length status - v) v (distance-entry 0 bound status)))
@@ -20,30 +16,24 @@ Inv-loop bound status h₀ v₀ h v = (v ≤ length status) × (h ≡ greatest (
 abbrev μ-loop : tie.MeasureT-loop
 μ-loop bound status h₀ v₀ h v = v
 
--- src/hand_over.rt:54:5
 loop-holds : tie.Need-loop-holds Inv-loop μ-loop
 loop-holds c =
     let a = c .before .before .args in (search needs, greatest-none (length (a .status .now)) (distance-entry 0 (a .bound .now) (a .status .now)))
 
--- src/hand_over.rt:55:13
 sub-v : tie.Need-sub-v Inv-loop μ-loop
 sub-v c = omega arith
 
--- src/hand_over.rt:56:20
 distance-or-requires : tie.Need-distance-or-requires Inv-loop μ-loop
 distance-or-requires c κs =
     let s = c .before .before .before .before in
     let l = c .before .loop in (omega (arith, l .inv .0, s .pre .as-long), omega (arith, l .inv .0))
 
--- src/hand_over.rt:56:9
 larger-requires : tie.Need-larger-requires Inv-loop μ-loop
 larger-requires c κs = search needs
 
--- src/hand_over.rt:54:5
 loop-less : tie.Need-loop-less Inv-loop μ-loop
 loop-less c = omega arith
 
--- src/hand_over.rt:54:5
 loop-again : tie.Need-loop-again Inv-loop μ-loop
 loop-again c =
     let a = c .before .before .before .before .before .before .args in
@@ -54,7 +44,6 @@ loop-again c =
           ∙ greatest-more (length (a .status .now)) f (l .v) (c .before .before .loop-test .taken) (l .inv .0) (l .h) (l .inv .1),
     )
 
--- src/hand_over.rt:48:1
 returns : tie.Need-returns Inv-loop μ-loop
 returns c =
     let s = c .before .before .before .before in

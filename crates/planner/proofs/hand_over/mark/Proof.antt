@@ -4,50 +4,37 @@ use Rattle.planner.proofs.Marks.{byte-low, is-3, is-1, is-2, is-0}
 use borrow.Author.Needs.{needs}
 use Rattle.planner.proofs.hand_over.mark.Statement.{statement}
 use Rattle.planner.proofs.hand_over.mark.Tie as tie
-use Rattle.planner.proofs.hand_over.mark.Reads as reads
-use Rattle.planner.proofs.hand_over.mark.Lts as lts
 
--- src/hand_over.rt:140:17
 cast-case : tie.Need-cast-case
 cast-case c = search needs
 
--- src/hand_over.rt:140:16
 mul-case : tie.Need-mul-case
 mul-case c = omega (arith, byte-low (c .args .head))
 
--- src/hand_over.rt:140:36
 cast-case-2 : tie.Need-cast-case-2
 cast-case-2 c = search needs
 
--- src/hand_over.rt:140:35
 mul-case-2 : tie.Need-mul-case-2
 mul-case-2 c = omega (arith, byte-low (c .args .tail))
 
--- src/hand_over.rt:140:16
 add-case : tie.Need-add-case
 add-case c = omega (arith, byte-low (c .args .head), byte-low (c .args .tail))
 
--- src/hand_over.rt:140:55
 cast-case-3 : tie.Need-cast-case-3
 cast-case-3 c = search needs
 
--- src/hand_over.rt:140:16
 add-case-2 : tie.Need-add-case-2
 add-case-2 c = omega (arith, byte-low (c .args .head), byte-low (c .args .tail), byte-low (c .args .kept))
 
--- src/hand_over.rt:137:1
 returns : tie.Need-returns
 returns c = let a = c .before .args in is-3 (a .head) (a .tail) (a .kept) (c .match .keys1)
 
--- src/hand_over.rt:137:1
 returns-2 : tie.Need-returns-2
 returns-2 c = let a = c .before .args in is-1 (a .head) (a .tail) (a .kept) (c .match .keys2)
 
--- src/hand_over.rt:137:1
 returns-3 : tie.Need-returns-3
 returns-3 c = let a = c .before .args in is-2 (a .head) (a .tail) (a .kept) (c .match .keys3)
 
--- src/hand_over.rt:137:1
 returns-4 : tie.Need-returns-4
 returns-4 c = let a = c .before .args in is-0 (a .head) (a .tail) (a .kept) (c .match .rest .0 .0 .1) (c .match .rest .0 .1) (c .match .rest .1)
 

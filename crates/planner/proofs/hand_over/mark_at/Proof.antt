@@ -4,61 +4,44 @@ use Rattle.planner.proofs.Marks.{marked}
 use borrow.Author.Needs.{needs}
 use Rattle.planner.proofs.hand_over.mark_at.Statement.{statement}
 use Rattle.planner.proofs.hand_over.mark_at.Tie as tie
-use Rattle.planner.proofs.hand_over.mark_at.Reads as reads
-use Rattle.planner.proofs.hand_over.mark_at.Lts as lts
-use Rattle.planner.proofs.hand_over.mark.Reads as mark-reads
-use Rattle.solver.proofs.wide.Reads as wide-reads
 
--- src/hand_over.rt:159:21
 mul-wide : tie.Need-mul-wide
 mul-wide c = search needs
 
--- src/hand_over.rt:159:21
 shared-slice-read-wide : tie.Need-shared-slice-read-wide
 shared-slice-read-wide c = search needs
 
--- src/hand_over.rt:159:9
 wide-requires : tie.Need-wide-requires
 wide-requires c κs = search needs
 
--- src/hand_over.rt:160:21
 mul-wide-2 : tie.Need-mul-wide-2
 mul-wide-2 c = search needs
 
--- src/hand_over.rt:160:21
 shared-slice-read-wide-2 : tie.Need-shared-slice-read-wide-2
 shared-slice-read-wide-2 c = search needs
 
--- src/hand_over.rt:160:9
 wide-requires-2 : tie.Need-wide-requires-2
 wide-requires-2 c κs = search needs
 
--- src/hand_over.rt:161:10
 shared-slice-read-mark : tie.Need-shared-slice-read-mark
 shared-slice-read-mark c = let s = c .before .before .before .before .before .before .before .before .before in omega (arith, c .before .before .before .wide .ensures .0, s .pre .0 .head-in (s .args .i) (s .pre .1 .0))
 
--- src/hand_over.rt:161:44
 shared-slice-read-mark-2 : tie.Need-shared-slice-read-mark-2
 shared-slice-read-mark-2 c = let s = c .before .before .before .before .before .before .before .before .before .before in omega (arith, c .before .before .wide2 .ensures .0, s .pre .0 .tail-in (s .args .i) (s .pre .1 .0))
 
--- src/hand_over.rt:161:83
 mul-wide-3 : tie.Need-mul-wide-3
 mul-wide-3 c = search needs
 
--- src/hand_over.rt:161:83
 shared-slice-read-wide-3 : tie.Need-shared-slice-read-wide-3
 shared-slice-read-wide-3 c =
     let s = c .before .before .before .before .before .before .before .before .before .before .before in omega (arith, c .before .before .before .before .before .wide .ensures .0, s .pre .0 .head-in (s .args .i) (s .pre .1 .0), s .pre .0 .kept-count)
 
--- src/hand_over.rt:161:78
 wide-requires-3 : tie.Need-wide-requires-3
 wide-requires-3 c κs = search needs
 
--- src/hand_over.rt:161:5
 mark-requires : tie.Need-mark-requires
 mark-requires c κs = search needs
 
--- src/hand_over.rt:154:1
 returns : tie.Need-returns
 returns c =
     let a = c .before .before .before .before .before .before .before .before .before .before .before .before .before .args in

@@ -5,18 +5,13 @@ use lib.ListN.{getD}
 use borrow.Author.Needs.{needs}
 use Rattle.planner.proofs.hand_over.one_if_reached.Statement.{statement}
 use Rattle.planner.proofs.hand_over.one_if_reached.Tie as tie
-use Rattle.planner.proofs.hand_over.one_if_reached.Reads as reads
-use Rattle.planner.proofs.hand_over.one_if_reached.Lts as lts
 
--- src/hand_over.rt:66:8
 shared-slice-read-if1 : tie.Need-shared-slice-read-if1
 shared-slice-read-if1 c = search needs
 
--- src/hand_over.rt:67:9
 returns : tie.Need-returns
 returns c = let a = c .before .before .args in rw (le-ltb 0 (getD (a .status .now) (a .v) 0) (omega (arith, c .if1 .taken)))
 
--- src/hand_over.rt:62:1
 returns-2 : tie.Need-returns-2
 returns-2 c = let a = c .before .before .args in rw (lt-ltb 0 (getD (a .status .now) (a .v) 0) (omega (arith, c .if1 .left)))
 

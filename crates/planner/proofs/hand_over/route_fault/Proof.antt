@@ -5,23 +5,16 @@ use Rattle.planner.proofs.Faults.{no-fault}
 use borrow.Author.Needs.{needs}
 use Rattle.planner.proofs.hand_over.route_fault.Statement.{statement}
 use Rattle.planner.proofs.hand_over.route_fault.Tie as tie
-use Rattle.planner.proofs.hand_over.route_fault.Reads as reads
-use Rattle.planner.proofs.hand_over.route_fault.Lts as lts
-use Rattle.planner.proofs.grounds.Fault.none.Reads as none-reads
 
--- src/hand_over.rt:183:9
 none-requires : tie.Need-none-requires
 none-requires c κs = search needs
 
--- src/hand_over.rt:183:9
 returns : tie.Need-returns
 returns c = let a = c .before .before .args in rw (eq-eqb (a .missing) (a .wanted) (c .before .if1 .taken)) (no-fault (c .none .result) (c .none .ensures))
 
--- src/hand_over.rt:187:16
 cast-t4 : tie.Need-cast-t4
 cast-t4 c = search needs
 
--- src/hand_over.rt:178:1
 returns-2 : tie.Need-returns-2
 unfolding refusal-of
 returns-2 c = let a = c .before .args in rw (ne-eqb (a .missing) (a .wanted) (c .if1 .left))

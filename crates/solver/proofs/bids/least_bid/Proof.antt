@@ -9,10 +9,6 @@ use Rattle.solver.proofs.Arcs.{Readable, readable}
 use Rattle.solver.proofs.Bidding.{Comparing, begins, goes-on, ends}
 use Rattle.solver.proofs.bids.least_bid.Statement.{statement}
 use Rattle.solver.proofs.bids.least_bid.Tie as tie
-use Rattle.solver.proofs.bids.least_bid.Reads as reads
-use Rattle.solver.proofs.bids.least_bid.Lts as lts
-use Rattle.solver.proofs.bids.lower_bid.Reads as lower-bid-reads
-use Rattle.solver.proofs.wide.Reads as wide-reads
 
 abbrev Inv-loop : tie.InvT-loop
 Inv-loop v heads lengths first next price kept status least₀ p₀ least p = (Comparing heads lengths first next v price kept status (least .value) (least .arc) p) × (p ≤ no-arc)
@@ -25,15 +21,12 @@ inside : (c : tie.In-loop Inv-loop μ-loop) →
     let a = c .before .before .before .before .before .before .before .before .before .before .args in Readable (a .heads .now) (a .lengths .now) (a .first .now) (a .next .now) (c .before .loop .p)
 inside c = readable (λ t here. c .before .loop .inv .0 t here .on-list) (c .before .before .before .before .before .before .before .before .before .before .pre .0) (c .loop-test .taken)
 
--- src/bids.rt:53:17
 mul-p : tie.Need-mul-p Inv-loop μ-loop
 mul-p c = search needs
 
--- src/bids.rt:53:17
 shared-slice-read-p : tie.Need-shared-slice-read-p Inv-loop μ-loop
 shared-slice-read-p c = omega (arith, c .before .before .before .before .before .before .before .before .pre .1 .1 .0)
 
--- src/bids.rt:54:5
 loop-holds : tie.Need-loop-holds Inv-loop μ-loop
 loop-holds c =
     let a = c .before .before .before .before .before .before .before .before .args in (
@@ -41,33 +34,26 @@ loop-holds c =
       omega (arith, c .shared-slice-known8 .given (a .v)),
     )
 
--- src/bids.rt:55:13
 wide-requires : tie.Need-wide-requires Inv-loop μ-loop
 wide-requires c κs = search needs
 
--- src/bids.rt:56:25
 mul-wide : tie.Need-mul-wide Inv-loop μ-loop
 mul-wide c = search needs
 
--- src/bids.rt:56:25
 shared-slice-read-wide : tie.Need-shared-slice-read-wide Inv-loop μ-loop
 shared-slice-read-wide c =
     let r = inside (c .before .before) in omega (arith, c .before .wide .ensures .0, r .inside, r .listed .head-count)
 
--- src/bids.rt:56:13
 wide-requires-2 : tie.Need-wide-requires-2 Inv-loop μ-loop
 wide-requires-2 c κs = search needs
 
--- src/bids.rt:57:43
 mul-lower-bid : tie.Need-mul-lower-bid Inv-loop μ-loop
 mul-lower-bid c = omega (arith, c .before .before .wide .ensures .1)
 
--- src/bids.rt:57:43
 shared-slice-read-lower-bid : tie.Need-shared-slice-read-lower-bid Inv-loop μ-loop
 shared-slice-read-lower-bid c =
     let r = inside (c .before .before .before .before) in omega (arith, c .before .before .before .wide .ensures .0, r .inside, r .listed .length-count)
 
--- src/bids.rt:57:9
 lower-bid-requires : tie.Need-lower-bid-requires Inv-loop μ-loop
 lower-bid-requires c κs =
     let r = inside (c .before .before .before .before) in
@@ -81,16 +67,13 @@ lower-bid-requires c κs =
       (omega (arith, c .before .before .before .before .before .loop .inv .1, c .before .before .before .before .loop-test .taken), s .pre .1 .1 .1 (c .before .wide2 .result)),
     )
 
--- src/bids.rt:58:13
 mul-p-2 : tie.Need-mul-p-2 Inv-loop μ-loop
 mul-p-2 c = omega (arith, c .before .before .before .before .wide .ensures .1)
 
--- src/bids.rt:58:13
 shared-slice-read-p-2 : tie.Need-shared-slice-read-p-2 Inv-loop μ-loop
 shared-slice-read-p-2 c =
     let r = inside (c .before .before .before .before .before .before) in omega (arith, c .before .before .before .before .before .wide .ensures .0, r .inside, r .listed .linked .next-count)
 
--- src/bids.rt:54:5
 loop-less : tie.Need-loop-less Inv-loop μ-loop
 loop-less c =
     let s = c .before .before .before .before .before .before .before .before .before .before .before .before .before .before .before .before in
@@ -98,7 +81,6 @@ loop-less c =
     let same : getD n (c .before .before .before .before .before .wide .result) 0 ≡ getD n (c .before .before .before .before .before .before .before .loop .p) 0 = ap (λ i. getD n i 0) (c .before .before .before .before .before .wide .ensures .0) in
     omega (arith, same, inside (c .before .before .before .before .before .before) .rises, c .shared-slice-known11 .given (c .before .before .before .before .before .wide .result))
 
--- src/bids.rt:54:5
 loop-again : tie.Need-loop-again Inv-loop μ-loop
 loop-again c =
     let s = c .before .before .before .before .before .before .before .before .before .before .before .before .before .before .before .before in
@@ -109,7 +91,6 @@ loop-again c =
       omega (arith, c .shared-slice-known11 .given (c .before .before .before .before .before .wide .result)),
     )
 
--- src/bids.rt:43:1
 returns : tie.Need-returns Inv-loop μ-loop
 returns c =
     let a = c .before .before .before .before .before .before .before .before .before .before .args in

@@ -10,23 +10,16 @@ use Rattle.solver.proofs.Bidding.{no-child, a-child, stays, not-lower, 
 use borrow.Author.Needs.{needs}
 use Rattle.solver.proofs.bids.lower_bid.Statement.{statement}
 use Rattle.solver.proofs.bids.lower_bid.Tie as tie
-use Rattle.solver.proofs.bids.lower_bid.Reads as reads
-use Rattle.solver.proofs.bids.lower_bid.Lts as lts
-use Rattle.solver.proofs.long.Reads as long-reads
 
--- src/bids.rt:29:8
 mul-if1 : tie.Need-mul-if1
 mul-if1 c = search needs
 
--- src/bids.rt:29:8
 shared-slice-read-if1 : tie.Need-shared-slice-read-if1
 shared-slice-read-if1 c = search needs
 
--- src/bids.rt:29:34
 shared-slice-read-if2 : tie.Need-shared-slice-read-if2
 shared-slice-read-if2 c = search needs
 
--- src/bids.rt:30:9
 returns : tie.Need-returns
 returns c =
     λ t path bound g at long.
@@ -36,23 +29,18 @@ returns c =
     (no-child t (a .position) (a .head) path (a .price .now) bound (a .kept .now) (a .status .now) g at (s .pre .0 .1 .0)
     (⊎-elim (λ w. inl (w .taken)) (λ w. inr (eqb-true _ _ (w .2 .taken))) (c .if1 .came)))
 
--- src/bids.rt:32:17
 long-requires : tie.Need-long-requires
 long-requires c κs = search needs
 
--- src/bids.rt:32:32
 mul-value : tie.Need-mul-value
 mul-value c = search needs
 
--- src/bids.rt:32:32
 shared-slice-read-value : tie.Need-shared-slice-read-value
 shared-slice-read-value c = search needs
 
--- src/bids.rt:32:17
 add-value : tie.Need-add-value
 add-value c = search needs
 
--- src/bids.rt:34:9
 returns-2 : tie.Need-returns-2
 returns-2 c =
     λ t path bound g at long.
@@ -61,7 +49,6 @@ returns-2 c =
     let child = a-child t (a .position) (a .head) path (a .price .now) bound (a .kept .now) (a .status .now) g at (s .pre .0 .1 .0) (c .before .before .before .before .before .before .before .before .if1 .left) (s .pre .1 .0) (eqb-false _ _ (c .before .before .before .before .before .before .if2 .left)) in
     not-lower (a .least .value) (a .least .arc) _ (a .position) _ child (c .before .before .if3 .taken) (omega (arith, leb-true (a .least .value) (c .before .before .before .before .before .long .result + getD (a .price .now) (a .head) 0) (c .if4 .taken), c .before .before .before .before .before .long .ensures .0))
 
--- src/bids.rt:24:1
 returns-3 : tie.Need-returns-3
 returns-3 c =
     λ t path bound g at long.

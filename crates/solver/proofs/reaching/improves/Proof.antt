@@ -2,20 +2,15 @@
 use Rattle.solver.proofs.Offering.{equal-before, equal-after, unequal}
 use Rattle.solver.proofs.reaching.improves.Statement.{statement}
 use Rattle.solver.proofs.reaching.improves.Tie as tie
-use Rattle.solver.proofs.reaching.improves.Reads as reads
-use Rattle.solver.proofs.reaching.improves.Lts as lts
 
--- src/reaching.rt:22:9
 returns : tie.Need-returns
 returns c =
     let a = c .before .before .args in equal-before (a .offered) (a .position) (a .bound) (a .kept) (c .before .before .pre) (c .before .if1 .taken) (c .if2 .taken)
 
--- src/reaching.rt:22:9
 returns-2 : tie.Need-returns-2
 returns-2 c =
     let a = c .before .before .args in equal-after (a .offered) (a .position) (a .bound) (a .kept) (c .before .before .pre) (c .before .if1 .taken) (c .if2 .left)
 
--- src/reaching.rt:17:1
 returns-3 : tie.Need-returns-3
 returns-3 c =
     let a = c .before .args in unequal (a .offered) (a .position) (a .bound) (a .kept) (c .before .pre) (c .if1 .left)

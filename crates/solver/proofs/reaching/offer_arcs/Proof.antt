@@ -10,11 +10,6 @@ use Rattle.solver.proofs.Offering.{Offering, begins, goes-on, ends}
 use Rattle.solver.proofs.Arcs.{Readable, readable}
 use Rattle.solver.proofs.reaching.offer_arcs.Statement.{statement}
 use Rattle.solver.proofs.reaching.offer_arcs.Tie as tie
-use Rattle.solver.proofs.reaching.offer_arcs.Reads as reads
-use Rattle.solver.proofs.reaching.offer_arcs.Lts as lts
-use Rattle.solver.proofs.long.Reads as long-reads
-use Rattle.solver.proofs.reaching.offer.Reads as offer-reads
-use Rattle.solver.proofs.wide.Reads as wide-reads
 
 abbrev Inv-loop : tie.InvT-loop
 Inv-loop v distance heads lengths first next bound₀ kept₀ status p₀ bound kept p = (Offering heads lengths first next v distance bound₀ kept₀ status bound kept p) × (p ≤ no-arc)
@@ -27,53 +22,41 @@ inside : (c : tie.In-loop Inv-loop μ-loop) →
     let a = c .before .before .before .before .before .before .before .before .before .before .args in Readable (a .heads .now) (a .lengths .now) (a .first .now) (a .next .now) (c .before .loop .p)
 inside c = readable (λ t here. c .before .loop .inv .0 .left-over t here .on-list) (c .before .before .before .before .before .before .before .before .before .before .pre .0) (c .loop-test .taken)
 
--- src/reaching.rt:48:17
 mul-p : tie.Need-mul-p Inv-loop μ-loop
 mul-p c = search needs
 
--- src/reaching.rt:48:17
 shared-slice-read-p : tie.Need-shared-slice-read-p Inv-loop μ-loop
 shared-slice-read-p c = omega (arith, c .before .before .before .before .before .before .before .before .pre .1 .1 .0)
 
--- src/reaching.rt:49:5
 loop-holds : tie.Need-loop-holds Inv-loop μ-loop
 loop-holds c = (begins (c .before .before .before .before .before .before .before .before .pre .1 .1 .0) (c .before .before .before .before .before .before .before .before .pre .1 .1 .1 .1 .1), omega (arith, c .shared-slice-known6 .given (c .before .before .before .before .before .before .before .before .args .v)))
 
--- src/reaching.rt:50:13
 wide-requires : tie.Need-wide-requires Inv-loop μ-loop
 wide-requires c κs = search needs
 
--- src/reaching.rt:51:25
 mul-wide : tie.Need-mul-wide Inv-loop μ-loop
 mul-wide c = search needs
 
--- src/reaching.rt:51:25
 shared-slice-read-wide : tie.Need-shared-slice-read-wide Inv-loop μ-loop
 shared-slice-read-wide c =
     let r = inside (c .before .before) in omega (arith, c .before .wide .ensures .0, r .inside, r .listed .head-count)
 
--- src/reaching.rt:51:13
 wide-requires-2 : tie.Need-wide-requires-2 Inv-loop μ-loop
 wide-requires-2 c κs = search needs
 
--- src/reaching.rt:52:39
 mul-long : tie.Need-mul-long Inv-loop μ-loop
 mul-long c = omega (arith, c .before .before .wide .ensures .1)
 
--- src/reaching.rt:52:39
 shared-slice-read-long : tie.Need-shared-slice-read-long Inv-loop μ-loop
 shared-slice-read-long c =
     let r = inside (c .before .before .before .before) in omega (arith, c .before .before .before .wide .ensures .0, r .inside, r .listed .length-count)
 
--- src/reaching.rt:52:34
 long-requires : tie.Need-long-requires Inv-loop μ-loop
 long-requires c κs = search needs
 
--- src/reaching.rt:52:23
 add-offered : tie.Need-add-offered Inv-loop μ-loop
 add-offered c = omega (arith, c .before .before .before .before .before .before .before .before .before .before .before .before .before .before .before .pre .1 .1 .1 .0, c .long .ensures .1)
 
--- src/reaching.rt:53:9
 offer-requires : tie.Need-offer-requires Inv-loop μ-loop
 offer-requires c κs =
     let r = inside (c .before .before .before .before .before .before .before) in
@@ -91,16 +74,13 @@ offer-requires c κs =
       (omega (arith, s .pre .1 .1 .1 .0, c .before .before .long .ensures .1), omega (arith, l .1, c .before .before .before .before .before .before .before .loop-test .taken)),
     )
 
--- src/reaching.rt:54:13
 mul-p-2 : tie.Need-mul-p-2 Inv-loop μ-loop
 mul-p-2 c = omega (arith, c .before .before .before .before .before .before .before .before .before .before .before .wide .ensures .1)
 
--- src/reaching.rt:54:13
 shared-slice-read-p-2 : tie.Need-shared-slice-read-p-2 Inv-loop μ-loop
 shared-slice-read-p-2 c =
     let r = inside (c .before .before .before .before .before .before .before .before .before .before .before .before .before) in omega (arith, c .before .before .before .before .before .before .before .before .before .before .before .before .wide .ensures .0, r .inside, r .listed .linked .next-count)
 
--- src/reaching.rt:49:5
 loop-less : tie.Need-loop-less Inv-loop μ-loop
 loop-less c =
     let s = c .before .before .before .before .before .before .before .before .before .before .before .before .before .before .before .before .before .before .before .before .before .before .before in
@@ -109,7 +89,6 @@ loop-less c =
     let up = inside (c .before .before .before .before .before .before .before .before .before .before .before .before .before) .rises in
     omega (arith, same, up, c .shared-slice-known9 .given (c .before .before .before .before .before .before .before .before .before .before .before .before .wide .result))
 
--- src/reaching.rt:49:5
 loop-again : tie.Need-loop-again Inv-loop μ-loop
 loop-again c =
     let s = c .before .before .before .before .before .before .before .before .before .before .before .before .before .before .before .before .before .before .before .before .before .before .before in (
@@ -121,15 +100,12 @@ loop-again c =
       omega (arith, c .shared-slice-known9 .given (c .before .before .before .before .before .before .before .before .before .before .before .before .wide .result)),
     )
 
--- src/reaching.rt:42:1
 same-length : tie.Need-same-length Inv-loop μ-loop
 same-length c = c .before .loop .inv .0 .bounds-long
 
--- src/reaching.rt:42:1
 same-length-2 : tie.Need-same-length-2 Inv-loop μ-loop
 same-length-2 c = c .before .loop .inv .0 .kepts-long
 
--- src/reaching.rt:42:1
 returns : tie.Need-returns Inv-loop μ-loop
 returns c = ends (c .before .loop .inv .0) (c .loop-test .left)
 

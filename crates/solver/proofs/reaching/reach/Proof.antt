@@ -9,23 +9,16 @@ use Rattle.solver.specs.Seen.{seen}
 use borrow.Author.Needs.{needs}
 use Rattle.solver.proofs.reaching.reach.Statement.{statement}
 use Rattle.solver.proofs.reaching.reach.Tie as tie
-use Rattle.solver.proofs.reaching.reach.Reads as reads
-use Rattle.solver.proofs.reaching.reach.Lts as lts
-use Rattle.solver.proofs.reaching.offer_arcs.Reads as offer-arcs-reads
 
--- src/reaching.rt:65:5
 slice-write-status : tie.Need-slice-write-status
 slice-write-status c = search needs
 
--- src/reaching.rt:66:20
 mul-distance : tie.Need-mul-distance
 mul-distance c = search needs
 
--- src/reaching.rt:66:20
 slice-read-distance : tie.Need-slice-read-distance
 slice-read-distance c = search needs
 
--- src/reaching.rt:67:5
 offer-arcs-requires : tie.Need-offer-arcs-requires
 offer-arcs-requires c κs =
     let s = c .before .before .before .before .before .before .before .before .before .before .before in
@@ -39,19 +32,15 @@ offer-arcs-requires c κs =
       ),
     )
 
--- src/reaching.rt:59:1
 same-length : tie.Need-same-length
 same-length c = search needs
 
--- src/reaching.rt:59:1
 same-length-2 : tie.Need-same-length-2
 same-length-2 c = search needs
 
--- src/reaching.rt:59:1
 same-length-3 : tie.Need-same-length-3
 same-length-3 c = search needs
 
--- src/reaching.rt:59:1
 returns : tie.Need-returns
 unfolding reach with-status seen state
 returns c = λ t path price g here. c .before .before .before .before .offer-arcs .ensures t path price g here

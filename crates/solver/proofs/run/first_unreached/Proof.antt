@@ -6,9 +6,6 @@ use lib.ListN.{length}
 use Rattle.solver.proofs.Wanted.{Seeking, seeks, seeks-on, found-here, found-none}
 use Rattle.solver.proofs.run.first_unreached.Statement.{statement}
 use Rattle.solver.proofs.run.first_unreached.Tie as tie
-use Rattle.solver.proofs.run.first_unreached.Reads as reads
-use Rattle.solver.proofs.run.first_unreached.Lts as lts
-use Rattle.solver.proofs.wide.Reads as wide-reads
 
 abbrev Inv-loop : tie.InvT-loop
 Inv-loop from wanted status w₀ w = Seeking from wanted status w
@@ -16,43 +13,33 @@ Inv-loop from wanted status w₀ w = Seeking from wanted status w
 abbrev μ-loop : tie.MeasureT-loop
 μ-loop from wanted status w₀ w = length wanted - w
 
--- src/run.rt:31:5
 loop-holds : tie.Need-loop-holds Inv-loop μ-loop
 loop-holds c = seeks (c .before .before .pre .0)
 
--- src/run.rt:32:22
 mul-wide : tie.Need-mul-wide Inv-loop μ-loop
 mul-wide c = search needs
 
--- src/run.rt:32:22
 shared-slice-read-wide : tie.Need-shared-slice-read-wide Inv-loop μ-loop
 shared-slice-read-wide c = search needs
 
--- src/run.rt:32:13
 wide-requires : tie.Need-wide-requires Inv-loop μ-loop
 wide-requires c κs = search needs
 
--- src/run.rt:33:12
 shared-slice-read-if1 : tie.Need-shared-slice-read-if1 Inv-loop μ-loop
 shared-slice-read-if1 c = omega (arith, c .before .wide .ensures .0, c .before .before .before .before .before .before .before .pre .1 (c .before .before .before .before .loop .w) (c .before .before .before .loop-test .taken))
 
--- src/run.rt:34:13
 returns : tie.Need-returns Inv-loop μ-loop
 returns c = found-here (c .before .before .before .before .before .loop .inv) (c .before .before .wide .result) (c .before .before .wide .ensures .0) (c .before .before .before .before .loop-test .taken) (c .if1 .taken)
 
--- src/run.rt:36:13
 add-w : tie.Need-add-w Inv-loop μ-loop
 add-w c = search needs
 
--- src/run.rt:31:5
 loop-less : tie.Need-loop-less Inv-loop μ-loop
 loop-less c = omega arith
 
--- src/run.rt:31:5
 loop-again : tie.Need-loop-again Inv-loop μ-loop
 loop-again c = seeks-on (c .before .before .before .before .before .loop .inv) (c .before .before .wide .result) (c .before .before .wide .ensures .0) (c .before .before .before .before .loop-test .taken) (c .if1 .left)
 
--- src/run.rt:26:1
 returns-2 : tie.Need-returns-2 Inv-loop μ-loop
 returns-2 c = found-none (c .before .loop .inv) (c .loop-test .left)
 

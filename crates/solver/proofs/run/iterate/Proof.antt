@@ -12,12 +12,6 @@ use Rattle.solver.specs.Lists.{Some-table}
 use Rattle.solver.proofs.Iterating.{Iterating, Ready, starts, now-ready, wanted-below, may-step, continues, counted, ends, stops, few-in-all}
 use Rattle.solver.proofs.run.iterate.Statement.{statement}
 use Rattle.solver.proofs.run.iterate.Tie as tie
-use Rattle.solver.proofs.run.iterate.Reads as reads
-use Rattle.solver.proofs.run.iterate.Lts as lts
-use Rattle.solver.proofs.bids.least_bid.Reads as least-bid-reads
-use Rattle.solver.proofs.run.first_unreached.Reads as first-unreached-reads
-use Rattle.solver.proofs.steps.step.Reads as step-reads
-use Rattle.solver.proofs.wide.Reads as wide-reads
 
 abbrev Inv-loop : tie.InvT-loop
 Inv-loop origin wanted heads lengths first next path₀ price₀ bound₀ kept₀ status₀ g₀ w₀ path price bound kept status g w =
@@ -32,35 +26,28 @@ at-head : (c : tie.In-loop Inv-loop μ-loop) →
     let l = c .before .loop in Ready (length (c .before .before .before .before .before .before .before .before .before .before .before .before .before .before .args .first .now)) (l .path) (l .price) (l .g) (seen (l .path) (l .price) (l .bound) (l .kept) (l .status) (l .g))
 at-head c = now-ready (c .before .loop .inv) (c .before .before .before .before .before .before .before .before .before .before .before .before .before .before .pre .0 .0) (c .before .before .before .before .before .before .before .before .before .before .before .before .before .before .pre .0 .1)
 
--- src/run.rt:48:9
 first-unreached-requires : tie.Need-first-unreached-requires Inv-loop μ-loop
 first-unreached-requires c κs =
     let s = c .before .before .before .before .before .before .before .before .before .before .before in (search needs, wanted-below (s .pre .0 .0) (s .pre .0 .1) (s .args .status .now) (s .pre .1 .1 .statuses))
 
--- src/run.rt:49:5
 loop-holds : tie.Need-loop-holds Inv-loop μ-loop
 loop-holds c =
     let s = c .before .before .before .before .before .before .before .before .before .before .before .before in
     let a = s .args in
     starts (a .path .now) (a .price .now) (a .bound .now) (a .kept .now) (a .status .now) (a .begun) (s .pre .1 .0) (s .pre .1 .1) (c .first-unreached .ensures)
 
--- src/run.rt:51:27
 sub-wide : tie.Need-sub-wide Inv-loop μ-loop
 sub-wide c = at-head c .depth-some
 
--- src/run.rt:51:22
 mul-wide : tie.Need-mul-wide Inv-loop μ-loop
 mul-wide c = omega (arith, at-head c .depth-short, at-head c .few-nodes)
 
--- src/run.rt:51:22
 slice-read-wide : tie.Need-slice-read-wide Inv-loop μ-loop
 slice-read-wide c = let r = at-head (c .before) in omega (arith, r .depth-some, r .depth-short, c .before .before .loop .inv .path-long)
 
--- src/run.rt:51:13
 wide-requires : tie.Need-wide-requires Inv-loop μ-loop
 wide-requires c κs = search needs
 
--- src/run.rt:52:13
 least-bid-requires : tie.Need-least-bid-requires Inv-loop μ-loop
 unfolding Some-table
 least-bid-requires c κs =
@@ -71,34 +58,27 @@ least-bid-requires c κs =
       ((l .inv .sized .prices, (l .inv .sized .kepts, l .inv .sized .statuses)), (omega (arith, c .before .before .before .wide .ensures .0, r .terminal-in), r .prices-low)),
     )
 
--- src/run.rt:54:13
 same-length : tie.Need-same-length Inv-loop μ-loop
 same-length c = omega (arith, c .before .before .before .before .before .before .before .before .before .before .loop .inv .path-long, c .before .before .before .before .before .before .before .before .before .before .before .before .before .before .before .before .before .before .before .before .before .before .before .pre .1 .0)
 
--- src/run.rt:54:13
 same-length-2 : tie.Need-same-length-2 Inv-loop μ-loop
 same-length-2 c = omega (arith, c .before .before .before .before .before .before .before .before .before .before .loop .inv .sized .prices, c .before .before .before .before .before .before .before .before .before .before .before .before .before .before .before .before .before .before .before .before .before .before .before .pre .1 .1 .prices)
 
--- src/run.rt:54:13
 same-length-3 : tie.Need-same-length-3 Inv-loop μ-loop
 same-length-3 c = omega (arith, c .before .before .before .before .before .before .before .before .before .before .loop .inv .sized .bounds, c .before .before .before .before .before .before .before .before .before .before .before .before .before .before .before .before .before .before .before .before .before .before .before .pre .1 .1 .bounds)
 
--- src/run.rt:54:13
 same-length-4 : tie.Need-same-length-4 Inv-loop μ-loop
 same-length-4 c = omega (arith, c .before .before .before .before .before .before .before .before .before .before .loop .inv .sized .kepts, c .before .before .before .before .before .before .before .before .before .before .before .before .before .before .before .before .before .before .before .before .before .before .before .pre .1 .1 .kepts)
 
--- src/run.rt:54:13
 same-length-5 : tie.Need-same-length-5 Inv-loop μ-loop
 same-length-5 c = omega (arith, c .before .before .before .before .before .before .before .before .before .before .loop .inv .sized .statuses, c .before .before .before .before .before .before .before .before .before .before .before .before .before .before .before .before .before .before .before .before .before .before .before .pre .1 .1 .statuses)
 
--- src/run.rt:54:13
 returns : tie.Need-returns Inv-loop μ-loop
 returns c =
     let l = c .before .before .before .before .before .before .before .before .before .before .loop in
     stops (l .inv) (c .before .before .before .before .before .before .before .wide .result) (c .before .before .before .least-bid .result .value) (c .before .before .before .least-bid .result .arc) (c .before .before .before .before .before .before .before .before .before .loop-test .taken) (c .before .before .before .before .before .before .before .wide .ensures .0)
     (c .before .if1 .taken) (eqb-true _ _ (c .if2 .taken)) (λ t here. c .before .before .before .least-bid .ensures t (l .path) (l .bound) (l .g) here)
 
--- src/run.rt:59:9
 step-requires : tie.Need-step-requires Inv-loop μ-loop
 unfolding Some-table
 step-requires c κs =
@@ -118,14 +98,12 @@ step-requires c κs =
       ),
     )
 
--- src/run.rt:60:9
 first-unreached-requires-2 : tie.Need-first-unreached-requires-2 Inv-loop μ-loop
 first-unreached-requires-2 c κs =
     let s = c .before .before .before .before .before .before .before .before .before .before .before .before .before .before .before .before .before .before .before .before .before .before .before .before .before .before .before .before .before .before .before .before .before .before .before .before .before .before .before in
     let l = c .before .before .before .before .before .before .before .before .before .before .before .before .before .before .before .before .before .before .before .before .before .before .before .before .before .before .loop in
     (l .inv .low, wanted-below (s .pre .0 .0) (s .pre .0 .1) (c .before .before .before .before .before .before .before .before .before .before .before .step .last .1 .1 .1 .1 .1 .1 .1 .1 .1 .1 .1 .1 .0) (c .before .before .before .before .before .before .before .before .before .before .before .step .kept .1 .1 .1 .1 .1 .1 .1 .1 .1 .1 .1 .1 .0 ∙ l .inv .sized .statuses))
 
--- src/run.rt:49:5
 loop-less : tie.Need-loop-less Inv-loop μ-loop
 loop-less c =
     let s = c .before .before .before .before .before .before .before .before .before .before .before .before .before .before .before .before .before .before .before .before .before .before .before .before .before .before .before .before .before .before .before .before .before .before .before .before .before .before .before .before in
@@ -136,7 +114,6 @@ loop-less c =
     (c .before .before .before .before .before .before .before .before .before .before .before .before .before .before .before .before .before .before .before .before .before .before .before .before .wide .ensures .0) (λ t here. bids .ensures t (l .path) (l .bound) (l .g) here) (c .before .before .before .before .before .before .before .before .before .before .before .before .step .ensures) (s .pre .0 .0) (s .pre .0 .1) in
     omega (arith, more, at-head (c .before .before .before .before .before .before .before .before .before .before .before .before .before .before .before .before .before .before .before .before .before .before .before .before .before .before) .few)
 
--- src/run.rt:49:5
 loop-again : tie.Need-loop-again Inv-loop μ-loop
 loop-again c =
     let l = c .before .before .before .before .before .before .before .before .before .before .before .before .before .before .before .before .before .before .before .before .before .before .before .before .before .before .before .loop in
@@ -152,27 +129,21 @@ loop-again c =
     })
     (c .first-unreached2 .ensures)
 
--- src/run.rt:42:1
 same-length-6 : tie.Need-same-length-6 Inv-loop μ-loop
 same-length-6 c = omega (arith, c .before .loop .inv .path-long, c .before .before .before .before .before .before .before .before .before .before .before .before .before .before .pre .1 .0)
 
--- src/run.rt:42:1
 same-length-7 : tie.Need-same-length-7 Inv-loop μ-loop
 same-length-7 c = omega (arith, c .before .loop .inv .sized .prices, c .before .before .before .before .before .before .before .before .before .before .before .before .before .before .pre .1 .1 .prices)
 
--- src/run.rt:42:1
 same-length-8 : tie.Need-same-length-8 Inv-loop μ-loop
 same-length-8 c = omega (arith, c .before .loop .inv .sized .bounds, c .before .before .before .before .before .before .before .before .before .before .before .before .before .before .pre .1 .1 .bounds)
 
--- src/run.rt:42:1
 same-length-9 : tie.Need-same-length-9 Inv-loop μ-loop
 same-length-9 c = omega (arith, c .before .loop .inv .sized .kepts, c .before .before .before .before .before .before .before .before .before .before .before .before .before .before .pre .1 .1 .kepts)
 
--- src/run.rt:42:1
 same-length-10 : tie.Need-same-length-10 Inv-loop μ-loop
 same-length-10 c = omega (arith, c .before .loop .inv .sized .statuses, c .before .before .before .before .before .before .before .before .before .before .before .before .before .before .pre .1 .1 .statuses)
 
--- src/run.rt:42:1
 returns-2 : tie.Need-returns-2 Inv-loop μ-loop
 returns-2 c = ends (c .before .loop .inv) (c .loop-test .left)
 

@@ -12,11 +12,6 @@ use Rattle.solver.proofs.Beginning.{tails-held, few-tails, few-nodes, t
 use borrow.Author.Needs.{needs}
 use Rattle.solver.proofs.run.run.Statement.{statement}
 use Rattle.solver.proofs.run.run.Tie as tie
-use Rattle.solver.proofs.run.run.Reads as reads
-use Rattle.solver.proofs.run.run.Lts as lts
-use Rattle.solver.proofs.lists.link_arcs.Reads as link-arcs-reads
-use Rattle.solver.proofs.run.run_listed.Reads as run-listed-reads
-use Rattle.solver.proofs.wide.Reads as wide-reads
 
 -- the table has few nodes and few arcs
 nodes-fit : (s : tie.Start) → length (s .args .status .now) ≤ 1024
@@ -29,27 +24,21 @@ arcs-fit s =
     let a = s .args in
     few-tails (length (a .status .now)) (a .origin) (a .tails .now) (a .heads .now) (a .lengths .now) (a .wanted .now) (s .pre .0 .0) (s .pre .0 .1) (s .pre .1 .0)
 
--- src/run.rt:88:9
 wide-requires : tie.Need-wide-requires
 wide-requires c κs = search needs
 
--- src/run.rt:91:22
 array-borrow-prefix-first : tie.Need-array-borrow-prefix-first
 array-borrow-prefix-first c = nodes-fit (c .before .before .before .before .before .before .before .before .before .before)
 
--- src/run.rt:91:22
 slice-aggregate-link-arcs : tie.Need-slice-aggregate-link-arcs
 slice-aggregate-link-arcs c = sym (filled-long 1024 (length (c .before .before .before .before .before .before .before .before .before .before .before .args .status .now)) no-arc (nodes-fit (c .before .before .before .before .before .before .before .before .before .before .before)))
 
--- src/run.rt:91:39
 array-borrow-prefix-next : tie.Need-array-borrow-prefix-next
 array-borrow-prefix-next c = arcs-fit (c .before .before .before .before .before .before .before .before .before .before .before)
 
--- src/run.rt:91:39
 slice-aggregate-link-arcs-2 : tie.Need-slice-aggregate-link-arcs-2
 slice-aggregate-link-arcs-2 c = sym (filled-long 6000 (length (c .before .before .before .before .before .before .before .before .before .before .before .before .args .tails .now)) no-arc (arcs-fit (c .before .before .before .before .before .before .before .before .before .before .before .before)))
 
--- src/run.rt:91:5
 link-arcs-requires : tie.Need-link-arcs-requires
 link-arcs-requires c κs =
     let s = c .before .before .before .before .before .before .before .before .before .before .before .before in
@@ -98,31 +87,26 @@ begun c =
     (first-long c) (next-long c) linked)
     (s .pre .1 .1 .1)
 
--- src/run.rt:92:51
 array-share-prefix-first : tie.Need-array-share-prefix-first
 array-share-prefix-first c =
     let n = length (c .before .before .before .before .before .before .before .before .before .before .before .before .before .before .before .args .status .now) in
     prefix-fits (c .before .before .link-arcs .last .1 .0) (drop n (replicate 1024 no-arc)) n (first-long (c .before .before))
 
--- src/run.rt:92:51
 slice-aggregate-run-listed : tie.Need-slice-aggregate-run-listed
 slice-aggregate-run-listed c =
     let n = length (c .before .before .before .before .before .before .before .before .before .before .before .before .before .before .before .before .args .status .now) in
     prefix-long (c .before .before .before .link-arcs .last .1 .0) (drop n (replicate 1024 no-arc)) n (first-long (c .before .before .before))
 
--- src/run.rt:92:64
 array-share-prefix-next : tie.Need-array-share-prefix-next
 array-share-prefix-next c =
     let m = length (c .before .before .before .before .before .before .before .before .before .before .before .before .before .before .before .before .args .tails .now) in
     prefix-fits (c .before .before .before .link-arcs .last .1 .1 .0) (drop m (replicate 6000 no-arc)) m (next-long (c .before .before .before))
 
--- src/run.rt:92:64
 slice-aggregate-run-listed-2 : tie.Need-slice-aggregate-run-listed-2
 slice-aggregate-run-listed-2 c =
     let m = length (c .before .before .before .before .before .before .before .before .before .before .before .before .before .before .before .before .before .args .tails .now) in
     prefix-long (c .before .before .before .before .link-arcs .last .1 .1 .0) (drop m (replicate 6000 no-arc)) m (next-long (c .before .before .before .before))
 
--- src/run.rt:92:5
 run-listed-requires : tie.Need-run-listed-requires
 run-listed-requires c κs =
     let s = c .before .before .before .before .before .before .before .before .before .before .before .before .before .before .before .before .before .before .before .before .before .before in
@@ -133,27 +117,21 @@ run-listed-requires c κs =
           (prefix-long (c .before .before .before .before .before .before .before .before .before .link-arcs .last .1 .0) (drop n (replicate 1024 no-arc)) n (first-long (c .before .before .before .before .before .before .before .before .before))) (s .pre .1 .1 .0),
     )
 
--- src/run.rt:79:1
 same-length : tie.Need-same-length
 same-length c = search needs
 
--- src/run.rt:79:1
 same-length-2 : tie.Need-same-length-2
 same-length-2 c = search needs
 
--- src/run.rt:79:1
 same-length-3 : tie.Need-same-length-3
 same-length-3 c = search needs
 
--- src/run.rt:79:1
 same-length-4 : tie.Need-same-length-4
 same-length-4 c = search needs
 
--- src/run.rt:79:1
 same-length-5 : tie.Need-same-length-5
 same-length-5 c = search needs
 
--- src/run.rt:79:1
 returns : tie.Need-returns
 returns c = c .before .before .before .before .before .before .before .before .before .before .run-listed .ensures _ (begun (c .before .before .before .before .before .before .before .before .before .before .before .before .before .before .before .before .before .before .before .before))
 

@@ -5,12 +5,7 @@ use Rattle.solver.proofs.Beginning.{origin-below, origin-bound, started
 use borrow.Author.Needs.{needs}
 use Rattle.solver.proofs.run.run_listed.Statement.{statement}
 use Rattle.solver.proofs.run.run_listed.Tie as tie
-use Rattle.solver.proofs.run.run_listed.Reads as reads
-use Rattle.solver.proofs.run.run_listed.Lts as lts
-use Rattle.solver.proofs.reaching.reach.Reads as reach-reads
-use Rattle.solver.proofs.run.iterate.Reads as iterate-reads
 
--- src/run.rt:74:5
 reach-requires : tie.Need-reach-requires
 unfolding Some-table
 reach-requires c κs =
@@ -28,7 +23,6 @@ reach-requires c κs =
       ),
     )
 
--- src/run.rt:75:5
 iterate-requires : tie.Need-iterate-requires
 iterate-requires c κs =
     let s = c .before .before .before .before .before .before .before .before .before .before .before .before .before .before .before .before .before .before .before .before .before .before .before .before .before in
@@ -47,27 +41,21 @@ iterate-requires c κs =
       ),
     )
 
--- src/run.rt:69:1
 same-length : tie.Need-same-length
 same-length c = search needs
 
--- src/run.rt:69:1
 same-length-2 : tie.Need-same-length-2
 same-length-2 c = search needs
 
--- src/run.rt:69:1
 same-length-3 : tie.Need-same-length-3
 same-length-3 c = search needs
 
--- src/run.rt:69:1
 same-length-4 : tie.Need-same-length-4
 same-length-4 c = search needs
 
--- src/run.rt:69:1
 same-length-5 : tie.Need-same-length-5
 same-length-5 c = search needs
 
--- src/run.rt:69:1
 returns : tie.Need-returns
 returns c =
     λ t bg.

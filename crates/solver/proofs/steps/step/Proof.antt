@@ -13,22 +13,13 @@ use Rattle.solver.proofs.Stepping.{is-deletion, is-contraction, is-exte
 use borrow.Author.Needs.{needs}
 use Rattle.solver.proofs.steps.step.Statement.{statement}
 use Rattle.solver.proofs.steps.step.Tie as tie
-use Rattle.solver.proofs.steps.step.Reads as reads
-use Rattle.solver.proofs.steps.step.Lts as lts
-use Rattle.solver.proofs.steps.contract.Reads as contract-reads
-use Rattle.solver.proofs.steps.delete.Reads as delete-reads
-use Rattle.solver.proofs.steps.extend.Reads as extend-reads
-use Rattle.solver.proofs.wide.Reads as wide-reads
 
--- src/steps.rt:88:9
 delete-requires : tie.Need-delete-requires
 delete-requires c κs = search needs
 
--- src/steps.rt:88:9
 same-length : tie.Need-same-length
 same-length c = search needs
 
--- src/steps.rt:88:9
 returns : tie.Need-returns
 returns c =
     λ t here eo.
@@ -37,23 +28,18 @@ returns c =
     is-deletion t (a .v) (a .least .value) (a .least .arc) _ (c .before .before .before .before .if1 .taken) (λ z. s .pre .1 .1 .1 .no-stop (c .before .before .before .before .if1 .taken) (z ∙ eo))
     ∙ ap some (sym (c .before .before .delete .ensures (a .path .now) (a .price .now) (a .bound .now) (a .kept .now)))
 
--- src/steps.rt:91:8
 mul-if2 : tie.Need-mul-if2
 mul-if2 c = search needs
 
--- src/steps.rt:91:8
 slice-read-if2 : tie.Need-slice-read-if2
 slice-read-if2 c = search needs
 
--- src/steps.rt:92:9
 contract-requires : tie.Need-contract-requires
 contract-requires c κs = search needs
 
--- src/steps.rt:92:9
 same-length-2 : tie.Need-same-length-2
 same-length-2 c = search needs
 
--- src/steps.rt:92:9
 returns-2 : tie.Need-returns-2
 returns-2 c =
     λ t here eo.
@@ -63,20 +49,16 @@ returns-2 c =
     (subst (λ (m : ℕ). m < a .least .value) (sym (seen-price (a .path .now) (a .price .now) (a .bound .now) (a .kept .now) (a .status .now) (a .g) (a .v))) (c .before .before .before .before .if2 .taken))
     ∙ ap some (sym (c .before .before .contract .ensures t (a .path .now) (a .bound .now) (a .kept .now) (a .status .now) eo))
 
--- src/steps.rt:94:9
 wide-requires : tie.Need-wide-requires
 wide-requires c κs = search needs
 
--- src/steps.rt:95:17
 mul-child : tie.Need-mul-child
 mul-child c = search needs
 
--- src/steps.rt:95:17
 shared-slice-read-child : tie.Need-shared-slice-read-child
 shared-slice-read-child c =
     let s = c .before .before .before .before .before .before .before .before .before .before .before .before .before .before in omega (arith, c .before .wide .ensures .0, s .pre .1 .1 .1 .listed (c .before .before .before .before .if1 .left))
 
--- src/steps.rt:96:5
 extend-requires : tie.Need-extend-requires
 unfolding Some-table
 extend-requires c κs =
@@ -101,23 +83,18 @@ extend-requires c κs =
       ),
     )
 
--- src/steps.rt:79:1
 same-length-3 : tie.Need-same-length-3
 same-length-3 c = search needs
 
--- src/steps.rt:79:1
 same-length-4 : tie.Need-same-length-4
 same-length-4 c = search needs
 
--- src/steps.rt:79:1
 same-length-5 : tie.Need-same-length-5
 same-length-5 c = search needs
 
--- src/steps.rt:79:1
 same-length-6 : tie.Need-same-length-6
 same-length-6 c = search needs
 
--- src/steps.rt:79:1
 returns-3 : tie.Need-returns-3
 returns-3 c =
     λ t here eo.

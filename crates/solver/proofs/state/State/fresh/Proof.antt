@@ -7,27 +7,19 @@ use Rattle.solver.proofs.Arrays.{fresh-seen, stored-long}
 use borrow.Author.Needs.{needs}
 use Rattle.solver.proofs.state.State.fresh.Statement.{statement}
 use Rattle.solver.proofs.state.State.fresh.Tie as tie
-use Rattle.solver.proofs.state.State.fresh.Reads as reads
-use Rattle.solver.proofs.state.State.fresh.Lts as lts
-use Rattle.solver.proofs.wide.Reads as wide-reads
 
--- src/state.rt:39:13
 wide-requires : tie.Need-wide-requires
 wide-requires c κs = search needs
 
--- src/state.rt:41:9
 array-write-path : tie.Need-array-write-path
 array-write-path c = search needs
 
--- src/state.rt:43:9
 mul-bound : tie.Need-mul-bound
 mul-bound c = search needs
 
--- src/state.rt:43:9
 array-write-bound : tie.Need-array-write-bound
 array-write-bound c = search needs
 
--- src/state.rt:35:5
 returns : tie.Need-returns
 returns c = (
   λ t eo h l. fresh-seen 1024 t (c .before .args .origin) (c .wide .result) _ (c .wide .ensures .0) eo h l refl refl refl refl,
