@@ -30,7 +30,13 @@ unfoldable pub seen : (path price bound kept status : List ℕ) → Progress →
 seen p u b k s g =
     state (nodes-of (g .depth) p) u (map bound-of b) (map arc-of k) s (g .contractions) (g .extensions) (g .deletions)
 
--- the arrays have an entry for each of n nodes
+-- each of these arrays has n entries
+abbrev pub All-long : (n : ℕ) → List (List ℕ) → Type 0
+All-long n [] = n ≡ n
+All-long n (l ∷ []) = length l ≡ n
+All-long n (l ∷ m ∷ more) = (length l ≡ n) × All-long n (m ∷ more)
+
+-- the four arrays have an entry for each of n nodes
 pub record Sized (n : ℕ) (price bound kept status : List ℕ) : Type 0 where
   pub prices : length price ≡ n
   pub bounds : length bound ≡ n

@@ -1,13 +1,13 @@
 // The least bid of a node's children.
 ghost use mathlib.Core.Path.{_≡_};
-ghost use mathlib.Core.List.{List};
+ghost use mathlib.Core.List.{List, [], _∷_};
 ghost use mathlib.Core.Option.{none};
 ghost use Prim.Native.Nat.{ℕ, _+_, _≤_, _<_};
 ghost use lib.ListN.{length, getD};
 ghost use Rattle.table.specs.Table.{Table, tail-at, head-at, length-at, no-arc};
 ghost use Rattle.auction.specs.Auction.{bid, with-bid, to-child, price-at, best};
 ghost use Rattle.solver.specs.declared.state.Progress.{Progress};
-ghost use Rattle.solver.specs.Seen.{bid-of, seen, greatest-sum};
+ghost use Rattle.solver.specs.Seen.{All-long, bid-of, seen, greatest-sum};
 ghost use Rattle.solver.specs.Lists.{Listed, Some-table};
 ghost use Rattle.solver.specs.Steps.{lower-of};
 use super::long;
@@ -60,7 +60,7 @@ pub fn least_bid(
     status: &[u8],
 ) -> LeastBid
     requires { ⌜ Some-table (now heads) (now lengths) (now first) (now next) ⌝ }
-    requires { ⌜ (length (now price) ≡ length (now first)) × ((length (now kept) ≡ length (now first)) × (length (now status) ≡ length (now first))) ⌝ }
+    requires { ⌜ All-long (length (now first)) (now price ∷ now kept ∷ now status ∷ []) ⌝ }
     requires { ⌜ (v < length (now first)) × ((u : ℕ) → getD (now price) u 0 ≤ greatest-sum) ⌝ }
     ensures { λ r. ⌜ ((t : Table) (path bound : List ℕ) (g : Progress) → Listed t (now (heads .entry)) (now (lengths .entry)) (now (first .entry)) (now (next .entry)) → bid-of (r .value) (r .arc) ≡ best t v (seen path (now (price .entry)) bound (now (kept .entry)) (now (status .entry)) g)) ⌝ }
 {

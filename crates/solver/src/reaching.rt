@@ -1,12 +1,12 @@
 // Reaching a node: its outgoing arcs are offered to their heads, in table order.
 ghost use mathlib.Core.Path.{_≡_};
-ghost use mathlib.Core.List.{List};
+ghost use mathlib.Core.List.{List, [], _∷_};
 ghost use Prim.Native.Nat.{ℕ, _+_, _≤_, _<_};
 ghost use lib.ListN.{length, getD};
 ghost use Rattle.table.specs.Table.{Table, arc-count, no-arc, no-distance};
 ghost use Rattle.auction.specs.Auction.{improves, offers, reach};
 ghost use Rattle.solver.specs.declared.state.Progress.{Progress};
-ghost use Rattle.solver.specs.Seen.{bound-of, arc-of, seen, greatest-sum};
+ghost use Rattle.solver.specs.Seen.{All-long, bound-of, arc-of, seen, greatest-sum};
 ghost use Rattle.solver.specs.Lists.{Listed, Some-table};
 ghost use Rattle.solver.specs.Steps.{Offered};
 use super::long;
@@ -59,7 +59,7 @@ fn offer_arcs(
     status: &[u8],
 )
     requires { ⌜ Some-table (now heads) (now lengths) (now first) (now next) ⌝ }
-    requires { ⌜ (length (now bound) ≡ length (now first)) × ((length (now kept) ≡ length (now first)) × (length (now status) ≡ length (now first))) ⌝ }
+    requires { ⌜ All-long (length (now first)) (now bound ∷ now kept ∷ now status ∷ []) ⌝ }
     requires { ⌜ (v < length (now first)) × ((distance ≤ greatest-sum) × ((0 < getD (now status) v 0) × (getD (now bound) v 0 ≡ distance))) ⌝ }
     ensures { λ _. ⌜ ((t : Table) (path price : List ℕ) (g : Progress) → Listed t (now (heads .entry)) (now (lengths .entry)) (now (first .entry)) (now (next .entry)) → seen path price (now (bound .exit)) (now (kept .exit)) (now (status .entry)) g ≡ offers (arc-count t) 0 t v (seen path price (now (bound .entry)) (now (kept .entry)) (now (status .entry)) g)) ⌝ }
 {
@@ -85,7 +85,7 @@ pub fn reach(
     status: &mut [u8],
 )
     requires { ⌜ Some-table (now heads) (now lengths) (now first) (now next) ⌝ }
-    requires { ⌜ (length (now bound) ≡ length (now first)) × ((length (now kept) ≡ length (now first)) × (length (now status) ≡ length (now first))) ⌝ }
+    requires { ⌜ All-long (length (now first)) (now bound ∷ now kept ∷ now status ∷ []) ⌝ }
     requires { ⌜ (v < length (now first)) × (getD (now bound) v 0 ≤ greatest-sum) ⌝ }
     ensures { λ _. ⌜ ((t : Table) (path price : List ℕ) (g : Progress) → Listed t (now (heads .entry)) (now (lengths .entry)) (now (first .entry)) (now (next .entry)) → seen path price (now (bound .exit)) (now (kept .exit)) (now (status .exit)) g ≡ reach t v (seen path price (now (bound .entry)) (now (kept .entry)) (now (status .entry)) g)) ⌝ }
 {

@@ -1,12 +1,12 @@
 // An iteration: a deletion, a contraction or an extension at the terminal node.
 ghost use mathlib.Core.Path.{_≡_};
-ghost use mathlib.Core.List.{List};
+ghost use mathlib.Core.List.{List, [], _∷_};
 ghost use mathlib.Core.Option.{some};
 ghost use Prim.Native.Nat.{ℕ, _+_, _≤_, _<_};
 ghost use lib.ListN.{length, getD};
 ghost use Rattle.table.specs.Table.{Table};
 ghost use Rattle.auction.specs.Auction.{deletion, contraction, extension, iteration};
-ghost use Rattle.solver.specs.Seen.{bid-of, seen, greatest-sum, too-many};
+ghost use Rattle.solver.specs.Seen.{All-long, bid-of, seen, greatest-sum, too-many};
 ghost use Rattle.solver.specs.Lists.{Listed, Some-table};
 ghost use Rattle.solver.specs.Steps.{Can-step};
 use super::bids::LeastBid;
@@ -67,7 +67,7 @@ fn extend(
     status: &mut [u8],
 ) -> Progress
     requires { ⌜ Some-table (now heads) (now lengths) (now first) (now next) ⌝ }
-    requires { ⌜ (length (now bound) ≡ length (now first)) × ((length (now kept) ≡ length (now first)) × (length (now status) ≡ length (now first))) ⌝ }
+    requires { ⌜ All-long (length (now first)) (now bound ∷ now kept ∷ now status ∷ []) ⌝ }
     requires { ⌜ (child < length (now first)) × ((getD (now bound) child 0 ≤ greatest-sum) × ((g .depth < length (now path)) × (g .extensions < too-many))) ⌝ }
     ensures { λ r. ⌜ ((t : Table) (price : List ℕ) → Listed t (now (heads .entry)) (now (lengths .entry)) (now (first .entry)) (now (next .entry)) → seen (now (path .exit)) price (now (bound .exit)) (now (kept .exit)) (now (status .exit)) r ≡ extension t child (seen (now (path .entry)) price (now (bound .entry)) (now (kept .entry)) (now (status .entry)) g)) ⌝ }
 {
@@ -104,7 +104,7 @@ pub fn step(
     status: &mut [u8],
 ) -> Progress
     requires { ⌜ Some-table (now heads) (now lengths) (now first) (now next) ⌝ }
-    requires { ⌜ (length (now price) ≡ length (now first)) × ((length (now bound) ≡ length (now first)) × ((length (now kept) ≡ length (now first)) × (length (now status) ≡ length (now first)))) ⌝ }
+    requires { ⌜ All-long (length (now first)) (now price ∷ now bound ∷ now kept ∷ now status ∷ []) ⌝ }
     requires { ⌜ (v < length (now first)) × ((1 ≤ g .depth) × (g .contractions + g .extensions + g .deletions < too-many)) ⌝ }
     requires { ⌜ Can-step v origin (least .value) (least .arc) (g .depth) (now heads) (now path) (now price) (now bound) ⌝ }
     ensures { λ r. ⌜ ((t : Table) → Listed t (now (heads .entry)) (now (lengths .entry)) (now (first .entry)) (now (next .entry)) → t .origin ≡ origin → iteration (bid-of (least .value) (least .arc)) t v (seen (now (path .entry)) (now (price .entry)) (now (bound .entry)) (now (kept .entry)) (now (status .entry)) g) ≡ some (seen (now (path .exit)) (now (price .exit)) (now (bound .exit)) (now (kept .exit)) (now (status .exit)) r)) ⌝ }
