@@ -14,7 +14,8 @@ use Rattle.table.specs.Table.{arc, arcs-of, most-nodes, most-arcs, most-wanted}
 use Rattle.table.specs.Grounds.{Refusal, Room, room, refusal, no-refusal, or-else, columns-bad, rooms-fit, table-refusal, wanted-from, wanted-refusal, arc-fault, arcs-from, arcs-refusal}
 use Rattle.auction.proofs.Basics.{true-or}
 use Rattle.planner.specs.declared.grounds.Fault.{Fault}
-use Rattle.planner.specs.Plan.{refusal-of, rooms}
+use Rattle.planner.specs.Plan.{rooms}
+use Rattle.planner.specs.Lent.{refusal-of}
 
 pub no-fault : (f : Fault) → (f .number ≡ 0) × (f .place ≡ 0) → refusal-of f ≡ no-refusal
 unfolding refusal-of no-refusal

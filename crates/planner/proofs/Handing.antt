@@ -19,7 +19,8 @@ use Rattle.solver.specs.Seen.{seen, arc-of}
 use Rattle.solver.specs.Steps.{Ran}
 use Rattle.solver.proofs.Arrays.{seen-status, seen-distance, seen-kept, some-arc, no-kept}
 use Rattle.planner.specs.declared.grounds.Fault.{Fault}
-use Rattle.planner.specs.Plan.{Known, Ends, routed, refusal-of}
+use Rattle.planner.specs.Plan.{routed}
+use Rattle.planner.specs.Lent.{Known, Ends, refusal-of}
 use Rattle.planner.proofs.Entries.{entries-same}
 
 -- one entry each, as the code makes it

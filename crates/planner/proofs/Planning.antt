@@ -21,7 +21,8 @@ use Rattle.solver.specs.Steps.{Ran}
 use Rattle.solver.proofs.Arrays.{seen-bound, seen-status, no-bound}
 use Rattle.solver.proofs.Columns.{count-so, tail-so, head-so, nodes-so, origin-so}
 use Rattle.planner.specs.declared.grounds.Fault.{Fault}
-use Rattle.planner.specs.Plan.{Known, Ends, Fitting, Columns, rooms, ground, plan, routed, turned-down, refusal-of}
+use Rattle.planner.specs.Plan.{rooms, ground, plan, routed, turned-down}
+use Rattle.planner.specs.Lent.{Known, Ends, Fitting, Columns, refusal-of}
 
 -- AFTER THE RUN
 module _ (t : Table) (ws : List ℕ) (m : ℕ) (p u b k s : List ℕ) (g : Progress) (ran : Ran t ws m (seen p u b k s g)) where

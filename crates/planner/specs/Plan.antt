@@ -4,16 +4,14 @@
 -- as it was lent. Otherwise the answer and the buffers are what the auction hands over, also where it ends without a route, which is number 8.
 use mathlib.Core.Bool.{cond}
 use mathlib.Core.List.{List, [], _∷_}
-use mathlib.Core.Path.{_≡_}
-use Prim.Native.Nat.{ℕ, _≤_, _<_}
+use Prim.Native.Nat.{ℕ}
 use lib.Dec.{eqb}
-use lib.ListN.{length, getD}
-use Rattle.table.specs.Table.{Table, table-of, arc-count, tail-at, head-at, no-distance, most-nodes, most-arcs}
-use Rattle.table.specs.Grounds.{Refusal, Room, refusal, room, table-refusal}
+use lib.ListN.{length}
+use Rattle.table.specs.Table.{Table, table-of}
+use Rattle.table.specs.Grounds.{Refusal, Room, room, table-refusal}
 use Rattle.auction.specs.Auction.{auction}
 use Rattle.auction.specs.HandOver.{Answer, answer, handed-over}
 use Rattle.planner.specs.declared.Planned.{Planned}
-use Rattle.planner.specs.declared.grounds.Fault.{Fault}
 
 -- the code's answer, with what it left in the buffers
 unfoldable pub answered : Planned → (distances prices tree marks : List ℕ) → Answer
@@ -41,35 +39,3 @@ unfoldable pub plan : (n origin : ℕ) → (tails heads lengths wanted distances
 plan n o ts hs ls ws ds ps tr ms =
     let f = ground n o ts hs ls ws ds ps tr ms in
     cond (eqb (f .number) 0) (routed (table-of n o ts hs ls) ws) (turned-down f ds ps tr ms)
-
--- a ground's number and place, as the code has them
-unfoldable pub refusal-of : Fault → Refusal
-refusal-of f = refusal (f .number) (f .place)
-
--- what the hand-over may rely on: the two arrays are as long as each other, and every reached node has a distance
-pub record Known (bound status : List ℕ) : Type 0 where
-  pub as-long : length bound ≡ length status
-  pub has-distance : (v : ℕ) → 0 < getD status v 0 → getD bound v 0 ≡ no-distance → ⊥
-
--- and the ends of every arc are nodes
-pub record Ends (tails heads kept status : List ℕ) : Type 0 where
-  pub tail-count : length tails ≡ length heads
-  pub kept-count : length kept ≡ length status
-  pub head-in : (i : ℕ) → i < length heads → getD heads i 0 < length status
-  pub tail-in : (i : ℕ) → i < length heads → getD tails i 0 < length status
-
--- and the buffers have the room that they need, for few nodes and few arcs
-pub record Fitting (n m : ℕ) (distances prices tree marks : List ℕ) : Type 0 where
-  pub few-nodes : n ≤ most-nodes
-  pub few-arcs : m ≤ most-arcs
-  pub distances-long : length distances ≡ n
-  pub prices-long : length prices ≡ n
-  pub tree-long : length tree ≡ n
-  pub marks-long : length marks ≡ m
-
--- the columns hold the ends of a table's arcs
-pub record Columns (t : Table) (n : ℕ) (tails heads : List ℕ) : Type 0 where
-  pub nodes : t .n ≡ n
-  pub count : arc-count t ≡ length heads
-  pub head : (i : ℕ) → i < arc-count t → head-at t i ≡ getD heads i 0
-  pub tail : (i : ℕ) → i < arc-count t → tail-at t i ≡ getD tails i 0

@@ -4,7 +4,8 @@ ghost use Prim.Native.Nat.{ℕ, _≤_, _<_};
 ghost use lib.ListN.{length};
 ghost use Rattle.table.specs.Table.{arc, arcs-of, most-arcs};
 ghost use Rattle.table.specs.Grounds.{arc-fault, arcs-refusal, wanted-refusal, table-refusal};
-ghost use Rattle.planner.specs.Plan.{refusal-of, rooms};
+ghost use Rattle.planner.specs.Plan.{rooms};
+ghost use Rattle.planner.specs.Lent.{refusal-of};
 use table::MOST_ARCS;
 use table::MOST_NODES;
 

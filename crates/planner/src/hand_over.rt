@@ -11,7 +11,8 @@ ghost use Rattle.auction.specs.HandOver.{horizon, reached-count, distances, pri
 ghost use Rattle.solver.specs.declared.state.Progress.{Progress};
 ghost use Rattle.solver.specs.Seen.{seen, too-many};
 ghost use Rattle.solver.specs.Steps.{Ran};
-ghost use Rattle.planner.specs.Plan.{Known, Ends, Fitting, Columns, answered, routed, refusal-of};
+ghost use Rattle.planner.specs.Plan.{answered, routed};
+ghost use Rattle.planner.specs.Lent.{Known, Ends, Fitting, Columns, refusal-of};
 use super::Planned;
 use super::grounds::Fault;
 use solver::run::Ended;

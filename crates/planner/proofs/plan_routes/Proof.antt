@@ -2,7 +2,8 @@
 use mathlib.Core.Path.{ap, sym, _∙_}
 use Rattle.table.specs.Table.{Below}
 use Rattle.table.specs.Grounds.{Refusal, refusal}
-use Rattle.planner.specs.Plan.{answered, ground, refusal-of}
+use Rattle.planner.specs.Plan.{answered, ground}
+use Rattle.planner.specs.Lent.{refusal-of}
 use Rattle.planner.proofs.Planning.{fine, turned, planned}
 use borrow.Author.Needs.{needs}
 use Rattle.planner.proofs.plan_routes.Statement.{statement}

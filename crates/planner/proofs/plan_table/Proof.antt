@@ -7,7 +7,8 @@ use lib.ListN.{length, take}
 use Rattle.table.specs.Table.{table-of, is-table, most-nodes}
 use Rattle.auction.specs.Auction.{fresh}
 use Rattle.solver.specs.Seen.{seen, Sized}
-use Rattle.planner.specs.Plan.{Fitting, routed}
+use Rattle.planner.specs.Plan.{routed}
+use Rattle.planner.specs.Lent.{Fitting}
 use Rattle.planner.proofs.Planning.{origin-low, fresh-so, part-fits, part-long}
 use borrow.Author.Needs.{needs}
 use Rattle.planner.proofs.plan_table.Statement.{statement}

@@ -5,7 +5,7 @@ use native.Mathlib.Omega.{arith}
 use lib.ListN.{length}
 use Rattle.auction.specs.Auction.{iterations, state}
 use Rattle.solver.specs.Seen.{seen}
-use Rattle.planner.specs.Plan.{Fitting}
+use Rattle.planner.specs.Lent.{Fitting}
 use Rattle.planner.proofs.Planning.{known-so, ends-so, columns-so, place-low}
 use borrow.Author.Needs.{needs}
 use Rattle.planner.proofs.run_lent.Statement.{statement}

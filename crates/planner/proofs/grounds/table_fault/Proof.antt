@@ -8,7 +8,8 @@ use lib.ListN.{length}
 use borrow.Author.Tests.{eq-eqb, ne-eqb, eqb-true, not-false, ltb-false}
 use Rattle.table.specs.Table.{most-nodes}
 use Rattle.table.specs.Grounds.{columns-bad, rooms-fit, refusal}
-use Rattle.planner.specs.Plan.{refusal-of, rooms}
+use Rattle.planner.specs.Plan.{rooms}
+use Rattle.planner.specs.Lent.{refusal-of}
 use Rattle.planner.proofs.Faults.{either-first, either-second, neither, columns-differ, too-many-arcs, columns-fine, rooms-1, rooms-2, rooms-3, rooms-4, rooms-fine, at-1, at-2, at-3, at-4, at-5, at-6}
 use borrow.Author.Needs.{needs}
 use Rattle.planner.proofs.grounds.table_fault.Statement.{statement}

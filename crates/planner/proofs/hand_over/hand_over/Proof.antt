@@ -7,7 +7,8 @@ use Rattle.solver.specs.Seen.{seen}
 use mathlib.Core.Bool.{cond}
 use lib.Dec.{eqb}
 use Rattle.table.specs.Grounds.{no-refusal, refusal}
-use Rattle.planner.specs.Plan.{answered, refusal-of}
+use Rattle.planner.specs.Plan.{answered}
+use Rattle.planner.specs.Lent.{refusal-of}
 use Rattle.planner.proofs.Handing.{assembled}
 use borrow.Author.Needs.{needs}
 use Rattle.planner.proofs.hand_over.hand_over.Statement.{statement}

@@ -1,6 +1,6 @@
 -- The index is that of a missing node, or the number of wanted nodes. Assumes nothing.
 use borrow.Author.Tests.{eq-eqb, ne-eqb}
-use Rattle.planner.specs.Plan.{refusal-of}
+use Rattle.planner.specs.Lent.{refusal-of}
 use Rattle.planner.proofs.Faults.{no-fault}
 use borrow.Author.Needs.{needs}
 use Rattle.planner.proofs.hand_over.route_fault.Statement.{statement}
