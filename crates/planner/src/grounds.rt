@@ -99,7 +99,7 @@ fn arcs_fault(n: u32, tails: &[u16], heads: &[u16], lengths: &[u32]) -> Fault
     Fault::none()
 }
 
-// 1 to 7: a table's first fault, with the lengths of the buffers lent for it.
+// 1 to 7 in order: the ground on which a table with buffers of these lengths is turned down, or none.
 pub fn table_fault(
     n: u32,
     origin: u16,

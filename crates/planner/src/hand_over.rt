@@ -32,6 +32,7 @@ fn distance_or(other: u64, v: usize, bound: &[u64], status: &[u8]) -> u64
     bound[v]
 }
 
+// The larger of two numbers.
 fn larger(a: u64, b: u64) -> u64
     ensures { λ r. ⌜ r ≡ max a b ⌝ }
 {
@@ -56,7 +57,7 @@ fn horizon_of(bound: &[u64], status: &[u8]) -> u64
     h
 }
 
-// 1 for a reached node, else 0.
+// 1 for a reached node, 0 for another.
 fn one_if_reached(v: usize, status: &[u8]) -> u32
     requires { ⌜ v < length (now status) ⌝ }
     ensures { λ r. ⌜ r ≡ cond (ltb 0 (getD (now (status .entry)) v 0)) 1 0 ⌝ }
@@ -81,7 +82,7 @@ fn count_reached(status: &[u8]) -> u32
     count
 }
 
-// The distance column.
+// The distance column: a reached node's distance, no distance for another.
 fn fill_distances(bound: &[u64], status: &[u8], out: &mut [u64])
     requires { ⌜ Known (now bound) (now status) ⌝ }
     requires { ⌜ length (now out) ≡ length (now status) ⌝ }
@@ -94,7 +95,7 @@ fn fill_distances(bound: &[u64], status: &[u8], out: &mut [u64])
     }
 }
 
-// The price column: the horizon less the distance.
+// The price column: the horizon less the distance, and 0 for a node that was not reached.
 fn fill_prices(horizon: u64, bound: &[u64], status: &[u8], out: &mut [u64])
     requires { ⌜ Known (now bound) (now status) ⌝ }
     requires { ⌜ length (now out) ≡ length (now status) ⌝ }
@@ -119,7 +120,7 @@ fn arc_of(v: usize, kept: &[u16], status: &[u8]) -> u16
     kept[v]
 }
 
-// The tree column.
+// The tree column: a reached node's kept arc, no arc for another.
 fn fill_tree(kept: &[u16], status: &[u8], out: &mut [u16])
     requires { ⌜ (length (now kept) ≡ length (now status)) × (length (now out) ≡ length (now status)) ⌝ }
     ensures { λ _. ⌜ ((t : Table) (path price bound : List ℕ) (g : Progress) → t .n ≡ length (now (status .entry)) → now (out .exit) ≡ tree t (seen path price bound (now (kept .entry)) (now (status .entry)) g)) ⌝ }

@@ -25,8 +25,8 @@ unfoldable pub lower-of : Option Bid → Option Bid → Option Bid
 lower-of none b = b
 lower-of (some a) b = some (lower-bid a b)
 
--- What an iteration may rely on: a node that is not the origin has no child only where it can be deleted; the least bid's arc is listed, its child
--- has a bound, and the path has room for it where it is extended.
+-- What an iteration at node v may rely on: it is no stop, since the origin has a child; the arc of the least bid is listed and its head has a bound;
+-- and where the path is to be extended there is room for one node more.
 pub record Can-step (v origin value arc depth : ℕ) (heads path price bound : List ℕ) : Type 0 where
   pub no-stop : arc ≡ no-arc → v ≡ origin → ⊥
   pub listed : (arc ≡ no-arc → ⊥) → arc < length heads

@@ -14,7 +14,8 @@ use super::state::State;
 use super::wide;
 use table::NO_ARC;
 
-// Whether a bound offered by the arc at a position is to be kept: it is smaller, or equal and from a lower position.
+// Whether a bound offered by the arc at a position is to be kept: it is smaller, or equal and from a lower position. A node that has
+// no bound takes any.
 fn improves(offered: u64, position: u16, bound: u64, kept: u16) -> bool
     requires { ⌜ offered < no-distance ⌝ }
     ensures { λ r. ⌜ r ≡ improves offered position (bound-of bound) (arc-of kept) ⌝ }
@@ -25,7 +26,7 @@ fn improves(offered: u64, position: u16, bound: u64, kept: u16) -> bool
     offered < bound
 }
 
-// Offers one arc to its head.
+// Offers one arc to its head, which keeps it where it is unreached and the offer improves its bound.
 fn offer(
     head: usize,
     position: u16,
@@ -46,7 +47,7 @@ fn offer(
     }
 }
 
-// Offers every arc out of a reached node, whose distance is given.
+// Offers every arc out of a reached node, whose distance is given, in table order: only the node's own arcs are looked at.
 fn offer_arcs(
     v: usize,
     distance: u64,

@@ -41,7 +41,8 @@ fn first_unreached(from: usize, wanted: &[u16], status: &[u8]) -> usize
     w
 }
 
-// The iterations. The loop has no cap: it ends because the auction does.
+// The iterations from the start, until every wanted node has been reached or the origin has no child. The loop has no cap: it ends
+// because the auction does, and its measure is the auction's own bound less the iterations made.
 fn iterate(
     begun: Progress,
     origin: usize,
@@ -131,7 +132,8 @@ fn run_listed(
     )
 }
 
-// The whole run, from the fresh state that is lent to the state where it ends. The number of nodes is that of the lent entries.
+// The whole run, from the fresh state that is lent to the state where it ends, which is the auction's last. There are as many nodes as
+// lent entries.
 pub fn run(
     begun: Progress,
     origin: u16,

@@ -87,7 +87,8 @@ fn extend(
     longer
 }
 
-// One iteration at the terminal node, whose least bid is given.
+// One iteration at the terminal node, whose least bid is given: a deletion where it has no child, a contraction where its price is
+// below the bid, else an extension.
 pub fn step(
     g: Progress,
     v: usize,
