@@ -1,18 +1,19 @@
 -- From the run to the hand-over, and from the grounds to the run. Assumes nothing.
+use mathlib.Core.Logic.{_⊎_, ⊎-elim}
 use mathlib.Core.Path.{_≡_, refl, sym, _∙_}
-use mathlib.Core.Bool.{true, _&&_, _||_, not}
-use mathlib.Core.List.{List}
-use Prim.Native.Nat.{ℕ, _^_, _≤_, _<_}
+use mathlib.Core.Bool.{true, _&&_, _||_, not, Bool, false, cond}
+use mathlib.Core.List.{List, [], _∷_}
+use Prim.Native.Nat.{ℕ, _^_, _≤_, _<_, suc}
 use native.Mathlib.Omega.{arith}
 use lib.Dec.{ltb, leb, eqb}
 use lib.ListN.{length, getD, take}
 use lib.Seq.{length-take-le}
 use borrow.Author.Tests.{lt-ltb, leb-true, eqb-true, eq-eqb, ne-eqb, not-false, ltb-false}
-use Rattle.table.specs.Table.{Table, table, table-of, is-table, arc-count, arcs-good, nodes-below, most-nodes, most-arcs, Below}
-use Rattle.table.specs.Grounds.{refusal, room, table-refusal, columns-bad, rooms-fit}
+use Rattle.table.specs.Table.{Table, table, table-of, is-table, arc-count, arcs-good, nodes-below, most-nodes, most-arcs, Below, Arc, arcs-of, most-wanted}
+use Rattle.table.specs.Grounds.{refusal, room, table-refusal, columns-bad, rooms-fit, Refusal, no-refusal, or-else, wanted-from, wanted-refusal, arc-fault, arcs-from, arcs-refusal}
 use Rattle.auction.specs.Auction.{fresh, was-reached}
 use Rattle.auction.specs.HandOver.{Answer, answer}
-use Rattle.auction.proofs.Basics.{both-true, either-false, inside}
+use Rattle.auction.proofs.Basics.{both-true, either-false, inside, same-or, true-or}
 use Rattle.auction.specs.Promises.{Not-turned-down}
 use Rattle.auction.proofs.Good.{good, not-turned-down, passed}
 use Rattle.solver.specs.declared.state.Progress.{Progress}
@@ -148,3 +149,60 @@ module _ (n o : ℕ) (ts hs ls ws ds ps tr ms : List ℕ) where
               marks-long = fit .3 ∙ eh;
             };
       }
+
+-- AN ANSWER 0 OR 8 is the auction's: no other ground has such a number
+cond-low : (b : Bool) (x y : Refusal) (m : ℕ) → x .number ≤ m → y .number ≤ m → cond b x y .number ≤ m
+cond-low true x y m p q = p
+cond-low false x y m p q = q
+
+wanted-low : (i n : ℕ) (ws : List ℕ) → wanted-from i n ws .number ≤ 7
+unfolding wanted-from no-refusal refusal
+wanted-low i n [] = omega arith
+wanted-low i n (w ∷ ws) = cond-low (ltb w n) (wanted-from (suc i) n ws) (refusal 5 i) 7 (wanted-low (suc i) n ws) (omega arith)
+
+fault-low : (n : ℕ) (a : Arc) → arc-fault n a ≤ 7
+unfolding arc-fault
+fault-low n a =
+    ⊎-elim (λ (e : (leb n (a .tail) || leb n (a .head)) ≡ true). rw e (omega arith))
+    (λ (e : (leb n (a .tail) || leb n (a .head)) ≡ false).
+    rw e
+    (⊎-elim (λ (z : eqb (a .arc-length) 0 ≡ true). rw z (omega arith)) (λ (z : eqb (a .arc-length) 0 ≡ false). rw z (omega arith))
+    (true-or (eqb (a .arc-length) 0))))
+    (true-or (leb n (a .tail) || leb n (a .head)))
+
+arcs-low : (i n : ℕ) (arcs : List Arc) → arcs-from i n arcs .number ≤ 7
+unfolding arcs-from no-refusal refusal
+arcs-low i n [] = omega arith
+arcs-low i n (a ∷ more) =
+    cond-low (eqb (arc-fault n a) 0) (arcs-from (suc i) n more) (refusal (arc-fault n a) i) 7 (arcs-low (suc i) n more) (fault-low n a)
+
+module _ (n o : ℕ) (ts hs ls ws ds ps tr ms : List ℕ) where
+  ground-low : ground n o ts hs ls ws ds ps tr ms .number ≤ 7
+  unfolding ground table-refusal or-else wanted-refusal arcs-refusal refusal
+  ground-low =
+      let w = cond-low (ltb most-wanted (length ws)) (refusal 5 most-wanted) (wanted-from 0 n ws) 7 (omega arith) (wanted-low 0 n ws) in
+      let a = arcs-low 0 n (arcs-of ts hs ls) in
+      cond-low (eqb n 0 || ltb most-nodes n) (refusal 1 0) _ 7 (omega arith)
+      (cond-low (columns-bad ts hs ls) (refusal 2 0) _ 7 (omega arith)
+      (cond-low (not (rooms-fit (rooms n (length ts) (length ds) (length ps) (length tr) (length ms)))) (refusal 3 0) _ 7 (omega arith)
+      (cond-low (leb n o) (refusal 4 0) _ 7 (omega arith) (cond-low (eqb (wanted-refusal n ws .number) 0) (arcs-refusal n (arcs-of ts hs ls)) (wanted-refusal n ws) 7 a w))))
+
+  turned-number : (ground n o ts hs ls ws ds ps tr ms .number ≡ 0 → ⊥) → plan n o ts hs ls ws ds ps tr ms .number ≡ ground n o ts hs ls ws ds ps tr ms .number
+  unfolding plan turned-down
+  turned-number d = rw (ne-eqb (ground n o ts hs ls ws ds ps tr ms .number) 0 d)
+
+  routed-so : ground n o ts hs ls ws ds ps tr ms .number ≡ 0 → plan n o ts hs ls ws ds ps tr ms ≡ routed (table-of n o ts hs ls) ws
+  unfolding plan
+  routed-so e = rw (eq-eqb (ground n o ts hs ls ws ds ps tr ms .number) 0 e)
+
+  pub of-the-auction : Below (2 ^ 32) ls → ((plan n o ts hs ls ws ds ps tr ms .number ≡ 0) ⊎ (plan n o ts hs ls ws ds ps tr ms .number ≡ 8)) →
+      (is-table (table-of n o ts hs ls) ws ≡ true) × (plan n o ts hs ls ws ds ps tr ms ≡ routed (table-of n o ts hs ls) ws)
+  of-the-auction low e =
+      ⊎-elim
+      (λ (z : ground n o ts hs ls ws ds ps tr ms .number ≡ 0). (fine n o ts hs ls ws ds ps tr ms low z .table-good, routed-so z))
+      (λ (z : ground n o ts hs ls ws ds ps tr ms .number ≡ 0 → ⊥).
+      absurd
+      (⊎-elim (λ (q : plan n o ts hs ls ws ds ps tr ms .number ≡ 0). z (sym (turned-number z) ∙ q))
+      (λ (q : plan n o ts hs ls ws ds ps tr ms .number ≡ 8). omega (arith, turned-number z, q, ground-low))
+      e))
+      (same-or (ground n o ts hs ls ws ds ps tr ms .number) 0)
