@@ -1,0 +1,92 @@
+-- A field at an offset of a part of the file: what the code's loop over its bytes comes to, and what the reader says there. Assumes nothing.
+use mathlib.Core.Bool.{true, false}
+use mathlib.Core.Path.{_≡_, refl, ap, sym, _∙_, subst}
+use mathlib.Core.List.{List}
+use Prim.Native.Nat.{ℕ, zero, suc, _+_, _-_, _*_, _^_, _≤_, _<_}
+use native.Mathlib.Nat.{add-assoc}
+use native.Mathlib.Omega.{arith}
+use lib.ListN.{length, drop, getD, length-drop}
+use lib.Seq.{drop-drop}
+use borrow.Author.Tests.{le-leb, lt-leb}
+use Rattle.table.specs.Table.{Below}
+use Rattle.link_file.specs.Reading.{Reader, got, refused, number, field, optional, give}
+use Rattle.link_file.specs.Says.{Got, Ends, Field-says}
+use Rattle.link_file.specs.declared.fields.Field.{Field}
+use Rattle.link_file.specs.declared.fields.Field.the-variants.{Value, Cut}
+use Rattle.link_file.proofs.Numbers.{number-more, number-small, below-drop, three-bytes}
+
+module _ (part : List ℕ) (from width : ℕ) (fits : from ≤ length part) where
+  -- there is room for the field
+  pub field-got : width ≤ length part - from → Below 256 part
+      → Got (field width) part from width (256 ^ width) (number width (drop from part)) (from + width)
+  unfolding field
+  field-got room small =
+      record
+      { is = λ (at : ℕ).
+          rw (le-leb width (length (drop from part)) (rw (length-drop from part) room), drop-drop width from part, add-assoc at from width)
+      ; near = omega arith
+      ; inside = omega arith
+      ; small = number-small width (drop from part) (below-drop 256 from part small)
+      }
+
+  -- there is none
+  pub field-ends : length part - from < width → Ends (field width) part from width
+  unfolding field
+  field-ends short =
+      record
+      { is = λ (at : ℕ).
+          let e : at + from + (length part - from) ≡ at + length part = omega arith in
+          rw (lt-leb width (length (drop from part)) (rw (length-drop from part) short), length-drop from part, e)
+      ; near = omega arith
+      }
+
+-- a larger bound
+pub field-wider : (r : Field) (m : Reader ℕ) (part : List ℕ) (from width small bound : ℕ) → small ≤ bound
+    → Field-says r m part from width small → Field-says r m part from width bound
+unfolding Field-says
+field-wider (Value v next) m part from width small bound h g =
+    record { is = g .is; near = g .near; inside = g .inside; small = omega (arith, g .small) }
+field-wider Cut m part from width small bound h g = g
+
+-- an absent field
+pub absent-got : (part : List ℕ) (from width absent bound : ℕ) → from ≤ length part → absent < bound
+    → Got (optional false width absent) part from width bound absent from
+unfolding optional give
+absent-got part from width absent bound fits small =
+    record { is = λ (at : ℕ). refl; near = omega arith; inside = fits; small = small }
+
+-- The loop over a field's bytes, from the highest down: the value is the number in the bytes passed.
+pub record Passed (part : List ℕ) (from width value left : ℕ) : Type 0 where
+  pub low : left ≤ width
+  pub is : value ≡ number (width - left) (drop (from + left) part)
+
+module _ {part : List ℕ} {from width value left : ℕ} where
+  pub passed-next : Passed part from width value left → 0 < left → from ≤ length part → width ≤ length part - from
+      → Passed part from width (value * 256 + getD part (from + (left - 1)) 0) (left - 1)
+  passed-next p some fits room =
+      let one-more : width - (left - 1) ≡ suc (width - left) = omega (arith, p .low) in
+      let here : from + left ≡ suc (from + (left - 1)) = omega arith in
+      let at : from + (left - 1) < length part = omega (arith, p .low) in
+      record
+      { low = omega (arith, p .low)
+      ; is =
+          rw (one-more, number-more (width - left) (from + (left - 1)) part at, ← here, p .is)
+      }
+
+  pub passed-small : Passed part from width value left → 0 < left → width ≤ 4 → Below 256 part → value < 16777216
+  passed-small p some few small =
+      omega (arith, p .is, number-small (width - left) (drop (from + left) part) (below-drop 256 (from + left) part small),
+        three-bytes (width - left) (omega (arith, p .low)))
+
+  -- all bytes passed: the whole number
+  pub passed-all : Passed part from width value left → left ≤ 0 → value ≡ number width (drop from part)
+  passed-all p none =
+      let w : width - left ≡ width = omega arith in
+      let f : from + left ≡ from = omega arith in
+      rw (w, f) at (p .is)
+
+pub passed-none : (part : List ℕ) (from width : ℕ) → Passed part from width 0 width
+unfolding number
+passed-none part from width =
+    let w : width - width ≡ 0 = omega arith in
+    record { low = omega arith; is = rw w }

@@ -1,0 +1,25 @@
+-- What the answers of the reader's and the writer's own functions mean, in the terms of Format.antt and Reading.antt. Assumes nothing: these are
+-- definitions.
+use mathlib.Core.Path.{_≡_}
+use mathlib.Core.List.{List}
+use Prim.Native.Nat.{ℕ, _+_, _≤_, _<_}
+use lib.ListN.{length, drop}
+use Rattle.link_file.specs.Reading.{Reader, got, refused}
+use Rattle.link_file.specs.declared.fields.Field.{Field}
+use Rattle.link_file.specs.declared.fields.Field.the-variants.{Value, Cut}
+
+-- At an offset of a part of the file a reader gets this value and goes on at the next offset, wherever in the file the part begins.
+pub record Got (m : Reader ℕ) (part : List ℕ) (from width bound value next : ℕ) : Type 0 where
+  pub is : (at : ℕ) → m (at + from) (drop from part) ≡ got value (at + next) (drop next part)
+  pub near : next ≤ from + width
+  pub inside : next ≤ length part
+  pub small : value < bound
+
+-- The part ends inside a field of this width, which is refused at the file's length.
+pub record Ends (m : Reader ℕ) (part : List ℕ) (from width : ℕ) : Type 0 where
+  pub is : (at : ℕ) → m (at + from) (drop from part) ≡ refused 9 (at + length part)
+  pub near : length part < from + width
+
+unfoldable pub Field-says : Field → Reader ℕ → (part : List ℕ) → (from width bound : ℕ) → Type 0
+Field-says (Value v next) m part from w bound = Got m part from w bound v next
+Field-says Cut m part from w bound = Ends m part from w

@@ -1,0 +1,46 @@
+// Fields of one to four bytes, the lowest byte first.
+ghost use mathlib.Core.Path.{_≡_};
+ghost use Prim.Native.Nat.{ℕ, _≤_, _<_, _^_};
+ghost use lib.ListN.{length};
+ghost use Rattle.link_file.specs.Reading.{field, optional};
+ghost use Rattle.link_file.specs.Says.{Field-says};
+
+// A field's answer: its value with the next offset, or the part ends inside it.
+pub enum Field {
+    Value(u32, usize),
+    Cut,
+}
+
+fn wide(byte: u8) -> u32
+    ensures { λ r. ⌜ r ≡ byte ⌝ }
+{
+    byte as u32
+}
+
+// The field of so many bytes at an offset of a part of the file.
+pub fn read_field(part: &[u8], from: usize, width: usize) -> Field
+    requires { ⌜ (from ≤ length (now part)) × (width ≤ 4) ⌝ }
+    ensures { λ r. ⌜ Field-says r (field width) (now (part .entry)) from width (256 ^ width) ⌝ }
+{
+    if part.len() - from < width {
+        return Field::Cut;
+    }
+    let mut value: u32 = 0;
+    let mut left = width;
+    while 0 < left {
+        left -= 1;
+        value = value * 256 + wide(part[from + left]);
+    }
+    Field::Value(value, from + width)
+}
+
+// A field that may be absent, and what its absence says.
+pub fn read_optional(part: &[u8], from: usize, width: usize, stands: bool, absent: u32) -> Field
+    requires { ⌜ (from ≤ length (now part)) × (width ≤ 4) ⌝ }
+    ensures { λ r. ⌜ ((bound : ℕ) → 256 ^ width ≤ bound → absent < bound → Field-says r (optional stands width absent) (now (part .entry)) from width bound) ⌝ }
+{
+    if stands {
+        return read_field(part, from, width);
+    }
+    Field::Value(absent, from)
+}

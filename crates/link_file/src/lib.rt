@@ -1,0 +1,2 @@
+// The link file of a table: reader and writer.
+mod fields;
