@@ -1,10 +1,17 @@
 -- What the answers of the reader's and the writer's own functions mean, in the terms of Format.antt and Reading.antt. Assumes nothing: these are
 -- definitions.
-use mathlib.Core.Path.{_≡_}
+use mathlib.Core.Bool.{Bool, true, false}
 use mathlib.Core.List.{List}
+use mathlib.Core.Option.{Option, none, some}
+use mathlib.Core.Path.{_≡_}
 use Prim.Native.Nat.{ℕ, _+_, _≤_, _<_}
 use lib.ListN.{length, drop}
 use Rattle.link_file.specs.Reading.{Reader, got, refused}
+use Rattle.table.specs.Table.{Arc, arc}
+use Rattle.link_file.specs.declared.arcs.Arc as Arcs
+use Rattle.link_file.specs.declared.arcs.Previous.{Previous}
+use Rattle.link_file.specs.declared.arcs.Previous.the-variants.{Nothing, Record}
+use Rattle.link_file.specs.declared.arcs.Absent.{Absent}
 use Rattle.link_file.specs.declared.fields.Field.{Field}
 use Rattle.link_file.specs.declared.fields.Field.the-variants.{Value, Cut}
 
@@ -23,3 +30,19 @@ pub record Ends (m : Reader ℕ) (part : List ℕ) (from width : ℕ) : Type 0 w
 unfoldable pub Field-says : Field → Reader ℕ → (part : List ℕ) → (from width bound : ℕ) → Type 0
 Field-says (Value v next) m part from w bound = Got m part from w bound v next
 Field-says Cut m part from w bound = Ends m part from w
+
+-- an arc of the code, the arc of the record before, and the fields that absent ones say
+unfoldable pub arc-of : Arcs.Arc → Arc
+arc-of a = arc (a .tail) (a .head) (a .length)
+
+unfoldable pub arc-before : Previous → Option Arc
+arc-before Nothing = none
+arc-before (Record p) = some (arc-of p)
+
+unfoldable pub arc-implied : Absent → Arc
+arc-implied a = arc (a .tail) (a .head) (a .length)
+
+-- no record before
+unfoldable pub first : Option Arc → Bool
+first none = true
+first (some p) = false

@@ -1,2 +1,4 @@
 // The link file of a table: reader and writer.
+mod arcs;
 mod fields;
+mod records;
