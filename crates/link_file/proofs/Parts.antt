@@ -24,6 +24,7 @@ module _ (part : List ℕ) (from width : ℕ) (fits : from ≤ length part) wher
       record
       { is = λ (at : ℕ).
           rw (le-leb width (length (drop from part)) (rw (length-drop from part) room), drop-drop width from part, add-assoc at from width)
+      ; on = omega arith
       ; near = omega arith
       ; inside = omega arith
       ; small = number-small width (drop from part) (below-drop 256 from part small)
@@ -45,7 +46,7 @@ pub field-wider : (r : Field) (m : Reader ℕ) (part : List ℕ) (from width sma
     → Field-says r m part from width small → Field-says r m part from width bound
 unfolding Field-says
 field-wider (Value v next) m part from width small bound h g =
-    record { is = g .is; near = g .near; inside = g .inside; small = omega (arith, g .small) }
+    record { is = g .is; on = g .on; near = g .near; inside = g .inside; small = omega (arith, g .small) }
 field-wider Cut m part from width small bound h g = g
 
 -- an absent field
@@ -53,7 +54,7 @@ pub absent-got : (part : List ℕ) (from width absent bound : ℕ) → from ≤ 
     → Got (optional false width absent) part from width bound absent from
 unfolding optional give
 absent-got part from width absent bound fits small =
-    record { is = λ (at : ℕ). refl; near = omega arith; inside = fits; small = small }
+    record { is = λ (at : ℕ). refl; on = omega arith; near = omega arith; inside = fits; small = small }
 
 -- The loop over a field's bytes, from the highest down: the value is the number in the bytes passed.
 pub record Passed (part : List ℕ) (from width value left : ℕ) : Type 0 where

@@ -4,20 +4,23 @@ use mathlib.Core.Bool.{Bool, true, false}
 use mathlib.Core.List.{List}
 use mathlib.Core.Option.{Option, none, some}
 use mathlib.Core.Path.{_≡_}
-use Prim.Native.Nat.{ℕ, _+_, _≤_, _<_}
+use Prim.Native.Nat.{ℕ, _+_, _-_, _≤_, _<_}
 use lib.ListN.{length, drop}
-use Rattle.link_file.specs.Reading.{Reader, got, refused}
+use Rattle.link_file.specs.Reading.{Reader, got, refused, read-record}
 use Rattle.table.specs.Table.{Arc, arc}
 use Rattle.link_file.specs.declared.arcs.Arc as Arcs
 use Rattle.link_file.specs.declared.arcs.Previous.{Previous}
 use Rattle.link_file.specs.declared.arcs.Previous.the-variants.{Nothing, Record}
 use Rattle.link_file.specs.declared.arcs.Absent.{Absent}
+use Rattle.link_file.specs.declared.records.RecordRead.{RecordRead}
+use Rattle.link_file.specs.declared.records.RecordRead.the-variants as Records
 use Rattle.link_file.specs.declared.fields.Field.{Field}
 use Rattle.link_file.specs.declared.fields.Field.the-variants.{Value, Cut}
 
 -- At an offset of a part of the file a reader gets this value and goes on at the next offset, wherever in the file the part begins.
 pub record Got (m : Reader ℕ) (part : List ℕ) (from width bound value next : ℕ) : Type 0 where
   pub is : (at : ℕ) → m (at + from) (drop from part) ≡ got value (at + next) (drop next part)
+  pub on : from ≤ next
   pub near : next ≤ from + width
   pub inside : next ≤ length part
   pub small : value < bound
@@ -46,3 +49,14 @@ arc-implied a = arc (a .tail) (a .head) (a .length)
 unfoldable pub first : Option Arc → Bool
 first none = true
 first (some p) = false
+
+-- The record at the start of a part of the file gives this arc, and the next one begins at this offset of the file.
+pub record Record-got (before : Option Arc) (part : List ℕ) (at : ℕ) (a : Arc) (next : ℕ) : Type 0 where
+  pub is : read-record before at part ≡ got a next (drop (next - at) part)
+  pub on : at < next
+  pub near : next ≤ at + 9
+  pub inside : next ≤ at + length part
+
+unfoldable pub Record-says : RecordRead → (before : Option Arc) → (part : List ℕ) → (at : ℕ) → Type 0
+Record-says (Records.Record a next) before part at = Record-got before part at (arc-of a) next
+Record-says (Records.Refused number place) before part at = read-record before at part ≡ refused number place

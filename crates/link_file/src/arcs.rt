@@ -61,14 +61,14 @@ pub fn record_bits(previous: Previous, arc: Arc) -> u8
 }
 
 fn wide(node: u16) -> u32
-    ensures { λ r. ⌜ r ≡ node ⌝ }
+    ensures { λ r. ⌜ (r ≡ node) × (r < 65536) ⌝ }
 {
     node as u32
 }
 
 // What a record says where its fields are absent.
 pub fn implied(previous: Previous) -> Absent
-    ensures { λ r. ⌜ arc-implied r ≡ implied (arc-before previous) ⌝ }
+    ensures { λ r. ⌜ (arc-implied r ≡ implied (arc-before previous)) × (r .tail < 65536) ⌝ }
 {
     match previous {
         Previous::Nothing => Absent { tail: 0, head: 0, length: 0 },

@@ -1,1 +1,56 @@
 // Reading the records of arcs.
+use crate::arcs::Arc;
+use crate::arcs::Previous;
+use crate::fields::Field;
+
+ghost use mathlib.Core.Path.{_≡_};
+ghost use Prim.Native.Nat.{_<_};
+ghost use lib.ListN.{length};
+ghost use Rattle.link_file.specs.Says.{arc-before, Record-says};
+
+// A record's answer: its arc with the next offset, or the refusal's number and place.
+pub enum RecordRead {
+    Record(Arc, usize),
+    Refused(u32, u32),
+}
+
+// 9: the file is cut; the place is its length.
+fn cut(length: usize) -> RecordRead
+    requires { ⌜ length < 65536 ⌝ }
+    ensures { λ r. ⌜ r ≡ RecordRead.Refused 9 length ⌝ }
+{
+    RecordRead::Refused(9, length as u32)
+}
+
+// The record at the start of a part of the file, which begins at an offset of the file.
+pub fn read_record(part: &[u8], at: usize, previous: Previous) -> RecordRead
+    requires { ⌜ (0 < length (now part)) × (at < 65000) ⌝ }
+    ensures { λ r. ⌜ Record-says r (arc-before previous) (now (part .entry)) at ⌝ }
+{
+    let bits = part[0];
+    let start = at as u32;
+    if crate::arcs::forbidden(previous, bits) {
+        return RecordRead::Refused(10, start);
+    }
+    let absent = crate::arcs::implied(previous);
+    let has_tail = crate::arcs::stands(1, bits);
+    let Field::Value(tail, head_at) = crate::fields::read_optional(part, 1, 2, has_tail, absent.tail) else {
+        return cut(at + part.len());
+    };
+    let has_head = crate::arcs::stands(2, bits);
+    let Field::Value(head, length_at) = crate::fields::read_optional(part, head_at, 2, has_head, absent.head) else {
+        return cut(at + part.len());
+    };
+    let has_length = crate::arcs::stands(4, bits);
+    let Field::Value(length, end) = crate::fields::read_optional(part, length_at, 4, has_length, absent.length) else {
+        return cut(at + part.len());
+    };
+    if 65535 < head {
+        return RecordRead::Refused(11, start);
+    }
+    let arc = Arc { tail: tail as u16, head: head as u16, length };
+    if bits != crate::arcs::record_bits(previous, arc) {
+        return RecordRead::Refused(12, start);
+    }
+    RecordRead::Record(arc, at + end)
+}

@@ -1,6 +1,7 @@
 -- `arcs::implied` meets its contract: by cases on the record before. Assumes nothing.
 use borrow.Author.Needs.{needs}
 use Rattle.table.specs.Table.{arc}
+use native.Mathlib.Omega.{arith}
 use mathlib.Core.Path.{_≡_}
 use Rattle.link_file.specs.declared.arcs.Previous.the-variants.{Record}
 use Rattle.link_file.specs.Reading.{implied}
@@ -34,7 +35,7 @@ add-t6 c = search needs
 -- src/arcs.rt:70:1
 returns : tie.Need-returns
 unfolding implied arc-before arc-implied
-returns c = rw (c .enum-told .given .1)
+returns c = (rw (c .enum-told .given .1), omega arith)
 
 -- src/arcs.rt:70:1
 returns-2 : tie.Need-returns-2
@@ -42,7 +43,7 @@ unfolding implied arc-before arc-implied arc-of arc
 returns-2 c =
     let g = c .before .before .before .previous .given in
     let e : c .before .before .before .before .before .args .previous ≡ Record (g .0 .0) = g .1 in
-    rw (e, c .before .wide .ensures, c .wide2 .ensures)
+    (rw (e, c .before .wide .ensures .0, c .wide2 .ensures .0), c .before .wide .ensures .1)
 
 pub implied-spec : {M : Type 1} → statement M
 implied-spec =

@@ -51,7 +51,7 @@ unfolding record-bits arc-before arc-of arc
 returns-2 c =
     let s = c .before .before .before .before .before .before .before .before in
     let e : s .before .before .args .previous ≡ Record (s .previous .given .0 .0) = s .previous .given .1 in
-    c .bits-of2 .ensures ∙ rw (e, c .before .before .before .before .before .before .wide .ensures, c .before .before .before .before .before .wide2 .ensures)
+    c .bits-of2 .ensures ∙ rw (e, c .before .before .before .before .before .before .wide .ensures .0, c .before .before .before .before .before .wide2 .ensures .0)
 
 pub record-bits-spec : {M : Type 1} → statement M
 record-bits-spec =
