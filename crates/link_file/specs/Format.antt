@@ -8,7 +8,7 @@
 -- The file is canonical: a bit stands exactly where its absence would say something else or be refused. `header-bits` and `record-bits` are
 -- that rule; the reader refuses every other bit map (page 2, Reading.antt).
 use mathlib.Core.Bool.{Bool, true, false, _&&_, not, cond}
-use mathlib.Core.List.{List, [], _∷_, _++_}
+use mathlib.Core.List.{List, [], _∷_, _++_, map}
 use mathlib.Core.Option.{Option, none, some}
 use Prim.Native.Nat.{ℕ, zero, suc, _+_, _/_, _%_}
 use lib.Dec.{eqb}
@@ -24,6 +24,16 @@ pub record Content : Type 0 where
 
 unfoldable pub content : (n origin : ℕ) → (wanted : List ℕ) → (arcs : List Arc) → Content
 content n o ws more = record { n = n; origin = o; wanted = ws; arcs = more }
+
+-- the columns of arcs
+unfoldable pub tails-of : List Arc → List ℕ
+tails-of arcs = map (λ (a : Arc). a .tail) arcs
+
+unfoldable pub heads-of : List Arc → List ℕ
+heads-of arcs = map (λ (a : Arc). a .head) arcs
+
+unfoldable pub lengths-of : List Arc → List ℕ
+lengths-of arcs = map (λ (a : Arc). a .arc-length) arcs
 
 -- a number in so many bytes, the lowest first
 unfoldable pub bytes : (width value : ℕ) → List ℕ

@@ -19,6 +19,15 @@ pub data Outcome (A : Type 0) : Type 0 where
 abbrev pub Reader : Type 0 → Type 0
 Reader A = (at : ℕ) → (rest : List ℕ) → Outcome A
 
+-- whether a value was got; the list that was got, empty where none was
+unfoldable pub accepted : {A : Type 0} → Outcome A → Bool
+accepted (got a at rest) = true
+accepted (refused n p) = false
+
+unfoldable pub list-got : {A : Type 0} → Outcome (List A) → List A
+list-got (got xs at rest) = xs
+list-got (refused n p) = []
+
 -- what follows a reader: it goes on where that one got a value
 unfoldable pub after : {A B : Type 0} → Outcome A → (A → Reader B) → Outcome B
 after (got a at rest) f = f a at rest

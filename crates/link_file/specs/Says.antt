@@ -6,14 +6,18 @@ use mathlib.Core.Option.{Option, none, some}
 use mathlib.Core.Path.{_≡_}
 use Prim.Native.Nat.{ℕ, _+_, _-_, _≤_, _<_}
 use lib.ListN.{length, drop}
-use Rattle.link_file.specs.Reading.{Reader, got, refused, read-record}
-use Rattle.table.specs.Table.{Arc, arc}
+use lib.Seq.{sets}
+use Rattle.link_file.specs.Format.{tails-of, heads-of, lengths-of}
+use Rattle.link_file.specs.Reading.{Outcome, Reader, got, refused, accepted, list-got, read-record, read-records}
+use Rattle.table.specs.Table.{Arc, arc, most-arcs}
 use Rattle.link_file.specs.declared.arcs.Arc as Arcs
 use Rattle.link_file.specs.declared.arcs.Previous.{Previous}
 use Rattle.link_file.specs.declared.arcs.Previous.the-variants.{Nothing, Record}
 use Rattle.link_file.specs.declared.arcs.Absent.{Absent}
 use Rattle.link_file.specs.declared.records.RecordRead.{RecordRead}
 use Rattle.link_file.specs.declared.records.RecordRead.the-variants as Records
+use Rattle.link_file.specs.declared.records.Counted.{Counted}
+use Rattle.link_file.specs.declared.records.Counted.the-variants as Counts
 use Rattle.link_file.specs.declared.fields.Field.{Field}
 use Rattle.link_file.specs.declared.fields.Field.the-variants.{Value, Cut}
 
@@ -60,3 +64,27 @@ pub record Record-got (before : Option Arc) (part : List ℕ) (at : ℕ) (a : Ar
 unfoldable pub Record-says : RecordRead → (before : Option Arc) → (part : List ℕ) → (at : ℕ) → Type 0
 Record-says (Records.Record a next) before part at = Record-got before part at (arc-of a) next
 Record-says (Records.Refused number place) before part at = read-record before at part ≡ refused number place
+
+-- the count of records, after so many before them, or the refusal
+unfoldable pub tally : (before : ℕ) → Outcome (List Arc) → Counted
+tally k (got arcs next rest) = Counts.Arcs (k + length arcs)
+tally k (refused number place) = Counts.Refused number place
+
+-- What reading the records from an offset to the end of the file gives.
+abbrev pub records-from : (file : List ℕ) → (start : ℕ) → Outcome (List Arc)
+records-from file start = read-records most-arcs none start (drop start file)
+
+-- The second pass may run: the first one accepted the records, and the columns have room.
+pub record Fillable (file : List ℕ) (start : ℕ) (tails heads lengths : List ℕ) : Type 0 where
+  pub inside : start ≤ length file
+  pub short : start ≤ 2055
+  pub good : accepted (records-from file start) ≡ true
+  pub tails-room : most-arcs ≤ length tails
+  pub heads-room : most-arcs ≤ length heads
+  pub lengths-room : most-arcs ≤ length lengths
+
+-- The columns of the arcs that were read stand at the starts of the buffers.
+pub record Filled (arcs : List Arc) (tails heads lengths tails′ heads′ lengths′ : List ℕ) : Type 0 where
+  pub tails-are : tails′ ≡ sets tails 0 (tails-of arcs)
+  pub heads-are : heads′ ≡ sets heads 0 (heads-of arcs)
+  pub lengths-are : lengths′ ≡ sets lengths 0 (lengths-of arcs)

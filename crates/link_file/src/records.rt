@@ -4,9 +4,10 @@ use crate::arcs::Previous;
 use crate::fields::Field;
 
 ghost use mathlib.Core.Path.{_≡_};
-ghost use Prim.Native.Nat.{_<_};
+ghost use Prim.Native.Nat.{_≤_, _<_};
 ghost use lib.ListN.{length};
-ghost use Rattle.link_file.specs.Says.{arc-before, Record-says};
+ghost use Rattle.link_file.specs.Reading.{list-got};
+ghost use Rattle.link_file.specs.Says.{arc-before, Record-says, tally, records-from, Fillable, Filled};
 
 // A record's answer: its arc with the next offset, or the refusal's number and place.
 pub enum RecordRead {
@@ -53,4 +54,59 @@ pub fn read_record(part: &[u8], at: usize, previous: Previous) -> RecordRead
         return RecordRead::Refused(12, start);
     }
     RecordRead::Record(arc, at + end)
+}
+
+// How many records there are, or the first refusal.
+pub enum Counted {
+    Arcs(u32),
+    Refused(u32, u32),
+}
+
+const MOST: u32 = 6000;
+
+// The first pass: every record from an offset to the end of the file is read, and counted.
+pub fn count_records(file: &[u8], start: usize) -> Counted
+    requires { ⌜ (start ≤ length (now file)) × (start ≤ 2055) ⌝ }
+    ensures { λ r. ⌜ r ≡ tally 0 (records-from (now (file .entry)) start) ⌝ }
+{
+    let mut at = start;
+    let mut count: u32 = 0;
+    let mut previous = Previous::Nothing;
+    while at < file.len() {
+        if count == MOST {
+            return Counted::Refused(2, MOST);
+        }
+        match read_record(&file[at..], at, previous) {
+            RecordRead::Record(arc, next) => {
+                previous = Previous::Record(arc);
+                at = next;
+                count += 1;
+            }
+            RecordRead::Refused(number, place) => {
+                return Counted::Refused(number, place);
+            }
+        }
+    }
+    Counted::Arcs(count)
+}
+
+// The second pass: the records, all of them good, fill the columns from their starts.
+pub fn fill_records(file: &[u8], start: usize, tails: &mut [u16], heads: &mut [u16], lengths: &mut [u32])
+    requires { ⌜ Fillable (now file) start (now tails) (now heads) (now lengths) ⌝ }
+    ensures { λ _. ⌜ Filled (list-got (records-from (now (file .entry)) start)) (now (tails .entry)) (now (heads .entry)) (now (lengths .entry)) (now (tails .exit)) (now (heads .exit)) (now (lengths .exit)) ⌝ }
+{
+    let mut at = start;
+    let mut i = 0;
+    let mut previous = Previous::Nothing;
+    while at < file.len() {
+        let RecordRead::Record(arc, next) = read_record(&file[at..], at, previous) else {
+            return;
+        };
+        tails[i] = arc.tail;
+        heads[i] = arc.head;
+        lengths[i] = arc.length;
+        previous = Previous::Record(arc);
+        at = next;
+        i += 1;
+    }
 }
