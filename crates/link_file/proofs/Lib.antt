@@ -5,3 +5,5 @@ pub mod Ways
 pub mod Runs
 pub mod Columns
 pub mod Filling
+pub mod Nodes
+pub mod HeaderWays

@@ -4,6 +4,7 @@ use mathlib.Core.Path.{_≡_, refl, ap, sym, _∙_, subst}
 use mathlib.Core.List.{List}
 use Prim.Native.Nat.{ℕ, zero, suc, _+_, _-_, _*_, _^_, _≤_, _<_}
 use native.Mathlib.Nat.{add-assoc}
+use native.Mathlib.Decide.{decLe}
 use native.Mathlib.Omega.{arith}
 use lib.ListN.{length, drop, getD, length-drop}
 use lib.Seq.{drop-drop}
@@ -14,6 +15,19 @@ use Rattle.link_file.specs.Says.{Got, Ends, Field-says}
 use Rattle.link_file.specs.declared.fields.Field.{Field}
 use Rattle.link_file.specs.declared.fields.Field.the-variants.{Value, Cut}
 use Rattle.link_file.proofs.Numbers.{number-more, number-small, below-drop, three-bytes}
+
+-- two outcomes that are equal
+pub got-value : {A : Type 0} {a b : A} {m n : ℕ} {xs ys : List ℕ} → got a m xs ≡ got b n ys → a ≡ b
+got-value e = cc
+
+pub got-next : {A : Type 0} {a b : A} {m n : ℕ} {xs ys : List ℕ} → got a m xs ≡ got b n ys → m ≡ n
+got-next e = cc
+
+pub got-rest : {A : Type 0} {a b : A} {m n : ℕ} {xs ys : List ℕ} → got a m xs ≡ got b n ys → xs ≡ ys
+got-rest e = cc
+
+pub refused-got : {A : Type 0} {a : A} {m n p : ℕ} {xs : List ℕ} → refused m p ≡ got a n xs → ⊥
+refused-got e = let z : _≡_ {A = ℕ} 0 1 = cc in omega arith
 
 module _ (part : List ℕ) (from width : ℕ) (fits : from ≤ length part) where
   -- there is room for the field
@@ -91,3 +105,19 @@ unfolding number
 passed-none part from width =
     let w : width - width ≡ 0 = omega arith in
     record { low = omega arith; is = rw w }
+
+-- what a field that was got is: the number in its bytes, and the offset behind them
+pub field-value : {part : List ℕ} {from width bound v next : ℕ} → Got (field width) part from width bound v next
+    → (v ≡ number width (drop from part)) × (next ≡ from + width)
+unfolding field
+field-value {part} {from} {width} {bound} {v} {next} g =
+    elim (decLe width (length (drop from part)))
+    [ yes h ↦
+        let e : got (number width (drop from part)) (0 + from + width) (drop width (drop from part)) ≡ got v (0 + next) (drop next part) =
+            rw (le-leb width (length (drop from part)) h) at (g .is 0) in
+        (sym (got-value e), let p : 0 + from + width ≡ 0 + next = got-next e in omega arith)
+    | no h ↦
+        let e : refused 9 (0 + from + length (drop from part)) ≡ got v (0 + next) (drop next part) =
+            rw (lt-leb width (length (drop from part)) (omega (arith, h))) at (g .is 0) in
+        absurd (refused-got e)
+    ]

@@ -1,19 +1,26 @@
 -- What the answers of the reader's and the writer's own functions mean, in the terms of Format.antt and Reading.antt. Assumes nothing: these are
 -- definitions.
-use mathlib.Core.Bool.{Bool, true, false}
-use mathlib.Core.List.{List}
+use mathlib.Core.Bool.{Bool, true, false, cond}
+use mathlib.Core.List.{List, [], _∷_}
 use mathlib.Core.Option.{Option, none, some}
 use mathlib.Core.Path.{_≡_}
-use Prim.Native.Nat.{ℕ, _+_, _-_, _≤_, _<_}
+use Prim.Native.Nat.{ℕ, zero, suc, _+_, _-_, _*_, _≤_, _<_}
 use lib.ListN.{length, drop}
 use lib.Seq.{sets}
-use Rattle.link_file.specs.Format.{tails-of, heads-of, lengths-of}
-use Rattle.link_file.specs.Reading.{Outcome, Reader, got, refused, accepted, list-got, read-record, read-records}
-use Rattle.table.specs.Table.{Arc, arc, most-arcs}
+use Rattle.link_file.specs.Format.{tails-of, heads-of, lengths-of, content, count-up, counts-from, all-nodes}
+use Rattle.link_file.specs.Reading.{Outcome, Reader, got, refused, accepted, list-got, number, read-wanted, read-header, read-record, read-records}
+use Rattle.table.specs.Table.{Arc, arc, most-arcs, most-nodes, most-wanted}
 use Rattle.link_file.specs.declared.arcs.Arc as Arcs
 use Rattle.link_file.specs.declared.arcs.Previous.{Previous}
 use Rattle.link_file.specs.declared.arcs.Previous.the-variants.{Nothing, Record}
 use Rattle.link_file.specs.declared.arcs.Absent.{Absent}
+use Rattle.link_file.specs.declared.header.NodesRead.{NodesRead}
+use Rattle.link_file.specs.declared.header.NodesRead.the-variants as Nodes
+use Rattle.link_file.specs.declared.header.Header.{Header}
+use Rattle.link_file.specs.declared.header.HeaderRead.{HeaderRead}
+use Rattle.link_file.specs.declared.header.HeaderRead.the-variants as Headers
+use Rattle.link_file.specs.declared.header.WantedRead.{WantedRead}
+use Rattle.link_file.specs.declared.header.WantedRead.the-variants as Wanteds
 use Rattle.link_file.specs.declared.records.RecordRead.{RecordRead}
 use Rattle.link_file.specs.declared.records.RecordRead.the-variants as Records
 use Rattle.link_file.specs.declared.records.Counted.{Counted}
@@ -88,3 +95,51 @@ pub record Filled (arcs : List Arc) (tails heads lengths tails′ heads′ lengt
   pub tails-are : tails′ ≡ sets tails 0 (tails-of arcs)
   pub heads-are : heads′ ≡ sets heads 0 (heads-of arcs)
   pub lengths-are : lengths′ ≡ sets lengths 0 (lengths-of arcs)
+
+-- the nodes in so many pairs of bytes
+unfoldable pub nodes-in : (count : ℕ) → List ℕ → List ℕ
+nodes-in zero bs = []
+nodes-in (suc k) bs = number 2 bs ∷ nodes-in k (drop 2 bs)
+
+-- a run of nodes at an offset of the file, read, and whether they count up from 0; or the file ends inside it
+pub record Nodes-got (file : List ℕ) (from count next : ℕ) (ascending : Bool) : Type 0 where
+  pub on : next ≡ from + 2 * count
+  pub inside : next ≤ length file
+  pub up : ascending ≡ counts-from 0 (nodes-in count (drop from file))
+
+unfoldable pub Nodes-says : NodesRead → (file : List ℕ) → (from count : ℕ) → Type 0
+Nodes-says (Nodes.Read next ascending) file from count = Nodes-got file from count next ascending
+Nodes-says Nodes.Cut file from count = length file < from + 2 * count
+
+-- The wanted list that a header says: so many nodes that end at an offset of the file, or all n nodes.
+unfoldable pub wanted-in : (file : List ℕ) → (listed : Bool) → (n count next : ℕ) → List ℕ
+wanted-in file listed n count next = cond listed (nodes-in count (drop (next - 2 * count) file)) (count-up 0 n)
+
+-- The wanted list was read: the count, the next offset, and whether it is all nodes ascending.
+pub record Wanted-got (file : List ℕ) (from : ℕ) (listed : Bool) (n count next : ℕ) (all : Bool) : Type 0 where
+  pub is : read-wanted listed n (0 + from) (drop from file) ≡ got (wanted-in file listed n count next) (0 + next) (drop next file)
+  pub size : length (wanted-in file listed n count next) ≡ count
+  pub same : all ≡ all-nodes n (wanted-in file listed n count next)
+  pub few : count ≤ most-wanted
+  pub near : next ≤ from + 2050
+  pub inside : next ≤ length file
+  pub room : listed ≡ true → 2 * count ≤ next
+
+unfoldable pub Wanted-says : WantedRead → (file : List ℕ) → (from : ℕ) → (listed : Bool) → (n : ℕ) → Type 0
+Wanted-says (Wanteds.Read count next all) file from listed n = Wanted-got file from listed n count next all
+Wanted-says (Wanteds.Refused number place) file from listed n = read-wanted listed n (0 + from) (drop from file) ≡ refused number place
+
+-- The header was read.
+pub record Header-got (file : List ℕ) (h : Header) : Type 0 where
+  pub is : read-header 0 file
+      ≡ got (content (h .n) (h .origin) (wanted-in file (h .listed) (h .n) (h .wanted) (h .next)) []) (h .next) (drop (h .next) file)
+  pub size : length (wanted-in file (h .listed) (h .n) (h .wanted) (h .next)) ≡ h .wanted
+  pub nodes : h .n ≤ most-nodes
+  pub few : h .wanted ≤ most-wanted
+  pub short : h .next ≤ 2055
+  pub inside : h .next ≤ length file
+  pub room : h .listed ≡ true → 2 * h .wanted ≤ h .next
+
+unfoldable pub Header-says : HeaderRead → (file : List ℕ) → Type 0
+Header-says (Headers.Read h) file = Header-got file h
+Header-says (Headers.Refused number place) file = read-header 0 file ≡ refused number place

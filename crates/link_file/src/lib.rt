@@ -1,4 +1,5 @@
 // The link file of a table: reader and writer.
 mod arcs;
 mod fields;
+mod header;
 mod records;

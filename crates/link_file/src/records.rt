@@ -62,7 +62,7 @@ pub enum Counted {
     Refused(u32, u32),
 }
 
-const MOST: u32 = 6000;
+const MOST: u32 = table::MOST_ARCS as u32;
 
 // The first pass: every record from an offset to the end of the file is read, and counted.
 pub fn count_records(file: &[u8], start: usize) -> Counted
