@@ -7,3 +7,4 @@ pub mod Columns
 pub mod Filling
 pub mod Nodes
 pub mod HeaderWays
+pub mod Whole

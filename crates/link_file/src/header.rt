@@ -9,7 +9,7 @@ ghost use lib.ListN.{length, drop};
 ghost use lib.Seq.{sets};
 ghost use Rattle.table.specs.Table.{most-nodes, most-wanted};
 ghost use Rattle.link_file.specs.Format.{has, count-up};
-ghost use Rattle.link_file.specs.Says.{nodes-in, Nodes-says, Wanted-says, Header-says};
+ghost use Rattle.link_file.specs.Says.{nodes-in, wanted-in, Nodes-says, Wanted-says, Header-got, Header-says};
 
 const MOST_WANTED: u32 = 1024;
 
@@ -173,4 +173,18 @@ fn fill_all(n: u32, wanted: &mut [u16])
         wanted[i as usize] = i as u16;
         i += 1;
     }
+}
+
+// The wanted list of a header that was read, at the start of a buffer.
+pub fn fill_wanted(file: &[u8], header: Header, wanted: &mut [u16])
+    requires { ⌜ Header-got (now file) header × (most-wanted ≤ length (now wanted)) ⌝ }
+    ensures { λ _. ⌜ now (wanted .exit) ≡ sets (now (wanted .entry)) 0 (wanted-in (now (file .entry)) (header .listed) (header .n) (header .wanted) (header .next)) ⌝ }
+{
+    let count = header.wanted;
+    if header.listed {
+        let from = header.next - 2 * (count as usize);
+        fill_nodes(file, from, count, wanted);
+        return;
+    }
+    fill_all(header.n, wanted);
 }

@@ -1,0 +1,48 @@
+-- What the two entries answer and leave in the lent buffers, for every input. Assumes nothing: these are definitions.
+--
+-- The reader reads the file as Reading.antt says, after ground 3: a lent buffer is too short. Its answer and the four buffers are those of the
+-- content that was read; where the file is refused that content is empty, so that every value is 0 and every buffer is as it was.
+use mathlib.Core.Bool.{Bool, cond, _||_}
+use mathlib.Core.List.{List, [], _++_}
+use mathlib.Core.Path.{_≡_}
+use Prim.Native.Nat.{ℕ}
+use lib.Dec.{ltb}
+use lib.ListN.{length, drop}
+use Rattle.table.specs.Grounds.{Refusal, refusal, no-refusal}
+use Rattle.table.specs.Table.{most-arcs, most-wanted}
+use Rattle.link_file.specs.Format.{Content, content, tails-of, heads-of, lengths-of}
+use Rattle.link_file.specs.Reading.{Outcome, got, refused, read-file}
+use Rattle.link_file.specs.declared.TableRead.{TableRead}
+
+-- a buffer with a list at its start and the rest as it was
+unfoldable pub over : (list buffer : List ℕ) → List ℕ
+over xs buffer = xs ++ drop (length xs) buffer
+
+-- 3: a reader's buffer too short
+unfoldable pub too-short : (tails heads lengths wanted : ℕ) → Bool
+too-short t h l w = (ltb t most-arcs || ltb h most-arcs) || (ltb l most-arcs || ltb w most-wanted)
+
+unfoldable pub reading : (file tails heads lengths wanted : List ℕ) → Outcome Content
+reading file ts hs ls ws = cond (too-short (length ts) (length hs) (length ls) (length ws)) (refused 3 0) (read-file file)
+
+-- the refusal, and the content that was read: none in a refusal
+unfoldable pub refusal-of : {A : Type 0} → Outcome A → Refusal
+refusal-of (got a at rest) = no-refusal
+refusal-of (refused n p) = refusal n p
+
+unfoldable pub content-of : Outcome Content → Content
+content-of (got t at rest) = t
+content-of (refused n p) = content 0 0 [] []
+
+-- the reader's answer
+unfoldable pub read-answer : Refusal → Content → TableRead
+read-answer f t =
+    record { number = f .number; place = f .place; n = t .n; origin = t .origin; arcs = length (t .arcs); wanted = length (t .wanted) }
+
+-- what the reader does: its answer, and the buffers at the end
+pub record Read-says (file tails heads lengths wanted tails′ heads′ lengths′ wanted′ : List ℕ) (r : TableRead) : Type 0 where
+  pub answer : r ≡ read-answer (refusal-of (reading file tails heads lengths wanted)) (content-of (reading file tails heads lengths wanted))
+  pub tails-are : tails′ ≡ over (tails-of (content-of (reading file tails heads lengths wanted) .arcs)) tails
+  pub heads-are : heads′ ≡ over (heads-of (content-of (reading file tails heads lengths wanted) .arcs)) heads
+  pub lengths-are : lengths′ ≡ over (lengths-of (content-of (reading file tails heads lengths wanted) .arcs)) lengths
+  pub wanted-are : wanted′ ≡ over (content-of (reading file tails heads lengths wanted) .wanted) wanted
