@@ -50,19 +50,19 @@ module _ (file : List ℕ) (at i : ℕ) (before : Option Arc) (more : at < lengt
     next-list = ap list-got (run-more file at i before more few r) ∙ got-then a (remaining file next (i + 1) (some a)) next-good
 
     -- a column, of tails, heads or lengths
-    pub next-column : (of : List Arc → List ℕ) (x : ℕ) → ((rest : List Arc) → of (a ∷ rest) ≡ x ∷ of rest) → {first all buffer : List ℕ}
-        → Column first all buffer i (of (list-got (remaining file at i before)))
-        → Column first all (set buffer i x) (i + 1) (of (list-got (remaining file next (i + 1) (some a))))
-    next-column of x cons {first} {all} {buffer} k =
-        column-next (subst (λ (l : List ℕ). Column first all buffer i l) (ap of next-list ∙ cons (list-got (remaining file next (i + 1) (some a)))) k)
+    pub next-column : (of : List Arc → List ℕ) (x : ℕ) → ((rest : List Arc) → of (a ∷ rest) ≡ x ∷ of rest) → {first : List ℕ} {start : ℕ} {all buffer : List ℕ}
+        → Column first start all buffer i (of (list-got (remaining file at i before)))
+        → Column first start all (set buffer i x) (i + 1) (of (list-got (remaining file next (i + 1) (some a))))
+    next-column of x cons {first} {start} {all} {buffer} k =
+        column-next (subst (λ (l : List ℕ). Column first start all buffer i l) (ap of next-list ∙ cons (list-got (remaining file next (i + 1) (some a)))) k)
 
 -- Where the second pass stands.
 pub record Filling (file : List ℕ) (start : ℕ) (tails₀ heads₀ lengths₀ tails heads lengths : List ℕ) (at i : ℕ) (before : Option Arc) : Type 0 where
   pub stands : Standing file at i
   pub good : accepted (remaining file at i before) ≡ true
-  pub tails-left : Column tails₀ (tails-of (list-got (records-from file start))) tails i (tails-of (list-got (remaining file at i before)))
-  pub heads-left : Column heads₀ (heads-of (list-got (records-from file start))) heads i (heads-of (list-got (remaining file at i before)))
-  pub lengths-left : Column lengths₀ (lengths-of (list-got (records-from file start))) lengths i (lengths-of (list-got (remaining file at i before)))
+  pub tails-left : Column tails₀ 0 (tails-of (list-got (records-from file start))) tails i (tails-of (list-got (remaining file at i before)))
+  pub heads-left : Column heads₀ 0 (heads-of (list-got (records-from file start))) heads i (heads-of (list-got (remaining file at i before)))
+  pub lengths-left : Column lengths₀ 0 (lengths-of (list-got (records-from file start))) lengths i (lengths-of (list-got (remaining file at i before)))
 
 pub filling-begins : {file : List ℕ} {start : ℕ} {tails heads lengths : List ℕ} → Fillable file start tails heads lengths
     → Filling file start tails heads lengths tails heads lengths start 0 none
@@ -70,9 +70,9 @@ filling-begins f =
     record
     { stands = record { inside = f .inside; few = omega arith; short = omega (arith, f .short) }
     ; good = f .good
-    ; tails-left = column-begins _ _
-    ; heads-left = column-begins _ _
-    ; lengths-left = column-begins _ _
+    ; tails-left = column-begins _ 0 _
+    ; heads-left = column-begins _ 0 _
+    ; lengths-left = column-begins _ 0 _
     }
 
 module _ {file : List ℕ} {start : ℕ} {tails₀ heads₀ lengths₀ tails heads lengths : List ℕ} {at i : ℕ} {before : Option Arc}

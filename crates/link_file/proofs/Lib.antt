@@ -8,3 +8,6 @@ pub mod Filling
 pub mod Nodes
 pub mod HeaderWays
 pub mod Whole
+pub mod Putting
+pub mod Sizes
+pub mod Pieces

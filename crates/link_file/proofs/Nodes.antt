@@ -105,12 +105,12 @@ module _ {file : List ℕ} {from count at i : ℕ} {ascending : Bool} (c : Check
 -- Filling the wanted buffer with the nodes of the file.
 pub record Filling-nodes (file : List ℕ) (from count : ℕ) (wanted₀ wanted : List ℕ) (at i : ℕ) : Type 0 where
   pub along : Along file from count at i
-  pub column : Column wanted₀ (nodes-in count (drop from file)) wanted i (nodes-in (count - i) (drop at file))
+  pub column : Column wanted₀ 0 (nodes-in count (drop from file)) wanted i (nodes-in (count - i) (drop at file))
 
 pub nodes-begin : (file : List ℕ) (from count : ℕ) (wanted : List ℕ) → from ≤ length file → Filling-nodes file from count wanted wanted from 0
 nodes-begin file from count wanted h =
     let all : count - 0 ≡ count = omega arith in
-    record { along = record { low = omega arith; here = omega arith; inside = h }; column = rw all (column-begins _ _) }
+    record { along = record { low = omega arith; here = omega arith; inside = h }; column = rw all (column-begins _ 0 _) }
 
 module _ {file : List ℕ} {from count : ℕ} {wanted₀ wanted : List ℕ} {at i : ℕ} (f : Filling-nodes file from count wanted₀ wanted at i) where
   pub nodes-next : i < count → {next : ℕ} → next ≡ at + 2 → next ≤ length file
@@ -120,7 +120,7 @@ module _ {file : List ℕ} {from count : ℕ} {wanted₀ wanted : List ℕ} {at 
       { along = along-next (f .along) more e h
       ; column =
           rw e
-          (column-next (subst (λ (l : List ℕ). Column wanted₀ (nodes-in count (drop from file)) wanted i l) (along-nodes (f .along) more) (f .column)))
+          (column-next (subst (λ (l : List ℕ). Column wanted₀ 0 (nodes-in count (drop from file)) wanted i l) (along-nodes (f .along) more) (f .column)))
       }
 
   pub nodes-done : count ≤ i → wanted ≡ sets wanted₀ 0 (nodes-in count (drop from file))
@@ -130,17 +130,17 @@ module _ {file : List ℕ} {from count : ℕ} {wanted₀ wanted : List ℕ} {at 
 -- Filling it with all n nodes.
 pub record Filling-all (n : ℕ) (wanted₀ wanted : List ℕ) (i : ℕ) : Type 0 where
   pub low : i ≤ n
-  pub column : Column wanted₀ (count-up 0 n) wanted i (count-up i (n - i))
+  pub column : Column wanted₀ 0 (count-up 0 n) wanted i (count-up i (n - i))
 
 pub all-begin : (n : ℕ) (wanted : List ℕ) → Filling-all n wanted wanted 0
-all-begin n wanted = let all : n - 0 ≡ n = omega arith in record { low = omega arith; column = rw all (column-begins _ _) }
+all-begin n wanted = let all : n - 0 ≡ n = omega arith in record { low = omega arith; column = rw all (column-begins _ 0 _) }
 
 module _ {n : ℕ} {wanted₀ wanted : List ℕ} {i : ℕ} (f : Filling-all n wanted₀ wanted i) where
   pub all-next : i < n → Filling-all n wanted₀ (set wanted i i) (i + 1)
   unfolding count-up
   all-next more =
       let one-less : n - i ≡ suc (n - (i + 1)) = omega arith in
-      record { low = omega arith; column = subst (λ (k : ℕ). Column wanted₀ (count-up 0 n) (set wanted i i) (i + 1) (count-up k (n - (i + 1)))) (sym (add-one i)) (column-next (rw one-less at (f .column))) }
+      record { low = omega arith; column = subst (λ (k : ℕ). Column wanted₀ 0 (count-up 0 n) (set wanted i i) (i + 1) (count-up k (n - (i + 1)))) (sym (add-one i)) (column-next (rw one-less at (f .column))) }
 
   pub all-done : n ≤ i → wanted ≡ sets wanted₀ 0 (count-up 0 n)
   unfolding count-up

@@ -7,7 +7,7 @@ use mathlib.Core.Path.{_≡_}
 use Prim.Native.Nat.{ℕ, zero, suc, _+_, _-_, _*_, _≤_, _<_}
 use lib.ListN.{length, drop}
 use lib.Seq.{sets}
-use Rattle.link_file.specs.Format.{tails-of, heads-of, lengths-of, content, count-up, counts-from, all-nodes}
+use Rattle.link_file.specs.Format.{tails-of, heads-of, lengths-of, content, count-up, counts-from, all-nodes, fields-bytes}
 use Rattle.link_file.specs.Reading.{Outcome, Reader, got, refused, accepted, list-got, number, read-wanted, read-header, read-record, read-records}
 use Rattle.table.specs.Table.{Arc, arc, most-arcs, most-nodes, most-wanted}
 use Rattle.link_file.specs.declared.arcs.Arc as Arcs
@@ -143,3 +143,19 @@ pub record Header-got (file : List ℕ) (h : Header) : Type 0 where
 unfoldable pub Header-says : HeaderRead → (file : List ℕ) → Type 0
 Header-says (Headers.Read h) file = Header-got file h
 Header-says (Headers.Refused number place) file = read-header 0 file ≡ refused number place
+
+-- A piece of the file was put at an offset of the output.
+pub record Put (output : List ℕ) (at : ℕ) (piece : List ℕ) (next : ℕ) (output′ : List ℕ) : Type 0 where
+  pub on : next ≡ at + length piece
+  pub is : output′ ≡ sets output at piece
+
+-- the size of a record with a bit map, whatever its arc
+pub record Record-sized (bits size : ℕ) : Type 0 where
+  pub is : (a : Arc) → size ≡ suc (length (fields-bytes bits a))
+  pub near : size ≤ 9
+
+-- three columns of equal length, with not too many arcs
+pub record Equal-columns (tails heads lengths : List ℕ) : Type 0 where
+  pub heads-are : length tails ≡ length heads
+  pub lengths-are : length heads ≡ length lengths
+  pub few : length tails ≤ most-arcs

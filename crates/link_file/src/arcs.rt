@@ -60,7 +60,8 @@ pub fn record_bits(previous: Previous, arc: Arc) -> u8
     }
 }
 
-fn wide(node: u16) -> u32
+// A node's number, widened.
+pub fn wide(node: u16) -> u32
     ensures { λ r. ⌜ (r ≡ node) × (r < 65536) ⌝ }
 {
     node as u32

@@ -1,9 +1,10 @@
 // Fields of one to four bytes, the lowest byte first.
 ghost use mathlib.Core.Path.{_≡_};
-ghost use Prim.Native.Nat.{ℕ, _≤_, _<_, _^_};
+ghost use Prim.Native.Nat.{ℕ, _+_, _≤_, _<_, _^_};
 ghost use lib.ListN.{length};
+ghost use Rattle.link_file.specs.Format.{bytes, field-bytes};
 ghost use Rattle.link_file.specs.Reading.{field, optional};
-ghost use Rattle.link_file.specs.Says.{Field-says};
+ghost use Rattle.link_file.specs.Says.{Field-says, Put};
 
 // A field's answer: its value with the next offset, or the part ends inside it.
 pub enum Field {
@@ -43,4 +44,30 @@ pub fn read_optional(part: &[u8], from: usize, width: usize, stands: bool, absen
         return read_field(part, from, width);
     }
     Field::Value(absent, from)
+}
+
+// Puts a number of so many bytes at an offset, and gives the next one.
+pub fn put_field(output: &mut [u8], at: usize, width: usize, value: u32) -> usize
+    requires { ⌜ at + width ≤ length (now output) ⌝ }
+    ensures { λ r. ⌜ Put (now (output .entry)) at (bytes width value) r (now (output .exit)) ⌝ }
+{
+    let mut left = value;
+    let mut i = 0;
+    while i < width {
+        output[at + i] = (left % 256) as u8;
+        left = left / 256;
+        i += 1;
+    }
+    at + width
+}
+
+// Puts a field where it stands.
+pub fn put_optional(output: &mut [u8], at: usize, width: usize, stands: bool, value: u32) -> usize
+    requires { ⌜ at + length (field-bytes stands width value) ≤ length (now output) ⌝ }
+    ensures { λ r. ⌜ Put (now (output .entry)) at (field-bytes stands width value) r (now (output .exit)) ⌝ }
+{
+    if stands {
+        return put_field(output, at, width, value);
+    }
+    at
 }

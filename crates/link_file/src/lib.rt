@@ -4,6 +4,7 @@ mod arcs;
 mod fields;
 mod header;
 mod records;
+mod writer;
 
 use header::HeaderRead;
 use records::Counted;

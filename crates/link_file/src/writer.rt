@@ -1,0 +1,85 @@
+// Writing a table as a link file: the size of each part, and its bytes.
+use crate::arcs::Arc;
+use crate::arcs::Previous;
+
+ghost use mathlib.Core.Bool.{not, _||_, _&&_, cond};
+ghost use mathlib.Core.Option.{none};
+ghost use mathlib.Core.Path.{_≡_};
+ghost use Prim.Native.Nat.{ℕ, _+_, _≤_, _<_};
+ghost use lib.Dec.{eqb, ltb};
+ghost use lib.ListN.{length, getD};
+ghost use lib.Seq.{sets};
+ghost use Rattle.table.specs.Table.{arc, arcs-of, most-arcs, most-nodes, most-wanted};
+ghost use Rattle.link_file.specs.Format.{all-nodes, header-bits, header-bytes, nodes-bytes, record-bytes, records-bytes};
+ghost use Rattle.link_file.specs.Says.{arc-of, arc-before, Put, Record-sized, Equal-columns};
+
+fn field_size(stands: bool, width: usize) -> usize
+    ensures { λ r. ⌜ (r ≡ cond stands width 0) × (r ≤ width) ⌝ }
+{
+    if stands { width } else { 0 }
+}
+
+// The size of a record with this bit map.
+fn record_size(bits: u8) -> usize
+    ensures { λ r. ⌜ Record-sized bits r ⌝ }
+{
+    let tail = field_size(crate::arcs::stands(1, bits), 2);
+    let head = field_size(crate::arcs::stands(2, bits), 2);
+    let length = field_size(crate::arcs::stands(4, bits), 4);
+    1 + (tail + (head + length))
+}
+
+fn arc_at(tails: &[u16], heads: &[u16], lengths: &[u32], i: usize) -> Arc
+    requires { ⌜ (i < length (now tails)) × ((i < length (now heads)) × (i < length (now lengths))) ⌝ }
+    ensures { λ r. ⌜ arc-of r ≡ arc (getD (now (tails .entry)) i 0) (getD (now (heads .entry)) i 0) (getD (now (lengths .entry)) i 0) ⌝ }
+{
+    Arc { tail: tails[i], head: heads[i], length: lengths[i] }
+}
+
+// The size of all records.
+pub fn records_size(tails: &[u16], heads: &[u16], lengths: &[u32]) -> usize
+    requires { ⌜ Equal-columns (now tails) (now heads) (now lengths) ⌝ }
+    ensures { λ r. ⌜ (r ≡ length (records-bytes none (arcs-of (now (tails .entry)) (now (heads .entry)) (now (lengths .entry))))) × (r ≤ 54000) ⌝ }
+{
+    let mut size: usize = 0;
+    let mut previous = Previous::Nothing;
+    let mut i = 0;
+    while i < tails.len() {
+        let arc = arc_at(tails, heads, lengths, i);
+        size += record_size(crate::arcs::record_bits(previous, arc));
+        previous = Previous::Record(arc);
+        i += 1;
+    }
+    size
+}
+
+// Puts one record.
+fn write_record(output: &mut [u8], at: usize, previous: Previous, arc: Arc) -> usize
+    requires { ⌜ at + length (record-bytes (arc-before previous) (arc-of arc)) ≤ length (now output) ⌝ }
+    ensures { λ r. ⌜ Put (now (output .entry)) at (record-bytes (arc-before previous) (arc-of arc)) r (now (output .exit)) ⌝ }
+{
+    let bits = crate::arcs::record_bits(previous, arc);
+    output[at] = bits;
+    let has_tail = crate::arcs::stands(1, bits);
+    let head_at = crate::fields::put_optional(output, at + 1, 2, has_tail, crate::arcs::wide(arc.tail));
+    let has_head = crate::arcs::stands(2, bits);
+    let length_at = crate::fields::put_optional(output, head_at, 2, has_head, crate::arcs::wide(arc.head));
+    let has_length = crate::arcs::stands(4, bits);
+    crate::fields::put_optional(output, length_at, 4, has_length, arc.length)
+}
+
+// Puts all records.
+pub fn write_records(tails: &[u16], heads: &[u16], lengths: &[u32], start: usize, output: &mut [u8])
+    requires { ⌜ Equal-columns (now tails) (now heads) (now lengths) × (start + length (records-bytes none (arcs-of (now tails) (now heads) (now lengths))) ≤ length (now output)) ⌝ }
+    ensures { λ _. ⌜ now (output .exit) ≡ sets (now (output .entry)) start (records-bytes none (arcs-of (now (tails .entry)) (now (heads .entry)) (now (lengths .entry)))) ⌝ }
+{
+    let mut at = start;
+    let mut previous = Previous::Nothing;
+    let mut i = 0;
+    while i < tails.len() {
+        let arc = arc_at(tails, heads, lengths, i);
+        at = write_record(output, at, previous, arc);
+        previous = Previous::Record(arc);
+        i += 1;
+    }
+}
