@@ -11,3 +11,4 @@ pub mod Whole
 pub mod Putting
 pub mod Sizes
 pub mod Pieces
+pub mod HeaderBytes

@@ -7,7 +7,7 @@ use mathlib.Core.Path.{_≡_}
 use Prim.Native.Nat.{ℕ, zero, suc, _+_, _-_, _*_, _≤_, _<_}
 use lib.ListN.{length, drop}
 use lib.Seq.{sets}
-use Rattle.link_file.specs.Format.{tails-of, heads-of, lengths-of, content, count-up, counts-from, all-nodes, fields-bytes}
+use Rattle.link_file.specs.Format.{tails-of, heads-of, lengths-of, content, count-up, counts-from, all-nodes, header-bits, header-bytes, fields-bytes}
 use Rattle.link_file.specs.Reading.{Outcome, Reader, got, refused, accepted, list-got, number, read-wanted, read-header, read-record, read-records}
 use Rattle.table.specs.Table.{Arc, arc, most-arcs, most-nodes, most-wanted}
 use Rattle.link_file.specs.declared.arcs.Arc as Arcs
@@ -159,3 +159,14 @@ pub record Equal-columns (tails heads lengths : List ℕ) : Type 0 where
   pub heads-are : length tails ≡ length heads
   pub lengths-are : length heads ≡ length lengths
   pub few : length tails ≤ most-arcs
+
+-- the size of a header with a bit map and so many wanted nodes
+pub record Header-sized (bits wanted size : ℕ) : Type 0 where
+  pub is : (n o : ℕ) (ws : List ℕ) → length ws ≡ wanted → bits ≡ header-bits n o ws → size ≡ length (header-bytes n o ws)
+  pub near : size ≤ 2055
+
+-- a header may be put: its bit map is the canonical one, and there is room
+pub record Header-asks (n origin : ℕ) (wanted : List ℕ) (bits : ℕ) (output : List ℕ) : Type 0 where
+  pub canonical : bits ≡ header-bits n origin wanted
+  pub room : length (header-bytes n origin wanted) ≤ length output
+  pub few : length wanted ≤ most-wanted

@@ -10,8 +10,8 @@ ghost use lib.Dec.{eqb, ltb};
 ghost use lib.ListN.{length, getD};
 ghost use lib.Seq.{sets};
 ghost use Rattle.table.specs.Table.{arc, arcs-of, most-arcs, most-nodes, most-wanted};
-ghost use Rattle.link_file.specs.Format.{all-nodes, header-bits, header-bytes, nodes-bytes, record-bytes, records-bytes};
-ghost use Rattle.link_file.specs.Says.{arc-of, arc-before, Put, Record-sized, Equal-columns};
+ghost use Rattle.link_file.specs.Format.{all-nodes, header-bits, header-bytes, nodes-bytes, wanted-bytes, record-bytes, records-bytes};
+ghost use Rattle.link_file.specs.Says.{arc-of, arc-before, Put, Record-sized, Equal-columns, Header-sized, Header-asks};
 
 fn field_size(stands: bool, width: usize) -> usize
     ensures { λ r. ⌜ (r ≡ cond stands width 0) × (r ≤ width) ⌝ }
@@ -82,4 +82,79 @@ pub fn write_records(tails: &[u16], heads: &[u16], lengths: &[u32], start: usize
         previous = Previous::Record(arc);
         i += 1;
     }
+}
+
+// Whether a wanted list is all n nodes, ascending.
+fn is_all(n: u32, wanted: &[u16]) -> bool
+    requires { ⌜ n ≤ most-nodes ⌝ }
+    ensures { λ r. ⌜ r ≡ all-nodes n (now (wanted .entry)) ⌝ }
+{
+    if wanted.len() != n as usize {
+        return false;
+    }
+    let mut i: u32 = 0;
+    while i < n {
+        if crate::arcs::wide(wanted[i as usize]) != i {
+            return false;
+        }
+        i += 1;
+    }
+    true
+}
+
+// The canonical bit map of a header.
+pub fn header_bits(n: u32, origin: u16, wanted: &[u16]) -> u8
+    requires { ⌜ n ≤ most-nodes ⌝ }
+    ensures { λ r. ⌜ r ≡ header-bits n origin (now (wanted .entry)) ⌝ }
+{
+    crate::arcs::bits_of(true, origin != 0, !is_all(n, wanted))
+}
+
+// The size of a header with this bit map and so many wanted nodes.
+pub fn header_size(bits: u8, wanted: usize) -> usize
+    requires { ⌜ wanted ≤ most-wanted ⌝ }
+    ensures { λ r. ⌜ Header-sized bits wanted r ⌝ }
+{
+    let origin = field_size(crate::arcs::stands(2, bits), 2);
+    let list = field_size(crate::arcs::stands(4, bits), 2 + 2 * wanted);
+    3 + (origin + list)
+}
+
+// Puts the wanted nodes.
+fn write_nodes(wanted: &[u16], start: usize, output: &mut [u8]) -> usize
+    requires { ⌜ start + length (nodes-bytes (now wanted)) ≤ length (now output) ⌝ }
+    ensures { λ r. ⌜ Put (now (output .entry)) start (nodes-bytes (now (wanted .entry))) r (now (output .exit)) ⌝ }
+{
+    let mut at = start;
+    let mut i = 0;
+    while i < wanted.len() {
+        at = crate::fields::put_field(output, at, 2, crate::arcs::wide(wanted[i]));
+        i += 1;
+    }
+    at
+}
+
+// Puts the wanted list where it stands: its count and its nodes.
+fn write_wanted(output: &mut [u8], at: usize, stands: bool, wanted: &[u16]) -> usize
+    requires { ⌜ (at + length (wanted-bytes stands (now wanted)) ≤ length (now output)) × (length (now wanted) ≤ most-wanted) ⌝ }
+    ensures { λ r. ⌜ Put (now (output .entry)) at (wanted-bytes stands (now (wanted .entry))) r (now (output .exit)) ⌝ }
+{
+    if !stands {
+        return at;
+    }
+    let nodes_at = crate::fields::put_field(output, at, 2, wanted.len() as u32);
+    write_nodes(wanted, nodes_at, output)
+}
+
+// Puts the header, whose canonical bit map is given.
+pub fn write_header(n: u32, origin: u16, wanted: &[u16], bits: u8, output: &mut [u8]) -> usize
+    requires { ⌜ Header-asks n origin (now wanted) bits (now output) ⌝ }
+    ensures { λ r. ⌜ Put (now (output .entry)) 0 (header-bytes n origin (now (wanted .entry))) r (now (output .exit)) ⌝ }
+{
+    output[0] = bits;
+    let origin_at = crate::fields::put_field(output, 1, 2, n);
+    let has_origin = crate::arcs::stands(2, bits);
+    let wanted_at = crate::fields::put_optional(output, origin_at, 2, has_origin, crate::arcs::wide(origin));
+    let listed = crate::arcs::stands(4, bits);
+    write_wanted(output, wanted_at, listed, wanted)
 }
