@@ -12,3 +12,4 @@ pub mod Putting
 pub mod Sizes
 pub mod Pieces
 pub mod HeaderBytes
+pub mod WriteWays

@@ -21,7 +21,7 @@ use Rattle.link_file.specs.declared.header.Header.{Header}
 use Rattle.link_file.specs.declared.records.Counted.the-variants.{Arcs, Refused}
 use Rattle.link_file.proofs.HeaderWays.{or-false}
 
-or-false-first : (a b : Bool) → (a || b) ≡ false → a ≡ false
+pub or-false-first : (a b : Bool) → (a || b) ≡ false → a ≡ false
 or-false-first true b e = e
 or-false-first false b e = refl
 

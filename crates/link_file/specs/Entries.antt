@@ -1,18 +1,20 @@
 -- What the two entries answer and leave in the lent buffers, for every input. Assumes nothing: these are definitions.
 --
 -- The reader reads the file as Reading.antt says, after ground 3: a lent buffer is too short. Its answer and the four buffers are those of the
--- content that was read; where the file is refused that content is empty, so that every value is 0 and every buffer is as it was.
-use mathlib.Core.Bool.{Bool, cond, _||_}
+-- content that was read; where the file is refused that content is empty, so that every value is 0 and every buffer is as it was. The writer
+-- likewise puts the bytes that Format.antt says, or none.
+use mathlib.Core.Bool.{Bool, cond, _||_, _&&_, not}
 use mathlib.Core.List.{List, [], _++_}
 use mathlib.Core.Path.{_≡_}
 use Prim.Native.Nat.{ℕ}
-use lib.Dec.{ltb}
+use lib.Dec.{eqb, ltb}
 use lib.ListN.{length, drop}
-use Rattle.table.specs.Grounds.{Refusal, refusal, no-refusal}
-use Rattle.table.specs.Table.{most-arcs, most-wanted}
-use Rattle.link_file.specs.Format.{Content, content, tails-of, heads-of, lengths-of}
+use Rattle.table.specs.Grounds.{Refusal, refusal, no-refusal, columns-bad}
+use Rattle.table.specs.Table.{arcs-of, most-nodes, most-arcs, most-wanted}
+use Rattle.link_file.specs.Format.{Content, content, tails-of, heads-of, lengths-of, file-bytes}
 use Rattle.link_file.specs.Reading.{Outcome, got, refused, read-file}
 use Rattle.link_file.specs.declared.TableRead.{TableRead}
+use Rattle.link_file.specs.declared.Written.{Written}
 
 -- a buffer with a list at its start and the rest as it was
 unfoldable pub over : (list buffer : List ℕ) → List ℕ
@@ -46,3 +48,30 @@ pub record Read-says (file tails heads lengths wanted tails′ heads′ lengths�
   pub heads-are : heads′ ≡ over (heads-of (content-of (reading file tails heads lengths wanted) .arcs)) heads
   pub lengths-are : lengths′ ≡ over (lengths-of (content-of (reading file tails heads lengths wanted) .arcs)) lengths
   pub wanted-are : wanted′ ≡ over (content-of (reading file tails heads lengths wanted) .wanted) wanted
+
+-- the file that the writer makes of its arguments
+unfoldable pub file-of : (n origin : ℕ) → (tails heads lengths wanted : List ℕ) → List ℕ
+file-of n o ts hs ls ws = file-bytes (content n o ws (arcs-of ts hs ls))
+
+-- the writer's grounds, in order: 1, 2, 5 (the count only), then 13
+unfoldable pub writing : (n origin : ℕ) → (tails heads lengths wanted : List ℕ) → (room : ℕ) → Refusal
+writing n o ts hs ls ws room =
+    cond (eqb n 0 || ltb most-nodes n) (refusal 1 0)
+    (cond (columns-bad ts hs ls) (refusal 2 0)
+    (cond (ltb most-wanted (length ws)) (refusal 5 most-wanted)
+    (cond (ltb room (length (file-of n o ts hs ls ws))) (refusal 13 0) no-refusal)))
+
+-- the bytes that are put: none in a refusal
+unfoldable pub put-bytes : Refusal → (file : List ℕ) → List ℕ
+put-bytes f file = cond (eqb (f .number) 0) file []
+
+-- the writer's answer
+unfoldable pub write-answer : Refusal → (size : ℕ) → Written
+write-answer f size = record { number = f .number; place = f .place; length = size }
+
+-- what the writer does: its answer, and the output at the end
+pub record Write-says (n origin : ℕ) (tails heads lengths wanted output output′ : List ℕ) (r : Written) : Type 0 where
+  pub answer : r
+      ≡ write-answer (writing n origin tails heads lengths wanted (length output))
+        (length (put-bytes (writing n origin tails heads lengths wanted (length output)) (file-of n origin tails heads lengths wanted)))
+  pub output-is : output′ ≡ over (put-bytes (writing n origin tails heads lengths wanted (length output)) (file-of n origin tails heads lengths wanted)) output

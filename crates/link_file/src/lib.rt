@@ -9,11 +9,14 @@ mod writer;
 use header::HeaderRead;
 use records::Counted;
 
+ghost use mathlib.Core.Bool.{not, _&&_, _||_};
 ghost use mathlib.Core.List.{[]};
 ghost use mathlib.Core.Path.{_≡_};
+ghost use lib.Dec.{eqb, ltb};
 ghost use Rattle.table.specs.Grounds.{refusal};
+ghost use Rattle.table.specs.Table.{most-arcs};
 ghost use Rattle.link_file.specs.Format.{content};
-ghost use Rattle.link_file.specs.Entries.{too-short, read-answer, Read-says};
+ghost use Rattle.link_file.specs.Entries.{too-short, read-answer, Read-says, write-answer, Write-says};
 
 // What reading a link file answers: the refusal's number and place, both 0 where there is none, and the node count, the origin and how many
 // arcs and wanted nodes there are, all 0 in a refusal.
@@ -24,6 +27,13 @@ pub struct TableRead {
     pub origin: u16,
     pub arcs: u32,
     pub wanted: u32,
+}
+
+// What writing a link file answers: the refusal's number and place, both 0 where there is none, and the file's length, 0 in a refusal.
+pub struct Written {
+    pub number: u32,
+    pub place: u32,
+    pub length: u32,
 }
 
 const MOST_WANTED: usize = 1024;
@@ -72,4 +82,47 @@ pub fn read_link_file(file: &[u8], tails: &mut [u16], heads: &mut [u16], lengths
             }
         }
     }
+}
+
+fn not_written(number: u32, place: u32) -> Written
+    ensures { λ r. ⌜ r ≡ write-answer (refusal number place) 0 ⌝ }
+{
+    Written { number, place, length: 0 }
+}
+
+// 2: columns of unequal length, or too many arcs.
+fn bad_columns(tails: usize, heads: usize, lengths: usize) -> bool
+    ensures { λ r. ⌜ r ≡ (not (eqb tails heads && eqb heads lengths) || ltb most-arcs tails) ⌝ }
+{
+    if tails != heads {
+        return true;
+    }
+    if heads != lengths {
+        return true;
+    }
+    table::MOST_ARCS < tails
+}
+
+// Writes a table as a link file at the start of the output and gives the file's length. A refusal leaves the output as it was. The elements of
+// the columns are not tested: what a planner would refuse is written, and read back, as it is.
+pub fn write_link_file(n: u32, origin: u16, tails: &[u16], heads: &[u16], lengths: &[u32], wanted: &[u16], output: &mut [u8]) -> Written
+    ensures { λ r. ⌜ Write-says n origin (now (tails .entry)) (now (heads .entry)) (now (lengths .entry)) (now (wanted .entry)) (now (output .entry)) (now (output .exit)) r ⌝ }
+{
+    if header::bad_count(n) {
+        return not_written(1, 0);
+    }
+    if bad_columns(tails.len(), heads.len(), lengths.len()) {
+        return not_written(2, 0);
+    }
+    if MOST_WANTED < wanted.len() {
+        return not_written(5, MOST_WANTED as u32);
+    }
+    let bits = writer::header_bits(n, origin, wanted);
+    let size = writer::header_size(bits, wanted.len()) + writer::records_size(tails, heads, lengths);
+    if output.len() < size {
+        return not_written(13, 0);
+    }
+    let at = writer::write_header(n, origin, wanted, bits, output);
+    writer::write_records(tails, heads, lengths, at, output);
+    Written { number: 0, place: 0, length: size as u32 }
 }
