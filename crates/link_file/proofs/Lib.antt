@@ -13,3 +13,4 @@ pub mod Sizes
 pub mod Pieces
 pub mod HeaderBytes
 pub mod WriteWays
+pub mod ReadThenWrite

@@ -2,3 +2,4 @@ pub mod Format
 pub mod Reading
 pub mod Says
 pub mod Entries
+pub mod Promises
