@@ -14,3 +14,4 @@ pub mod Pieces
 pub mod HeaderBytes
 pub mod WriteWays
 pub mod ReadThenWrite
+pub mod WriteThenRead

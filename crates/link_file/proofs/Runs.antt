@@ -27,7 +27,7 @@ remaining file at count before = read-records (most-arcs - count) before at (dro
 abbrev pub then : Arc → Outcome (List Arc) → Outcome (List Arc)
 then a rest = after rest (λ (more : List Arc). give (a ∷ more))
 
-records-none : (k : ℕ) (before : Option Arc) (at : ℕ) → read-records k before at [] ≡ got [] at []
+pub records-none : (k : ℕ) (before : Option Arc) (at : ℕ) → read-records k before at [] ≡ got [] at []
 unfolding read-records
 records-none zero before at = refl
 records-none (suc k) before at = refl
@@ -37,7 +37,7 @@ unfolding read-records
 records-full before at [] h = absurd (omega arith)
 records-full before at (b ∷ rest) h = refl
 
-records-more : (k : ℕ) (before : Option Arc) (at : ℕ) (rest : List ℕ) → 0 < length rest
+pub records-more : (k : ℕ) (before : Option Arc) (at : ℕ) (rest : List ℕ) → 0 < length rest
     → read-records (suc k) before at rest
       ≡ after (read-record before at rest) (λ (a : Arc) (next : ℕ) (tl : List ℕ). then a (read-records k (some a) next tl))
 unfolding read-records _>>=_
