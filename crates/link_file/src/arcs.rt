@@ -6,6 +6,14 @@ ghost use Rattle.link_file.specs.Format.{bit-map, has, record-bits};
 ghost use Rattle.link_file.specs.Reading.{implied, forbidden};
 ghost use Rattle.link_file.specs.Says.{arc-of, arc-before, arc-implied, first};
 
+// The weights of a record's bits.
+pub const TAIL: u8 = 1;
+pub const HEAD: u8 = 2;
+pub const LENGTH: u8 = 4;
+
+// The highest head, which no implied head may pass.
+pub const LAST_HEAD: u32 = 65535;
+
 pub struct Arc {
     pub tail: u16,
     pub head: u16,

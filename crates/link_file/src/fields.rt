@@ -6,6 +6,10 @@ ghost use Rattle.link_file.specs.Format.{bytes, field-bytes};
 ghost use Rattle.link_file.specs.Reading.{field, optional};
 ghost use Rattle.link_file.specs.Says.{Field-says, Put};
 
+// The bytes of a node's number, and of a length.
+pub const NODE: usize = 2;
+pub const LENGTH: usize = 4;
+
 // A field's answer: its value with the next offset, or the part ends inside it.
 pub enum Field {
     Value(u32, usize),
@@ -44,6 +48,14 @@ pub fn read_optional(part: &[u8], from: usize, width: usize, stands: bool, absen
         return read_field(part, from, width);
     }
     Field::Value(absent, from)
+}
+
+// An offset of the file as a place: the reader stops long before it passes 65535.
+pub fn place(offset: usize) -> u32
+    requires { ⌜ offset < 65536 ⌝ }
+    ensures { λ r. ⌜ r ≡ offset ⌝ }
+{
+    offset as u32
 }
 
 // Puts a number of so many bytes at an offset, and gives the next one.

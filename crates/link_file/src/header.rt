@@ -1,5 +1,8 @@
 // Reading the header: the node count, the origin and the wanted list.
+use crate::arcs;
+use crate::fields;
 use crate::fields::Field;
+use crate::grounds;
 
 ghost use mathlib.Core.Bool.{_&&_, _||_, not};
 ghost use mathlib.Core.Path.{_≡_};
@@ -11,7 +14,13 @@ ghost use Rattle.table.specs.Table.{most-nodes, most-wanted};
 ghost use Rattle.link_file.specs.Format.{has, count-up};
 ghost use Rattle.link_file.specs.Says.{nodes-in, wanted-in, Nodes-says, Wanted-says, Header-got, Header-says};
 
-const MOST_WANTED: u32 = 1024;
+// The most wanted nodes.
+pub const MOST_WANTED: u32 = 1024;
+
+// The weights of a header's bits.
+pub const COUNT: u8 = 1;
+pub const ORIGIN: u8 = 2;
+pub const WANTED: u8 = 4;
 
 // What a header says; `listed`: the wanted nodes stand in the file, just before the first record, which is at `next`.
 pub struct Header {
@@ -55,7 +64,7 @@ fn check_nodes(file: &[u8], from: usize, count: u32) -> NodesRead
     let mut ascending = true;
     let mut i: u32 = 0;
     while i < count {
-        let Field::Value(node, next) = crate::fields::read_field(file, at, 2) else {
+        let Field::Value(node, next) = fields::read_field(file, at, fields::NODE) else {
             return NodesRead::Cut;
         };
         ascending = both(ascending, node == i);
@@ -73,24 +82,16 @@ fn read_wanted(file: &[u8], from: usize, listed: bool, n: u32) -> WantedRead
     if !listed {
         return WantedRead::Read(n, from, true);
     }
-    let Field::Value(count, nodes_at) = crate::fields::read_field(file, from, 2) else {
-        return WantedRead::Refused(9, place(file.len()));
+    let Field::Value(count, nodes_at) = fields::read_field(file, from, fields::NODE) else {
+        return WantedRead::Refused(grounds::CUT, fields::place(file.len()));
     };
     if MOST_WANTED < count {
-        return WantedRead::Refused(5, MOST_WANTED);
+        return WantedRead::Refused(grounds::WANTED, MOST_WANTED);
     }
     let NodesRead::Read(next, ascending) = check_nodes(file, nodes_at, count) else {
-        return WantedRead::Refused(9, place(file.len()));
+        return WantedRead::Refused(grounds::CUT, fields::place(file.len()));
     };
     WantedRead::Read(count, next, both(count == n, ascending))
-}
-
-// An offset of the file as a place.
-fn place(offset: usize) -> u32
-    requires { ⌜ offset < 65536 ⌝ }
-    ensures { λ r. ⌜ r ≡ offset ⌝ }
-{
-    offset as u32
 }
 
 // The bit maps that a header may not have: bits 3 to 7, or no node count.
@@ -98,7 +99,7 @@ fn forbidden(bits: u8) -> bool
     ensures { λ r. ⌜ r ≡ (ltb 7 bits || not (has 1 bits)) ⌝ }
 {
     match bits {
-        0..=7 => !crate::arcs::stands(1, bits),
+        0..=7 => !arcs::stands(COUNT, bits),
         8..=255 => true,
     }
 }
@@ -118,30 +119,31 @@ pub fn read_header(file: &[u8]) -> HeaderRead
     ensures { λ r. ⌜ Header-says r (now (file .entry)) ⌝ }
 {
     if file.len() == 0 {
-        return HeaderRead::Refused(9, 0);
+        return HeaderRead::Refused(grounds::CUT, 0);
     }
     let bits = file[0];
     if forbidden(bits) {
-        return HeaderRead::Refused(10, 0);
+        return HeaderRead::Refused(grounds::BIT_MAP, 0);
     }
-    let Field::Value(n, origin_at) = crate::fields::read_field(file, 1, 2) else {
-        return HeaderRead::Refused(9, place(file.len()));
+    let Field::Value(n, origin_at) = fields::read_field(file, 1, fields::NODE) else {
+        return HeaderRead::Refused(grounds::CUT, fields::place(file.len()));
     };
     if bad_count(n) {
-        return HeaderRead::Refused(1, 0);
+        return HeaderRead::Refused(grounds::NODES, 0);
     }
-    let has_origin = crate::arcs::stands(2, bits);
-    let Field::Value(origin, wanted_at) = crate::fields::read_optional(file, origin_at, 2, has_origin, 0) else {
-        return HeaderRead::Refused(9, place(file.len()));
+    let has_origin = arcs::stands(ORIGIN, bits);
+    let Field::Value(origin, wanted_at) = fields::read_optional(file, origin_at, fields::NODE, has_origin, 0) else {
+        return HeaderRead::Refused(grounds::CUT, fields::place(file.len()));
     };
-    let listed = crate::arcs::stands(4, bits);
+    let listed = arcs::stands(WANTED, bits);
     match read_wanted(file, wanted_at, listed, n) {
         WantedRead::Refused(number, at) => HeaderRead::Refused(number, at),
         WantedRead::Read(wanted, next, all) => {
-            if bits != crate::arcs::bits_of(true, origin != 0, !all) {
-                return HeaderRead::Refused(12, 0);
+            if bits != arcs::bits_of(true, origin != 0, !all) {
+                return HeaderRead::Refused(grounds::NEEDLESS, 0);
             }
-            HeaderRead::Read(Header { n, origin: origin as u16, wanted, listed, next })
+            let origin = origin as u16;
+            HeaderRead::Read(Header { n, origin, wanted, listed, next })
         }
     }
 }
@@ -154,7 +156,7 @@ fn fill_nodes(file: &[u8], from: usize, count: u32, wanted: &mut [u16])
     let mut at = from;
     let mut i: u32 = 0;
     while i < count {
-        let Field::Value(node, next) = crate::fields::read_field(file, at, 2) else {
+        let Field::Value(node, next) = fields::read_field(file, at, fields::NODE) else {
             return;
         };
         wanted[i as usize] = node as u16;

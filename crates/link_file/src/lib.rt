@@ -2,6 +2,7 @@
 // specs/Entries.antt what the two entries answer.
 mod arcs;
 mod fields;
+mod grounds;
 mod header;
 mod records;
 mod writer;
@@ -36,7 +37,7 @@ pub struct Written {
     pub length: u32,
 }
 
-const MOST_WANTED: usize = 1024;
+const MOST_WANTED: usize = header::MOST_WANTED as usize;
 
 fn not_read(number: u32, place: u32) -> TableRead
     ensures { λ r. ⌜ r ≡ read-answer (refusal number place) (content 0 0 [] []) ⌝ }
@@ -66,7 +67,7 @@ pub fn read_link_file(file: &[u8], tails: &mut [u16], heads: &mut [u16], lengths
     ensures { λ r. ⌜ Read-says (now (file .entry)) (now (tails .entry)) (now (heads .entry)) (now (lengths .entry)) (now (wanted .entry)) (now (tails .exit)) (now (heads .exit)) (now (lengths .exit)) (now (wanted .exit)) r ⌝ }
 {
     if short(tails.len(), heads.len(), lengths.len(), wanted.len()) {
-        return not_read(3, 0);
+        return not_read(grounds::BUFFERS, 0);
     }
     match header::read_header(file) {
         HeaderRead::Refused(number, place) => not_read(number, place),
@@ -109,20 +110,21 @@ pub fn write_link_file(n: u32, origin: u16, tails: &[u16], heads: &[u16], length
     ensures { λ r. ⌜ Write-says n origin (now (tails .entry)) (now (heads .entry)) (now (lengths .entry)) (now (wanted .entry)) (now (output .entry)) (now (output .exit)) r ⌝ }
 {
     if header::bad_count(n) {
-        return not_written(1, 0);
+        return not_written(grounds::NODES, 0);
     }
     if bad_columns(tails.len(), heads.len(), lengths.len()) {
-        return not_written(2, 0);
+        return not_written(grounds::ARCS, 0);
     }
     if MOST_WANTED < wanted.len() {
-        return not_written(5, MOST_WANTED as u32);
+        return not_written(grounds::WANTED, header::MOST_WANTED);
     }
     let bits = writer::header_bits(n, origin, wanted);
     let size = writer::header_size(bits, wanted.len()) + writer::records_size(tails, heads, lengths);
     if output.len() < size {
-        return not_written(13, 0);
+        return not_written(grounds::ROOM, 0);
     }
     let at = writer::write_header(n, origin, wanted, bits, output);
     writer::write_records(tails, heads, lengths, at, output);
-    Written { number: 0, place: 0, length: size as u32 }
+    let length = size as u32;
+    Written { number: 0, place: 0, length }
 }

@@ -1,7 +1,10 @@
 // Reading the records of arcs.
+use crate::arcs;
 use crate::arcs::Arc;
 use crate::arcs::Previous;
+use crate::fields;
 use crate::fields::Field;
+use crate::grounds;
 
 ghost use mathlib.Core.Path.{_≡_};
 ghost use Prim.Native.Nat.{_≤_, _<_};
@@ -15,14 +18,6 @@ pub enum RecordRead {
     Refused(u32, u32),
 }
 
-// 9: the file is cut; the place is its length.
-fn cut(length: usize) -> RecordRead
-    requires { ⌜ length < 65536 ⌝ }
-    ensures { λ r. ⌜ r ≡ RecordRead.Refused 9 length ⌝ }
-{
-    RecordRead::Refused(9, length as u32)
-}
-
 // The record at the start of a part of the file, which begins at an offset of the file.
 pub fn read_record(part: &[u8], at: usize, previous: Previous) -> RecordRead
     requires { ⌜ (0 < length (now part)) × (at < 65000) ⌝ }
@@ -30,30 +25,33 @@ pub fn read_record(part: &[u8], at: usize, previous: Previous) -> RecordRead
 {
     let bits = part[0];
     let start = at as u32;
-    if crate::arcs::forbidden(previous, bits) {
-        return RecordRead::Refused(10, start);
+    if arcs::forbidden(previous, bits) {
+        return RecordRead::Refused(grounds::BIT_MAP, start);
     }
-    let absent = crate::arcs::implied(previous);
-    let has_tail = crate::arcs::stands(1, bits);
-    let Field::Value(tail, head_at) = crate::fields::read_optional(part, 1, 2, has_tail, absent.tail) else {
-        return cut(at + part.len());
+    let absent = arcs::implied(previous);
+    let has_tail = arcs::stands(arcs::TAIL, bits);
+    let Field::Value(tail, head_at) = fields::read_optional(part, 1, fields::NODE, has_tail, absent.tail) else {
+        return RecordRead::Refused(grounds::CUT, fields::place(at + part.len()));
     };
-    let has_head = crate::arcs::stands(2, bits);
-    let Field::Value(head, length_at) = crate::fields::read_optional(part, head_at, 2, has_head, absent.head) else {
-        return cut(at + part.len());
+    let has_head = arcs::stands(arcs::HEAD, bits);
+    let Field::Value(head, length_at) = fields::read_optional(part, head_at, fields::NODE, has_head, absent.head) else {
+        return RecordRead::Refused(grounds::CUT, fields::place(at + part.len()));
     };
-    let has_length = crate::arcs::stands(4, bits);
-    let Field::Value(length, end) = crate::fields::read_optional(part, length_at, 4, has_length, absent.length) else {
-        return cut(at + part.len());
+    let has_length = arcs::stands(arcs::LENGTH, bits);
+    let Field::Value(length, end) = fields::read_optional(part, length_at, fields::LENGTH, has_length, absent.length) else {
+        return RecordRead::Refused(grounds::CUT, fields::place(at + part.len()));
     };
-    if 65535 < head {
-        return RecordRead::Refused(11, start);
+    if arcs::LAST_HEAD < head {
+        return RecordRead::Refused(grounds::HEAD, start);
     }
-    let arc = Arc { tail: tail as u16, head: head as u16, length };
-    if bits != crate::arcs::record_bits(previous, arc) {
-        return RecordRead::Refused(12, start);
+    let near = tail as u16;
+    let far = head as u16;
+    let arc = Arc { tail: near, head: far, length };
+    if bits != arcs::record_bits(previous, arc) {
+        return RecordRead::Refused(grounds::NEEDLESS, start);
     }
-    RecordRead::Record(arc, at + end)
+    let next = at + end;
+    RecordRead::Record(arc, next)
 }
 
 // How many records there are, or the first refusal.
@@ -74,7 +72,7 @@ pub fn count_records(file: &[u8], start: usize) -> Counted
     let mut previous = Previous::Nothing;
     while at < file.len() {
         if count == MOST {
-            return Counted::Refused(2, MOST);
+            return Counted::Refused(grounds::ARCS, MOST);
         }
         match read_record(&file[at..], at, previous) {
             RecordRead::Record(arc, next) => {

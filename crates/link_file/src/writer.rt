@@ -1,6 +1,9 @@
 // Writing a table as a link file: the size of each part, and its bytes.
+use crate::arcs;
 use crate::arcs::Arc;
 use crate::arcs::Previous;
+use crate::fields;
+use crate::header;
 
 ghost use mathlib.Core.Bool.{not, _||_, _&&_, cond};
 ghost use mathlib.Core.Option.{none};
@@ -23,9 +26,9 @@ fn field_size(stands: bool, width: usize) -> usize
 fn record_size(bits: u8) -> usize
     ensures { λ r. ⌜ Record-sized bits r ⌝ }
 {
-    let tail = field_size(crate::arcs::stands(1, bits), 2);
-    let head = field_size(crate::arcs::stands(2, bits), 2);
-    let length = field_size(crate::arcs::stands(4, bits), 4);
+    let tail = field_size(arcs::stands(arcs::TAIL, bits), fields::NODE);
+    let head = field_size(arcs::stands(arcs::HEAD, bits), fields::NODE);
+    let length = field_size(arcs::stands(arcs::LENGTH, bits), fields::LENGTH);
     1 + (tail + (head + length))
 }
 
@@ -46,7 +49,7 @@ pub fn records_size(tails: &[u16], heads: &[u16], lengths: &[u32]) -> usize
     let mut i = 0;
     while i < tails.len() {
         let arc = arc_at(tails, heads, lengths, i);
-        size += record_size(crate::arcs::record_bits(previous, arc));
+        size += record_size(arcs::record_bits(previous, arc));
         previous = Previous::Record(arc);
         i += 1;
     }
@@ -58,14 +61,14 @@ fn write_record(output: &mut [u8], at: usize, previous: Previous, arc: Arc) -> u
     requires { ⌜ at + length (record-bytes (arc-before previous) (arc-of arc)) ≤ length (now output) ⌝ }
     ensures { λ r. ⌜ Put (now (output .entry)) at (record-bytes (arc-before previous) (arc-of arc)) r (now (output .exit)) ⌝ }
 {
-    let bits = crate::arcs::record_bits(previous, arc);
+    let bits = arcs::record_bits(previous, arc);
     output[at] = bits;
-    let has_tail = crate::arcs::stands(1, bits);
-    let head_at = crate::fields::put_optional(output, at + 1, 2, has_tail, crate::arcs::wide(arc.tail));
-    let has_head = crate::arcs::stands(2, bits);
-    let length_at = crate::fields::put_optional(output, head_at, 2, has_head, crate::arcs::wide(arc.head));
-    let has_length = crate::arcs::stands(4, bits);
-    crate::fields::put_optional(output, length_at, 4, has_length, arc.length)
+    let has_tail = arcs::stands(arcs::TAIL, bits);
+    let head_at = fields::put_optional(output, at + 1, fields::NODE, has_tail, arcs::wide(arc.tail));
+    let has_head = arcs::stands(arcs::HEAD, bits);
+    let length_at = fields::put_optional(output, head_at, fields::NODE, has_head, arcs::wide(arc.head));
+    let has_length = arcs::stands(arcs::LENGTH, bits);
+    fields::put_optional(output, length_at, fields::LENGTH, has_length, arc.length)
 }
 
 // Puts all records.
@@ -94,7 +97,7 @@ fn is_all(n: u32, wanted: &[u16]) -> bool
     }
     let mut i: u32 = 0;
     while i < n {
-        if crate::arcs::wide(wanted[i as usize]) != i {
+        if arcs::wide(wanted[i as usize]) != i {
             return false;
         }
         i += 1;
@@ -107,7 +110,7 @@ pub fn header_bits(n: u32, origin: u16, wanted: &[u16]) -> u8
     requires { ⌜ n ≤ most-nodes ⌝ }
     ensures { λ r. ⌜ r ≡ header-bits n origin (now (wanted .entry)) ⌝ }
 {
-    crate::arcs::bits_of(true, origin != 0, !is_all(n, wanted))
+    arcs::bits_of(true, origin != 0, !is_all(n, wanted))
 }
 
 // The size of a header with this bit map and so many wanted nodes.
@@ -115,8 +118,8 @@ pub fn header_size(bits: u8, wanted: usize) -> usize
     requires { ⌜ wanted ≤ most-wanted ⌝ }
     ensures { λ r. ⌜ Header-sized bits wanted r ⌝ }
 {
-    let origin = field_size(crate::arcs::stands(2, bits), 2);
-    let list = field_size(crate::arcs::stands(4, bits), 2 + 2 * wanted);
+    let origin = field_size(arcs::stands(header::ORIGIN, bits), fields::NODE);
+    let list = field_size(arcs::stands(header::WANTED, bits), 2 + 2 * wanted);
     3 + (origin + list)
 }
 
@@ -128,7 +131,7 @@ fn write_nodes(wanted: &[u16], start: usize, output: &mut [u8]) -> usize
     let mut at = start;
     let mut i = 0;
     while i < wanted.len() {
-        at = crate::fields::put_field(output, at, 2, crate::arcs::wide(wanted[i]));
+        at = fields::put_field(output, at, fields::NODE, arcs::wide(wanted[i]));
         i += 1;
     }
     at
@@ -142,7 +145,7 @@ fn write_wanted(output: &mut [u8], at: usize, stands: bool, wanted: &[u16]) -> u
     if !stands {
         return at;
     }
-    let nodes_at = crate::fields::put_field(output, at, 2, wanted.len() as u32);
+    let nodes_at = fields::put_field(output, at, fields::NODE, wanted.len() as u32);
     write_nodes(wanted, nodes_at, output)
 }
 
@@ -152,9 +155,9 @@ pub fn write_header(n: u32, origin: u16, wanted: &[u16], bits: u8, output: &mut 
     ensures { λ r. ⌜ Put (now (output .entry)) 0 (header-bytes n origin (now (wanted .entry))) r (now (output .exit)) ⌝ }
 {
     output[0] = bits;
-    let origin_at = crate::fields::put_field(output, 1, 2, n);
-    let has_origin = crate::arcs::stands(2, bits);
-    let wanted_at = crate::fields::put_optional(output, origin_at, 2, has_origin, crate::arcs::wide(origin));
-    let listed = crate::arcs::stands(4, bits);
+    let origin_at = fields::put_field(output, 1, fields::NODE, n);
+    let has_origin = arcs::stands(header::ORIGIN, bits);
+    let wanted_at = fields::put_optional(output, origin_at, fields::NODE, has_origin, arcs::wide(origin));
+    let listed = arcs::stands(header::WANTED, bits);
     write_wanted(output, wanted_at, listed, wanted)
 }

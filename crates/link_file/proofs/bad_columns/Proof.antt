@@ -2,18 +2,13 @@
 use borrow.Author.Tests.{eq-eqb, ne-eqb}
 use Rattle.link_file.proofs.bad_columns.Statement.{statement}
 use Rattle.link_file.proofs.bad_columns.Tie as tie
-use Rattle.link_file.proofs.bad_columns.Reads as reads
-use Rattle.link_file.proofs.bad_columns.Lts as lts
 
--- src/lib.rt:98:9
 returns : tie.Need-returns
 returns c = let a = c .before .args in rw (ne-eqb (a .tails) (a .heads) (c .if1 .taken))
 
--- src/lib.rt:101:9
 returns-2 : tie.Need-returns-2
 returns-2 c = let a = c .before .before .args in rw (eq-eqb (a .tails) (a .heads) (c .before .if1 .left), ne-eqb (a .heads) (a .lengths) (c .if2 .taken))
 
--- src/lib.rt:94:1
 returns-3 : tie.Need-returns-3
 returns-3 c = let a = c .before .before .args in rw (eq-eqb (a .tails) (a .heads) (c .before .if1 .left), eq-eqb (a .heads) (a .lengths) (c .if2 .left))
 

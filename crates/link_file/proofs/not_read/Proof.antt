@@ -5,10 +5,7 @@ use Rattle.link_file.specs.Format.{content}
 use Rattle.link_file.specs.Entries.{read-answer}
 use Rattle.link_file.proofs.not_read.Statement.{statement}
 use Rattle.link_file.proofs.not_read.Tie as tie
-use Rattle.link_file.proofs.not_read.Reads as reads
-use Rattle.link_file.proofs.not_read.Lts as lts
 
--- src/lib.rt:30:1
 returns : tie.Need-returns
 unfolding read-answer refusal content
 returns c = refl

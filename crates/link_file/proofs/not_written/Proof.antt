@@ -4,10 +4,7 @@ use Rattle.table.specs.Grounds.{refusal}
 use Rattle.link_file.specs.Entries.{write-answer}
 use Rattle.link_file.proofs.not_written.Statement.{statement}
 use Rattle.link_file.proofs.not_written.Tie as tie
-use Rattle.link_file.proofs.not_written.Reads as reads
-use Rattle.link_file.proofs.not_written.Lts as lts
 
--- src/lib.rt:87:1
 returns : tie.Need-returns
 unfolding write-answer refusal
 returns c = refl

@@ -13,14 +13,6 @@ use Rattle.link_file.specs.declared.records.Counted.the-variants.{Arcs}
 use Rattle.link_file.proofs.Whole.{Roomy, roomy, reading-short, reading-roomy, none-read, header-refuses, records-refuse, tally-accepted, all-read}
 use Rattle.link_file.proofs.read_link_file.Statement.{statement}
 use Rattle.link_file.proofs.read_link_file.Tie as tie
-use Rattle.link_file.proofs.read_link_file.Reads as reads
-use Rattle.link_file.proofs.read_link_file.Lts as lts
-use Rattle.link_file.proofs.header.fill_wanted.Reads as fill-wanted-reads
-use Rattle.link_file.proofs.header.read_header.Reads as read-header-reads
-use Rattle.link_file.proofs.not_read.Reads as not-read-reads
-use Rattle.link_file.proofs.records.count_records.Reads as count-records-reads
-use Rattle.link_file.proofs.records.fill_records.Reads as fill-records-reads
-use Rattle.link_file.proofs.short.Reads as short-reads
 
 -- where the buffers were found long enough
 module _ (c : tie.Else1) where
@@ -49,57 +41,44 @@ counted : (c : tie.After-arcs) → let h = c .before .before .before .before in
     tally 0 (records-from (file (h .before .before .before)) (h .header .given .0 .0 .next)) ≡ Arcs (c .arcs .given .0 .0)
 counted c = sym (c .before .before .count-records .ensures) ∙ c .arcs .given .1
 
--- src/lib.rt:57:8
 short-requires : tie.Need-short-requires
 short-requires c κs = search needs
 
--- src/lib.rt:58:9
 not-read-requires : tie.Need-not-read-requires
 not-read-requires c κs = search needs
 
--- src/lib.rt:58:9
 returns : tie.Need-returns
 returns c = none-read (reading-short _ _ _ _ _ (sym (c .before .before .short .ensures) ∙ c .before .if1 .taken)) (c .not-read .ensures)
 
--- src/lib.rt:60:11
 read-header-requires : tie.Need-read-header-requires
 read-header-requires c κs = search needs
 
--- src/lib.rt:61:29
 enum-known-number : tie.Need-enum-known-number
 enum-known-number c = search needs
 
--- src/lib.rt:61:47
 not-read-requires-2 : tie.Need-not-read-requires-2
 not-read-requires-2 c κs = search needs
 
--- src/lib.rt:62:26
 enum-known-header : tie.Need-enum-known-header
 enum-known-header c = search needs
 
--- src/lib.rt:64:19
 count-records-requires : tie.Need-count-records-requires
 count-records-requires c κs = let g = headed (c .before) in (g .inside, g .short)
 
--- src/lib.rt:65:34
 enum-known-number-2 : tie.Need-enum-known-number-2
 enum-known-number-2 c = search needs
 
--- src/lib.rt:65:52
 not-read-requires-3 : tie.Need-not-read-requires-3
 not-read-requires-3 c κs = search needs
 
--- src/lib.rt:66:31
 enum-known-arcs : tie.Need-enum-known-arcs
 enum-known-arcs c = search needs
 
--- src/lib.rt:67:21
 fill-wanted-requires : tie.Need-fill-wanted-requires
 fill-wanted-requires c κs =
     let h = c .before .before .before .before .before .before in
     (headed h, room (h .before .before .before) .wanted-room)
 
--- src/lib.rt:68:21
 fill-records-requires : tie.Need-fill-records-requires
 fill-records-requires c κs =
     let a = c .before .before .before .before .before .before .before .before in
@@ -114,37 +93,30 @@ fill-records-requires c κs =
     ; lengths-room = room e .lengths-room
     }
 
--- src/lib.rt:54:1
 returns-2 : tie.Need-returns-2
 unfolding Header-says
 returns-2 c =
     let e = c .before .before .before .before .before in
     none-read (all e ∙ header-refuses (file e) (rw (c .before .before .number .given .1) at (c .before .before .before .before .read-header .ensures))) (c .not-read2 .ensures)
 
--- src/lib.rt:54:1
 returns-3 : tie.Need-returns-3
 returns-3 c =
     let h = c .before .before .before .before .before .before in
     let e = h .before .before .before in
     none-read (all e ∙ records-refuse (file e) _ (headed h) (sym (c .before .before .before .before .count-records .ensures) ∙ c .before .before .number2 .given .1)) (c .not-read3 .ensures)
 
--- src/lib.rt:54:1
 same-length : tie.Need-same-length
 same-length c = search needs
 
--- src/lib.rt:54:1
 same-length-2 : tie.Need-same-length-2
 same-length-2 c = search needs
 
--- src/lib.rt:54:1
 same-length-3 : tie.Need-same-length-3
 same-length-3 c = search needs
 
--- src/lib.rt:54:1
 same-length-4 : tie.Need-same-length-4
 same-length-4 c = search needs
 
--- src/lib.rt:54:1
 returns-4 : tie.Need-returns-4
 returns-4 c =
     let a = c .before .before .before .before .before .before .before .before .before .before .before .before .before .before .before in

@@ -4,29 +4,23 @@ use Rattle.table.specs.Table.{most-arcs}
 use Rattle.link_file.specs.Entries.{too-short}
 use Rattle.link_file.proofs.short.Statement.{statement}
 use Rattle.link_file.proofs.short.Tie as tie
-use Rattle.link_file.proofs.short.Reads as reads
-use Rattle.link_file.proofs.short.Lts as lts
 
--- src/lib.rt:41:9
 returns : tie.Need-returns
 unfolding too-short
 returns c = rw (lt-ltb (c .before .args .tails) most-arcs (c .if1 .taken))
 
--- src/lib.rt:44:9
 returns-2 : tie.Need-returns-2
 unfolding too-short
 returns-2 c =
     let a = c .before .before .args in
     rw (le-ltb (a .tails) most-arcs (c .before .if1 .left), lt-ltb (a .heads) most-arcs (c .if2 .taken))
 
--- src/lib.rt:47:9
 returns-3 : tie.Need-returns-3
 unfolding too-short
 returns-3 c =
     let a = c .before .before .before .args in
     rw (le-ltb (a .tails) most-arcs (c .before .before .if1 .left), le-ltb (a .heads) most-arcs (c .before .if2 .left), lt-ltb (a .lengths) most-arcs (c .if3 .taken))
 
--- src/lib.rt:37:1
 returns-4 : tie.Need-returns-4
 unfolding too-short
 returns-4 c =

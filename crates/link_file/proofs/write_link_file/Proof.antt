@@ -18,16 +18,6 @@ use Rattle.link_file.proofs.Pieces.{put-kept}
 use Rattle.link_file.proofs.WriteWays.{equal-columns, file-size, none-written, refuses-count, refuses-columns, refuses-wanted, refuses-room, all-written}
 use Rattle.link_file.proofs.write_link_file.Statement.{statement}
 use Rattle.link_file.proofs.write_link_file.Tie as tie
-use Rattle.link_file.proofs.write_link_file.Reads as reads
-use Rattle.link_file.proofs.write_link_file.Lts as lts
-use Rattle.link_file.proofs.bad_columns.Reads as bad-columns-reads
-use Rattle.link_file.proofs.header.bad_count.Reads as bad-count-reads
-use Rattle.link_file.proofs.not_written.Reads as not-written-reads
-use Rattle.link_file.proofs.writer.header_bits.Reads as header-bits-reads
-use Rattle.link_file.proofs.writer.header_size.Reads as header-size-reads
-use Rattle.link_file.proofs.writer.records_size.Reads as records-size-reads
-use Rattle.link_file.proofs.writer.write_header.Reads as write-header-reads
-use Rattle.link_file.proofs.writer.write_records.Reads as write-records-reads
 
 -- the arguments
 module _ (s : tie.Start) where
@@ -66,29 +56,23 @@ size-is c =
     omega (arith, file-size (s .args .n) (s .args .origin) (ts s) (hs s) (ls s) (ws s) (out s), c .records-size .ensures .0,
       c .before .header-size .ensures .is (s .args .n) (s .args .origin) (ws s) refl (c .before .before .header-bits .ensures))
 
--- src/lib.rt:111:8
 bad-count-requires : tie.Need-bad-count-requires
 bad-count-requires c κs = search needs
 
--- src/lib.rt:112:9
 not-written-requires : tie.Need-not-written-requires
 not-written-requires c κs = search needs
 
--- src/lib.rt:112:9
 returns : tie.Need-returns
 returns c =
     let o = out (c .before .before .before .before .before .before .before .before) in
     none-written _ _ _ _ _ _ o 1 0 refl (refuses-count _ _ _ _ _ _ o (sym (c .before .before .bad-count .ensures) ∙ c .before .if1 .taken)) (c .not-written .ensures)
 
--- src/lib.rt:114:8
 bad-columns-requires : tie.Need-bad-columns-requires
 bad-columns-requires c κs = search needs
 
--- src/lib.rt:115:9
 not-written-requires-2 : tie.Need-not-written-requires-2
 not-written-requires-2 c κs = search needs
 
--- src/lib.rt:115:9
 returns-2 : tie.Need-returns-2
 unfolding columns-bad
 returns-2 c =
@@ -97,15 +81,9 @@ returns-2 c =
     none-written _ _ _ _ _ _ o 2 0 refl
     (refuses-columns _ _ _ _ _ _ o (fine e) (sym (c .before .before .bad-columns .ensures) ∙ c .before .if2 .taken)) (c .not-written2 .ensures)
 
--- src/lib.rt:118:31
-cast-not-written : tie.Need-cast-not-written
-cast-not-written c = search needs
-
--- src/lib.rt:118:9
 not-written-requires-3 : tie.Need-not-written-requires-3
 not-written-requires-3 c κs = search needs
 
--- src/lib.rt:118:9
 returns-3 : tie.Need-returns-3
 returns-3 c =
     let k = c .before .before in
@@ -113,27 +91,21 @@ returns-3 c =
     let o = out (e .before .before .before .before .before .before .before) in
     none-written _ _ _ _ _ _ o 5 1024 refl (refuses-wanted _ _ _ _ _ _ o (fine e) (equal k) (c .before .if3 .taken)) (c .not-written3 .ensures)
 
--- src/lib.rt:120:9
 header-bits-requires : tie.Need-header-bits-requires
 header-bits-requires c κs = low (c .before .before .before)
 
--- src/lib.rt:121:16
 header-size-requires : tie.Need-header-size-requires
 header-size-requires c κs = search needs
 
--- src/lib.rt:121:58
 records-size-requires : tie.Need-records-size-requires
 records-size-requires c κs = equal-columns _ _ _ (equal (c .before .before .before))
 
--- src/lib.rt:121:16
 add-size : tie.Need-add-size
 add-size c = search needs
 
--- src/lib.rt:123:9
 not-written-requires-4 : tie.Need-not-written-requires-4
 not-written-requires-4 c κs = search needs
 
--- src/lib.rt:123:9
 returns-4 : tie.Need-returns-4
 returns-4 c =
     let r = c .before .before in
@@ -143,7 +115,6 @@ returns-4 c =
     none-written _ _ _ _ _ _ o 13 0 refl
     (refuses-room _ _ _ _ _ _ o (fine e) (equal k) (r .before .before .before .if3 .left) (omega (arith, size-is r, c .before .if4 .taken))) (c .not-written4 .ensures)
 
--- src/lib.rt:125:9
 write-header-requires : tie.Need-write-header-requires
 write-header-requires c κs =
     let r = c .before .before in
@@ -155,7 +126,6 @@ write-header-requires c κs =
     ; few = e .if3 .left
     }
 
--- src/lib.rt:126:5
 write-records-requires : tie.Need-write-records-requires
 write-records-requires c κs =
     let h = c .before .before .before in
@@ -166,15 +136,12 @@ write-records-requires c κs =
     , omega (arith, size-is r, h .before .before .if4 .left, h .write-header .ensures .on, put-kept (h .write-header .ensures),
       file-size (s .args .n) (s .args .origin) (ts s) (hs s) (ls s) (ws s) (out s)))
 
--- src/lib.rt:127:44
-cast-t23 : tie.Need-cast-t23
-cast-t23 c = search needs
+cast-length : tie.Need-cast-length
+cast-length c = search needs
 
--- src/lib.rt:108:1
 same-length : tie.Need-same-length
 same-length c = search needs
 
--- src/lib.rt:108:1
 returns-5 : tie.Need-returns-5
 returns-5 c =
     let h = c .before .before .before .before .before .before in
@@ -193,7 +160,6 @@ write-link-file-spec =
     bad-columns-requires
     not-written-requires-2
     returns-2
-    cast-not-written
     not-written-requires-3
     returns-3
     header-bits-requires
@@ -204,6 +170,6 @@ write-link-file-spec =
     returns-4
     write-header-requires
     write-records-requires
-    cast-t23
+    cast-length
     same-length
     returns-5)

@@ -4,31 +4,22 @@ use native.Mathlib.Omega.{arith}
 use Rattle.link_file.specs.Format.{bit-map}
 use Rattle.link_file.proofs.arcs.bits_of.Statement.{statement}
 use Rattle.link_file.proofs.arcs.bits_of.Tie as tie
-use Rattle.link_file.proofs.arcs.bits_of.Reads as reads
-use Rattle.link_file.proofs.arcs.bits_of.Lts as lts
-use Rattle.link_file.proofs.arcs.bit.Reads as bit-reads
 
--- src/arcs.rt:38:5
 bit-requires : tie.Need-bit-requires
 bit-requires c κs = search needs
 
--- src/arcs.rt:38:21
 bit-requires-2 : tie.Need-bit-requires-2
 bit-requires-2 c κs = search needs
 
--- src/arcs.rt:38:5
 add-result : tie.Need-add-result
 add-result c = omega arith
 
--- src/arcs.rt:38:38
 bit-requires-3 : tie.Need-bit-requires-3
 bit-requires-3 c κs = search needs
 
--- src/arcs.rt:38:5
 add-result-2 : tie.Need-add-result-2
 add-result-2 c = omega arith
 
--- src/arcs.rt:35:1
 returns : tie.Need-returns
 unfolding bit-map
 returns c = rw (c .before .before .bit .ensures .0, c .before .bit2 .ensures .0, c .bit3 .ensures .0)

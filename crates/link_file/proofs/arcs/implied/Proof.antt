@@ -8,36 +8,26 @@ use Rattle.link_file.specs.Reading.{implied}
 use Rattle.link_file.specs.Says.{arc-before, arc-implied, arc-of}
 use Rattle.link_file.proofs.arcs.implied.Statement.{statement}
 use Rattle.link_file.proofs.arcs.implied.Tie as tie
-use Rattle.link_file.proofs.arcs.implied.Reads as reads
-use Rattle.link_file.proofs.arcs.implied.Lts as lts
-use Rattle.link_file.proofs.arcs.wide.Reads as wide-reads
 
--- src/arcs.rt:74:30
 enum-told : tie.Need-enum-told
 enum-told c = search needs
 
--- src/arcs.rt:75:26
 enum-known-previous : tie.Need-enum-known-previous
 enum-known-previous c = search needs
 
--- src/arcs.rt:75:47
 wide-requires : tie.Need-wide-requires
 wide-requires c κs = search needs
 
--- src/arcs.rt:75:67
 wide-requires-2 : tie.Need-wide-requires-2
 wide-requires-2 c κs = search needs
 
--- src/arcs.rt:75:67
 add-t6 : tie.Need-add-t6
 add-t6 c = search needs
 
--- src/arcs.rt:70:1
 returns : tie.Need-returns
 unfolding implied arc-before arc-implied
 returns c = (rw (c .enum-told .given .1), omega arith)
 
--- src/arcs.rt:70:1
 returns-2 : tie.Need-returns-2
 unfolding implied arc-before arc-implied arc-of arc
 returns-2 c =

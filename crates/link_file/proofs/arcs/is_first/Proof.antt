@@ -3,23 +3,17 @@ use borrow.Author.Needs.{needs}
 use Rattle.link_file.specs.Says.{first, arc-before}
 use Rattle.link_file.proofs.arcs.is_first.Statement.{statement}
 use Rattle.link_file.proofs.arcs.is_first.Tie as tie
-use Rattle.link_file.proofs.arcs.is_first.Reads as reads
-use Rattle.link_file.proofs.arcs.is_first.Lts as lts
 
--- src/arcs.rt:83:30
 enum-told : tie.Need-enum-told
 enum-told c = search needs
 
--- src/arcs.rt:84:32
 enum-told-2 : tie.Need-enum-told-2
 enum-told-2 c = search needs
 
--- src/arcs.rt:79:1
 returns : tie.Need-returns
 unfolding first arc-before
 returns c = rw (c .enum-told .given .1)
 
--- src/arcs.rt:79:1
 returns-2 : tie.Need-returns-2
 unfolding first arc-before
 returns-2 c = rw (c .enum-told2 .given .1)

@@ -7,45 +7,32 @@ use Rattle.link_file.specs.Format.{record-bits}
 use Rattle.link_file.specs.Says.{arc-before, arc-of}
 use Rattle.link_file.proofs.arcs.record_bits.Statement.{statement}
 use Rattle.link_file.proofs.arcs.record_bits.Tie as tie
-use Rattle.link_file.proofs.arcs.record_bits.Reads as reads
-use Rattle.link_file.proofs.arcs.record_bits.Lts as lts
-use Rattle.link_file.proofs.arcs.bits_of.Reads as bits-of-reads
-use Rattle.link_file.proofs.arcs.wide.Reads as wide-reads
 
--- src/arcs.rt:54:30
 enum-told : tie.Need-enum-told
 enum-told c = search needs
 
--- src/arcs.rt:54:30
 bits-of-requires : tie.Need-bits-of-requires
 bits-of-requires c κs = search needs
 
--- src/arcs.rt:55:26
 enum-known-previous : tie.Need-enum-known-previous
 enum-known-previous c = search needs
 
--- src/arcs.rt:56:24
 wide-requires : tie.Need-wide-requires
 wide-requires c κs = search needs
 
--- src/arcs.rt:56:24
 add-next : tie.Need-add-next
 add-next c = search needs
 
--- src/arcs.rt:57:17
 wide-requires-2 : tie.Need-wide-requires-2
 wide-requires-2 c κs = search needs
 
--- src/arcs.rt:58:13
 bits-of-requires-2 : tie.Need-bits-of-requires-2
 bits-of-requires-2 c κs = search needs
 
--- src/arcs.rt:50:1
 returns : tie.Need-returns
 unfolding record-bits arc-before
 returns c = c .bits-of .ensures ∙ rw (c .before .enum-told .given .1)
 
--- src/arcs.rt:50:1
 returns-2 : tie.Need-returns-2
 unfolding record-bits arc-before arc-of arc
 returns-2 c =

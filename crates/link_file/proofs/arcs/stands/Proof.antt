@@ -3,14 +3,10 @@ use borrow.Author.Needs.{needs}
 use Rattle.link_file.specs.Format.{has}
 use Rattle.link_file.proofs.arcs.stands.Statement.{statement}
 use Rattle.link_file.proofs.arcs.stands.Tie as tie
-use Rattle.link_file.proofs.arcs.stands.Reads as reads
-use Rattle.link_file.proofs.arcs.stands.Lts as lts
 
--- src/arcs.rt:46:5
 div-result : tie.Need-div-result
 div-result c = search needs
 
--- src/arcs.rt:42:1
 returns : tie.Need-returns
 unfolding has
 returns c = search needs

@@ -5,8 +5,6 @@ use Rattle.link_file.proofs.Numbers.{length-bytes}
 use Rattle.link_file.proofs.Putting.{Putting, putting-begins, putting-next, putting-done}
 use Rattle.link_file.proofs.fields.put_field.Statement.{statement}
 use Rattle.link_file.proofs.fields.put_field.Tie as tie
-use Rattle.link_file.proofs.fields.put_field.Reads as reads
-use Rattle.link_file.proofs.fields.put_field.Lts as lts
 
 abbrev Inv-loop : tie.InvT-loop
 Inv-loop output₀ at width value left₀ i₀ output left i = Putting output₀ at width value output left i
@@ -14,43 +12,33 @@ Inv-loop output₀ at width value left₀ i₀ output left i = Putting output₀
 abbrev μ-loop : tie.MeasureT-loop
 μ-loop output₀ at width value left₀ i₀ output left i = width - i
 
--- src/fields.rt:57:5
 loop-holds : tie.Need-loop-holds Inv-loop μ-loop
 loop-holds c = putting-begins _ _ _ _
 
--- src/fields.rt:58:26
 cast-output : tie.Need-cast-output Inv-loop μ-loop
 cast-output c = omega arith
 
--- src/fields.rt:58:16
 add-output : tie.Need-add-output Inv-loop μ-loop
 add-output c = omega arith
 
--- src/fields.rt:58:9
 slice-write-output : tie.Need-slice-write-output Inv-loop μ-loop
 slice-write-output c = omega arith
 
--- src/fields.rt:60:9
 add-i : tie.Need-add-i Inv-loop μ-loop
 add-i c = omega arith
 
--- src/fields.rt:57:5
 loop-less : tie.Need-loop-less Inv-loop μ-loop
 loop-less c = omega arith
 
--- src/fields.rt:57:5
 loop-again : tie.Need-loop-again Inv-loop μ-loop
 loop-again c = putting-next (c .before .loop .inv) (c .loop-test .taken)
 
--- src/fields.rt:62:5
 add-result : tie.Need-add-result Inv-loop μ-loop
 add-result c = omega arith
 
--- src/fields.rt:51:1
 same-length : tie.Need-same-length Inv-loop μ-loop
 same-length c = c .before .loop .inv .column .kept
 
--- src/fields.rt:51:1
 returns : tie.Need-returns Inv-loop μ-loop
 returns c = let a = c .before .before .args in record { on = rw (length-bytes (a .width) (a .value)); is = putting-done (c .before .loop .inv) (c .loop-test .left) }
 

@@ -8,27 +8,20 @@ use Rattle.link_file.specs.Format.{field-bytes}
 use Rattle.link_file.proofs.Numbers.{length-bytes}
 use Rattle.link_file.proofs.fields.put_optional.Statement.{statement}
 use Rattle.link_file.proofs.fields.put_optional.Tie as tie
-use Rattle.link_file.proofs.fields.put_optional.Reads as reads
-use Rattle.link_file.proofs.fields.put_optional.Lts as lts
-use Rattle.link_file.proofs.fields.put_field.Reads as put-field-reads
 
--- src/fields.rt:71:9
 put-field-requires : tie.Need-put-field-requires
 unfolding field-bytes
 put-field-requires c κs =
     let s = c .before .before .before in
     omega (arith, rw (c .before .if1 .taken) at (s .pre), length-bytes (s .args .width) (s .args .value))
 
--- src/fields.rt:71:9
 same-length : tie.Need-same-length
 same-length c = search needs
 
--- src/fields.rt:71:9
 returns : tie.Need-returns
 unfolding field-bytes
 returns c = rw (c .before .before .before .before .if1 .taken) (c .before .before .put-field .ensures)
 
--- src/fields.rt:66:1
 returns-2 : tie.Need-returns-2
 unfolding field-bytes
 returns-2 c =

@@ -14,9 +14,6 @@ use Rattle.link_file.proofs.Numbers.{column-below}
 use Rattle.link_file.proofs.Parts.{Passed, passed-none, passed-next, passed-small, passed-all, field-got, field-ends}
 use Rattle.link_file.proofs.fields.read_field.Statement.{statement}
 use Rattle.link_file.proofs.fields.read_field.Tie as tie
-use Rattle.link_file.proofs.fields.read_field.Reads as reads
-use Rattle.link_file.proofs.fields.read_field.Lts as lts
-use Rattle.link_file.proofs.fields.wide.Reads as wide-reads
 
 abbrev Inv-loop : tie.InvT-loop
 Inv-loop part from width value₀ left₀ value left = Passed part from width value left
@@ -24,64 +21,51 @@ Inv-loop part from width value₀ left₀ value left = Passed part from width va
 abbrev μ-loop : tie.MeasureT-loop
 μ-loop part from width value₀ left₀ value left = left
 
--- src/fields.rt:25:8
 sub-if1 : tie.Need-sub-if1 Inv-loop μ-loop
 sub-if1 c = search needs
 
--- src/fields.rt:26:9
 returns : tie.Need-returns Inv-loop μ-loop
 unfolding Field-says
 returns c = let a = c .before .before .args in field-ends (now (a .part)) (a .from) (a .width) (omega arith) (c .if1 .taken)
 
--- src/fields.rt:30:5
 loop-holds : tie.Need-loop-holds Inv-loop μ-loop
 loop-holds c = passed-none _ _ _
 
--- src/fields.rt:31:9
 sub-left : tie.Need-sub-left Inv-loop μ-loop
 sub-left c = search needs
 
--- src/fields.rt:32:17
 mul-value : tie.Need-mul-value Inv-loop μ-loop
 mul-value c = 
     let s = c .before .before .before in
     omega (arith, passed-small (c .before .loop .inv) (c .loop-test .taken) (s .before .pre .1) (column-below w8 _ (s .shared-slice-known .given)))
 
--- src/fields.rt:32:41
 add-wide : tie.Need-add-wide Inv-loop μ-loop
 add-wide c = omega arith
 
--- src/fields.rt:32:36
 shared-slice-read-wide : tie.Need-shared-slice-read-wide Inv-loop μ-loop
 shared-slice-read-wide c = omega arith
 
--- src/fields.rt:32:31
 wide-requires : tie.Need-wide-requires Inv-loop μ-loop
 wide-requires c κs = search needs
 
--- src/fields.rt:32:17
 add-value : tie.Need-add-value Inv-loop μ-loop
 add-value c =
     let s = c .before .before .before .before .before in
     omega (arith, c .wide .ensures, c .before .shared-slice-known2 .given (s .before .args .from + (c .before .before .before .loop .left - 1)),
       passed-small (c .before .before .before .loop .inv) (c .before .before .loop-test .taken) (s .before .pre .1) (column-below w8 _ (s .shared-slice-known .given)))
 
--- src/fields.rt:30:5
 loop-less : tie.Need-loop-less Inv-loop μ-loop
 loop-less c = omega arith
 
--- src/fields.rt:30:5
 loop-again : tie.Need-loop-again Inv-loop μ-loop
 loop-again c =
     let l = c .before .before .before .loop in
     let s = c .before .before .before .before .before .before in
     rw (c .wide .ensures) (passed-next (l .inv) (c .before .before .loop-test .taken) (s .pre .0) (omega arith))
 
--- src/fields.rt:34:25
 add-t6 : tie.Need-add-t6 Inv-loop μ-loop
 add-t6 c = search needs
 
--- src/fields.rt:21:1
 returns-2 : tie.Need-returns-2 Inv-loop μ-loop
 unfolding Field-says
 returns-2 c =

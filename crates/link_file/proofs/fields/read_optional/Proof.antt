@@ -8,15 +8,10 @@ use Rattle.link_file.specs.Says.{Field-says}
 use Rattle.link_file.proofs.Parts.{field-wider, absent-got}
 use Rattle.link_file.proofs.fields.read_optional.Statement.{statement}
 use Rattle.link_file.proofs.fields.read_optional.Tie as tie
-use Rattle.link_file.proofs.fields.read_optional.Reads as reads
-use Rattle.link_file.proofs.fields.read_optional.Lts as lts
-use Rattle.link_file.proofs.fields.read_field.Reads as read-field-reads
 
--- src/fields.rt:43:9
 read-field-requires : tie.Need-read-field-requires
 read-field-requires c κs = search needs
 
--- src/fields.rt:43:9
 returns : tie.Need-returns
 unfolding optional
 returns c = 
@@ -25,7 +20,6 @@ returns c =
     rw (c .before .if1 .taken) λ (bound : ℕ) (h : 256 ^ a .width ≤ bound) (k : a .absent < bound).
     field-wider (c .read-field .result) (field (a .width)) (now (a .part)) (a .from) (a .width) (256 ^ a .width) bound h (c .read-field .ensures)
 
--- src/fields.rt:38:1
 returns-2 : tie.Need-returns-2
 unfolding Field-says
 returns-2 c =

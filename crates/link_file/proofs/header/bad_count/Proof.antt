@@ -2,14 +2,10 @@
 use borrow.Author.Tests.{eq-eqb, ne-eqb}
 use Rattle.link_file.proofs.header.bad_count.Statement.{statement}
 use Rattle.link_file.proofs.header.bad_count.Tie as tie
-use Rattle.link_file.proofs.header.bad_count.Reads as reads
-use Rattle.link_file.proofs.header.bad_count.Lts as lts
 
--- src/header.rt:111:9
 returns : tie.Need-returns
 returns c = rw (eq-eqb (c .before .args .n) 0 (c .if1 .taken))
 
--- src/header.rt:107:1
 returns-2 : tie.Need-returns-2
 returns-2 c = rw (ne-eqb (c .before .args .n) 0 (c .if1 .left))
 

@@ -10,10 +10,6 @@ use Rattle.link_file.proofs.Ways.{as-got, as-ends}
 use Rattle.link_file.proofs.Nodes.{Checking, checking-begins, checking-next, checking-done}
 use Rattle.link_file.proofs.header.check_nodes.Statement.{statement}
 use Rattle.link_file.proofs.header.check_nodes.Tie as tie
-use Rattle.link_file.proofs.header.check_nodes.Reads as reads
-use Rattle.link_file.proofs.header.check_nodes.Lts as lts
-use Rattle.link_file.proofs.fields.read_field.Reads as read-field-reads
-use Rattle.link_file.proofs.header.both.Reads as both-reads
 
 abbrev Inv-loop : tie.InvT-loop
 Inv-loop file from count at₀ ascending₀ i₀ at ascending i = Checking file from count at ascending i
@@ -26,42 +22,33 @@ node : (c : tie.After-node Inv-loop μ-loop) → let l = c .before .before .befo
     Got (field 2) (l .before .before .args .file .now) (l .loop .at) 2 65536 (c .node .given .0 .0) (c .node .given .0 .1 .0)
 node c = as-got (c .node .given .1) (c .before .before .read-field .ensures)
 
--- src/header.rt:55:5
 loop-holds : tie.Need-loop-holds Inv-loop μ-loop
 loop-holds c = checking-begins _ _ _ (c .before .pre .0)
 
--- src/header.rt:56:40
 read-field-requires : tie.Need-read-field-requires Inv-loop μ-loop
 read-field-requires c κs = (c .before .loop .inv .along .inside, omega arith)
 
--- src/header.rt:56:26
 enum-known-node : tie.Need-enum-known-node Inv-loop μ-loop
 enum-known-node c = search needs
 
--- src/header.rt:57:13
 enum-told : tie.Need-enum-told Inv-loop μ-loop
 enum-told c = search needs
 
--- src/header.rt:57:13
 returns : tie.Need-returns Inv-loop μ-loop
 unfolding Nodes-says
 returns c =
     let l = c .before .before .before .before in
     omega (arith, as-ends 65536 (c .enum-told .given .1) (c .before .before .read-field .ensures) .near, l .loop .inv .along .here, c .before .before .before .loop-test .taken)
 
--- src/header.rt:59:9
 both-requires : tie.Need-both-requires Inv-loop μ-loop
 both-requires c κs = search needs
 
--- src/header.rt:61:9
 add-i : tie.Need-add-i Inv-loop μ-loop
 add-i c = omega arith
 
--- src/header.rt:55:5
 loop-less : tie.Need-loop-less Inv-loop μ-loop
 loop-less c = omega arith
 
--- src/header.rt:55:5
 loop-again : tie.Need-loop-again Inv-loop μ-loop
 loop-again c =
     let l = c .before .before .before .before .before .before in
@@ -69,7 +56,6 @@ loop-again c =
     let v = field-value g in
     rw (c .both .ensures, v .0) (checking-next (l .loop .inv) (c .before .before .before .before .before .loop-test .taken) (v .1) (g .inside))
 
--- src/header.rt:48:1
 returns-2 : tie.Need-returns-2 Inv-loop μ-loop
 unfolding Nodes-says
 returns-2 c = checking-done (c .before .loop .inv) (c .loop-test .left)

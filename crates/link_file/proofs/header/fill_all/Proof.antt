@@ -5,8 +5,6 @@ use borrow.Author.Needs.{needs}
 use Rattle.link_file.proofs.Nodes.{Filling-all, all-begin, all-next, all-done}
 use Rattle.link_file.proofs.header.fill_all.Statement.{statement}
 use Rattle.link_file.proofs.header.fill_all.Tie as tie
-use Rattle.link_file.proofs.header.fill_all.Reads as reads
-use Rattle.link_file.proofs.header.fill_all.Lts as lts
 
 abbrev Inv-loop : tie.InvT-loop
 Inv-loop n wanted₀ i₀ wanted i = Filling-all n wanted₀ wanted i
@@ -14,43 +12,33 @@ Inv-loop n wanted₀ i₀ wanted i = Filling-all n wanted₀ wanted i
 abbrev μ-loop : tie.MeasureT-loop
 μ-loop n wanted₀ i₀ wanted i = n - i
 
--- src/header.rt:162:5
 loop-holds : tie.Need-loop-holds Inv-loop μ-loop
 loop-holds c = all-begin _ _
 
--- src/header.rt:163:30
 cast-wanted : tie.Need-cast-wanted Inv-loop μ-loop
 cast-wanted c = omega arith
 
--- src/header.rt:163:16
 cast-wanted-2 : tie.Need-cast-wanted-2 Inv-loop μ-loop
 cast-wanted-2 c = omega arith
 
--- src/header.rt:163:9
 mul-wanted : tie.Need-mul-wanted Inv-loop μ-loop
 mul-wanted c = omega arith
 
--- src/header.rt:163:9
 slice-write-wanted : tie.Need-slice-write-wanted Inv-loop μ-loop
 slice-write-wanted c = omega arith
 
--- src/header.rt:164:9
 add-i : tie.Need-add-i Inv-loop μ-loop
 add-i c = omega arith
 
--- src/header.rt:162:5
 loop-less : tie.Need-loop-less Inv-loop μ-loop
 loop-less c = omega arith
 
--- src/header.rt:162:5
 loop-again : tie.Need-loop-again Inv-loop μ-loop
 loop-again c = all-next (c .before .loop .inv) (c .loop-test .taken)
 
--- src/header.rt:157:1
 same-length : tie.Need-same-length Inv-loop μ-loop
 same-length c = c .before .loop .inv .column .kept
 
--- src/header.rt:157:1
 returns : tie.Need-returns Inv-loop μ-loop
 returns c = all-done (c .before .loop .inv) (c .loop-test .left)
 

@@ -9,9 +9,6 @@ use Rattle.link_file.proofs.Ways.{as-got, as-ends}
 use Rattle.link_file.proofs.Nodes.{Filling-nodes, nodes-begin, nodes-next, nodes-done}
 use Rattle.link_file.proofs.header.fill_nodes.Statement.{statement}
 use Rattle.link_file.proofs.header.fill_nodes.Tie as tie
-use Rattle.link_file.proofs.header.fill_nodes.Reads as reads
-use Rattle.link_file.proofs.header.fill_nodes.Lts as lts
-use Rattle.link_file.proofs.fields.read_field.Reads as read-field-reads
 
 abbrev Inv-loop : tie.InvT-loop
 Inv-loop file from count wanted₀ at₀ i₀ wanted at i = Filling-nodes file from count wanted₀ wanted at i
@@ -24,58 +21,45 @@ node : (c : tie.After-node Inv-loop μ-loop) → let l = c .before .before .befo
     Got (field 2) (l .before .before .before .args .file .now) (l .loop .at) 2 65536 (c .node .given .0 .0) (c .node .given .0 .1 .0)
 node c = as-got (c .node .given .1) (c .before .before .read-field .ensures)
 
--- src/header.rt:146:5
 loop-holds : tie.Need-loop-holds Inv-loop μ-loop
 loop-holds c = nodes-begin _ _ _ _ (omega arith)
 
--- src/header.rt:147:40
 read-field-requires : tie.Need-read-field-requires Inv-loop μ-loop
 read-field-requires c κs = (c .before .loop .inv .along .inside, omega arith)
 
--- src/header.rt:147:26
 enum-known-node : tie.Need-enum-known-node Inv-loop μ-loop
 enum-known-node c = search needs
 
--- src/header.rt:148:13
 enum-told : tie.Need-enum-told Inv-loop μ-loop
 enum-told c = search needs
 
--- src/header.rt:148:13
 same-length : tie.Need-same-length Inv-loop μ-loop
 same-length c = c .before .before .before .before .loop .inv .column .kept
 
--- src/header.rt:148:13
 returns : tie.Need-returns Inv-loop μ-loop
 returns c =
     let l = c .before .before .before .before in
     absurd (omega (arith, as-ends 65536 (c .enum-told .given .1) (c .before .before .read-field .ensures) .near, l .loop .inv .along .here,
       c .before .before .before .loop-test .taken, l .before .before .before .pre .0))
 
--- src/header.rt:150:30
 cast-wanted : tie.Need-cast-wanted Inv-loop μ-loop
 cast-wanted c = record { fits = node (c .before) .small }
 
--- src/header.rt:150:16
 cast-wanted-2 : tie.Need-cast-wanted-2 Inv-loop μ-loop
 cast-wanted-2 c = omega arith
 
--- src/header.rt:150:9
 mul-wanted : tie.Need-mul-wanted Inv-loop μ-loop
 mul-wanted c = omega arith
 
--- src/header.rt:150:9
 slice-write-wanted : tie.Need-slice-write-wanted Inv-loop μ-loop
 slice-write-wanted c = omega (arith, c .before .before .before .before .before .loop .inv .column .kept, c .before .before .before .before .before .before .before .before .pre)
 
--- src/header.rt:152:9
 add-i : tie.Need-add-i Inv-loop μ-loop
 add-i c = omega arith
 
--- src/header.rt:146:5
 loop-less : tie.Need-loop-less Inv-loop μ-loop
 loop-less c = omega arith
 
--- src/header.rt:146:5
 loop-again : tie.Need-loop-again Inv-loop μ-loop
 loop-again c =
     let l = c .before .before .before .before .before in
@@ -83,11 +67,9 @@ loop-again c =
     let v = field-value g in
     rw (v .0) (nodes-next (l .loop .inv) (c .before .before .before .before .loop-test .taken) (v .1) (g .inside))
 
--- src/header.rt:140:1
 same-length-2 : tie.Need-same-length-2 Inv-loop μ-loop
 same-length-2 c = c .before .loop .inv .column .kept
 
--- src/header.rt:140:1
 returns-2 : tie.Need-returns-2 Inv-loop μ-loop
 returns-2 c = nodes-done (c .before .loop .inv) (c .loop-test .left)
 

@@ -5,47 +5,34 @@ use native.Mathlib.Omega.{arith}
 use Rattle.link_file.specs.Says.{wanted-in}
 use Rattle.link_file.proofs.header.fill_wanted.Statement.{statement}
 use Rattle.link_file.proofs.header.fill_wanted.Tie as tie
-use Rattle.link_file.proofs.header.fill_wanted.Reads as reads
-use Rattle.link_file.proofs.header.fill_wanted.Lts as lts
-use Rattle.link_file.proofs.header.fill_all.Reads as fill-all-reads
-use Rattle.link_file.proofs.header.fill_nodes.Reads as fill-nodes-reads
 
--- src/header.rt:185:39
 cast-from : tie.Need-cast-from
 cast-from c = search needs
 
--- src/header.rt:185:34
 mul-from : tie.Need-mul-from
 mul-from c = search needs
 
--- src/header.rt:185:20
 sub-from : tie.Need-sub-from
 sub-from c = c .before .before .before .before .pre .0 .room (c .before .if1 .taken)
 
--- src/header.rt:186:9
 fill-nodes-requires : tie.Need-fill-nodes-requires
 fill-nodes-requires c κs =
     let s = c .before .before .before .before .before in
     (omega (arith, s .pre .0 .room (c .before .before .if1 .taken), s .pre .0 .inside), (s .pre .0 .few, s .pre .1))
 
--- src/header.rt:187:9
 same-length : tie.Need-same-length
 same-length c = search needs
 
--- src/header.rt:187:9
 returns : tie.Need-returns
 unfolding wanted-in
 returns c = c .before .before .fill-nodes .ensures ∙ rw (c .before .before .before .before .before .if1 .taken)
 
--- src/header.rt:189:5
 fill-all-requires : tie.Need-fill-all-requires
 fill-all-requires c κs = search needs
 
--- src/header.rt:179:1
 same-length-2 : tie.Need-same-length-2
 same-length-2 c = search needs
 
--- src/header.rt:179:1
 returns-2 : tie.Need-returns-2
 unfolding wanted-in
 returns-2 c = c .before .before .fill-all .ensures ∙ rw (c .before .before .before .before .if1 .left)

@@ -4,19 +4,13 @@ use borrow.Author.Tests.{lt-ltb, le-ltb}
 use native.Mathlib.Omega.{arith}
 use Rattle.link_file.proofs.header.forbidden.Statement.{statement}
 use Rattle.link_file.proofs.header.forbidden.Tie as tie
-use Rattle.link_file.proofs.header.forbidden.Reads as reads
-use Rattle.link_file.proofs.header.forbidden.Lts as lts
-use Rattle.link_file.proofs.arcs.stands.Reads as stands-reads
 
--- src/header.rt:101:19
 stands-requires : tie.Need-stands-requires
 stands-requires c κs = search needs
 
--- src/header.rt:97:1
 returns : tie.Need-returns
 returns c = rw (c .stands .ensures, le-ltb 7 (c .before .before .args .bits) (omega arith))
 
--- src/header.rt:97:1
 returns-2 : tie.Need-returns-2
 returns-2 c = rw (lt-ltb 7 (c .before .args .bits) (omega arith))
 

@@ -18,16 +18,6 @@ use Rattle.link_file.proofs.Ways.{as-got, as-ends, renamed, first-byte}
 use Rattle.link_file.proofs.HeaderWays.{or-false, header-empty, header-forbidden, cut-n, bad-n, cut-origin, wanted-refused, header-needless, header-got}
 use Rattle.link_file.proofs.header.read_header.Statement.{statement}
 use Rattle.link_file.proofs.header.read_header.Tie as tie
-use Rattle.link_file.proofs.header.read_header.Reads as reads
-use Rattle.link_file.proofs.header.read_header.Lts as lts
-use Rattle.link_file.proofs.arcs.bits_of.Reads as bits-of-reads
-use Rattle.link_file.proofs.arcs.stands.Reads as stands-reads
-use Rattle.link_file.proofs.fields.read_field.Reads as read-field-reads
-use Rattle.link_file.proofs.fields.read_optional.Reads as read-optional-reads
-use Rattle.link_file.proofs.header.bad_count.Reads as bad-count-reads
-use Rattle.link_file.proofs.header.forbidden.Reads as forbidden-reads
-use Rattle.link_file.proofs.header.place.Reads as place-reads
-use Rattle.link_file.proofs.header.read_wanted.Reads as read-wanted-reads
 
 -- where the bit map was found allowed
 module _ (c : tie.Else2) where
@@ -81,54 +71,43 @@ canonical : (c : tie.After-bits-of) → let w = c .before .before in let o = w .
 unfolding header-bits
 canonical c = c .bits-of .ensures ∙ rw (wanted-read (c .before .before) .same)
 
--- src/header.rt:121:9
 returns : tie.Need-returns
 unfolding Header-says
 returns c = header-empty _ (c .if1 .taken)
 
--- src/header.rt:123:16
 shared-slice-read-bits : tie.Need-shared-slice-read-bits
 shared-slice-read-bits c = search needs
 
--- src/header.rt:124:8
 forbidden-requires : tie.Need-forbidden-requires
 forbidden-requires c κs = search needs
 
--- src/header.rt:125:9
 returns-2 : tie.Need-returns-2
 unfolding Header-says
 returns-2 c =
     let file = now (c .before .before .before .before .before .args .file) in
     header-forbidden file (getD file 0 0) (first-byte file 0 (omega (arith, c .before .before .before .if1 .left))) (sym (c .before .forbidden .ensures) ∙ c .if2 .taken)
 
--- src/header.rt:127:38
 read-field-requires : tie.Need-read-field-requires
 read-field-requires c κs = search needs
 
--- src/header.rt:127:22
 enum-known-n : tie.Need-enum-known-n
 enum-known-n c = search needs
 
--- src/header.rt:128:45
 enum-told : tie.Need-enum-told
 enum-told c = search needs
 
--- src/header.rt:128:39
 place-requires : tie.Need-place-requires
 place-requires c κs = omega (arith, as-ends 65536 (c .enum-told .given .1) (c .before .before .read-field .ensures) .near)
 
--- src/header.rt:128:9
 returns-3 : tie.Need-returns-3
 unfolding Header-says
 returns-3 c =
     let k = c .before .before .before .before in
     rw (c .place .ensures) (cut-n _ _ (one k) (allowed k) (as-ends 65536 (c .before .enum-told .given .1) (c .before .before .before .read-field .ensures)))
 
--- src/header.rt:130:8
 bad-count-requires : tie.Need-bad-count-requires
 bad-count-requires c κs = search needs
 
--- src/header.rt:131:9
 returns-4 : tie.Need-returns-4
 unfolding Header-says
 returns-4 c =
@@ -136,29 +115,23 @@ returns-4 c =
     let k = n .before .before .before in
     bad-n _ _ (one k) (allowed k) (nodes-got n) (sym (c .before .bad-count .ensures) ∙ c .if3 .taken)
 
--- src/header.rt:133:9
 stands-requires : tie.Need-stands-requires
 stands-requires c κs = search needs
 
--- src/header.rt:134:43
 read-optional-requires : tie.Need-read-optional-requires
 read-optional-requires c κs = (nodes-got (c .before .before .before .before) .inside, omega arith)
 
--- src/header.rt:134:22
 enum-known-origin : tie.Need-enum-known-origin
 enum-known-origin c = search needs
 
--- src/header.rt:135:45
 enum-told-2 : tie.Need-enum-told-2
 enum-told-2 c = search needs
 
--- src/header.rt:135:39
 place-requires-2 : tie.Need-place-requires-2
 place-requires-2 c κs =
     let r = c .before .before in
     omega (arith, as-ends 65536 (c .enum-told2 .given .1) (origin-says r) .near, nodes-got (r .before .before .before .before .before) .near)
 
--- src/header.rt:135:9
 returns-5 : tie.Need-returns-5
 unfolding Header-says
 returns-5 c =
@@ -168,30 +141,24 @@ returns-5 c =
     let k = n .before .before .before in
     rw (c .place2 .ensures) (cut-origin _ _ (one k) (allowed k) (nodes-got n) (fine e) (as-ends 65536 (c .before .enum-told2 .given .1) (origin-says r)))
 
--- src/header.rt:137:9
 stands-requires-2 : tie.Need-stands-requires-2
 stands-requires-2 c κs = search needs
 
--- src/header.rt:138:11
 read-wanted-requires : tie.Need-read-wanted-requires
 read-wanted-requires c κs =
     let o = c .before .before in
     let e = o .before .before .before .before in
     (origin-got o .inside, (omega (arith, origin-got o .near, nodes-got (e .before .before .before) .near), low e))
 
--- src/header.rt:139:29
 enum-known-number : tie.Need-enum-known-number
 enum-known-number c = search needs
 
--- src/header.rt:140:26
 enum-known-wanted : tie.Need-enum-known-wanted
 enum-known-wanted c = search needs
 
--- src/header.rt:141:24
 bits-of-requires : tie.Need-bits-of-requires
 bits-of-requires c κs = search needs
 
--- src/header.rt:142:17
 returns-6 : tie.Need-returns-6
 unfolding Header-says
 returns-6 c =
@@ -204,11 +171,9 @@ returns-6 c =
     λ (same : bits k ≡ header-bits (n .n .given .0 .0) (o .origin .given .0 .0) (wanted-in (file k) (has 4 (bits k)) (n .n .given .0 .0) (w .wanted .given .0 .0) (w .wanted .given .0 .1 .0))).
     c .if4 .taken (same ∙ sym (canonical (c .before)))
 
--- src/header.rt:144:50
-cast-t32 : tie.Need-cast-t32
-cast-t32 c = record { fits = origin-got (c .before .before .before .before .before .before .before .before) .small }
+cast-origin : tie.Need-cast-origin
+cast-origin c = record { fits = origin-got (c .before .before .before .before .before .before .before .before) .small }
 
--- src/header.rt:117:1
 returns-7 : tie.Need-returns-7
 unfolding Header-says Wanted-says
 returns-7 c =
@@ -219,7 +184,6 @@ returns-7 c =
     let k = n .before .before .before in
     wanted-refused _ _ (one k) (allowed k) (nodes-got n) (fine e) (origin-got o) (rw (c .before .number .given .1) at (wanted-says r))
 
--- src/header.rt:117:1
 returns-8 : tie.Need-returns-8
 unfolding Header-says
 returns-8 c =
@@ -258,6 +222,6 @@ read-header-spec =
     enum-known-wanted
     bits-of-requires
     returns-6
-    cast-t32
+    cast-origin
     returns-7
     returns-8)

@@ -13,12 +13,6 @@ use Rattle.link_file.proofs.HeaderWays.{wanted-absent, wanted-cut-count
 use Rattle.link_file.proofs.Nodes.{nodes-as-got, nodes-as-cut}
 use Rattle.link_file.proofs.header.read_wanted.Statement.{statement}
 use Rattle.link_file.proofs.header.read_wanted.Tie as tie
-use Rattle.link_file.proofs.header.read_wanted.Reads as reads
-use Rattle.link_file.proofs.header.read_wanted.Lts as lts
-use Rattle.link_file.proofs.fields.read_field.Reads as read-field-reads
-use Rattle.link_file.proofs.header.both.Reads as both-reads
-use Rattle.link_file.proofs.header.check_nodes.Reads as check-nodes-reads
-use Rattle.link_file.proofs.header.place.Reads as place-reads
 
 -- where the list stands: its count, and its nodes
 counted : (c : tie.After-count) → let s = c .before .before .before .before .before in
@@ -28,58 +22,46 @@ counted c = as-got (c .count .given .1) (c .before .before .read-field .ensures)
 listed : (c : tie.Else1) → c .before .before .args .listed ≡ true
 listed c = not-false _ (c .if1 .left)
 
--- src/header.rt:74:9
 returns : tie.Need-returns
 unfolding Wanted-says
 returns c =
     let s = c .before .before in
     rw (not-true (s .args .listed) (c .if1 .taken)) (wanted-absent (now (s .args .file)) (s .args .from) (s .args .n) (s .pre .0) (s .pre .1 .1))
 
--- src/header.rt:76:41
 read-field-requires : tie.Need-read-field-requires
 read-field-requires c κs = search needs
 
--- src/header.rt:76:22
 enum-known-count : tie.Need-enum-known-count
 enum-known-count c = search needs
 
--- src/header.rt:77:45
 enum-told : tie.Need-enum-told
 enum-told c = search needs
 
--- src/header.rt:77:39
 place-requires : tie.Need-place-requires
 place-requires c κs = omega (arith, as-ends 65536 (c .enum-told .given .1) (c .before .before .read-field .ensures) .near, c .before .before .before .before .before .pre)
 
--- src/header.rt:77:9
 returns-2 : tie.Need-returns-2
 unfolding Wanted-says
 returns-2 c = rw (listed (c .before .before .before .before), c .place .ensures) (wanted-cut-count _ _ _ (as-ends 65536 (c .before .enum-told .given .1) (c .before .before .before .read-field .ensures)))
 
--- src/header.rt:80:9
 returns-3 : tie.Need-returns-3
 unfolding Wanted-says
 returns-3 c = rw (listed (c .before .before .before .before .before)) (wanted-many _ _ _ (counted (c .before .before)) (c .if2 .taken))
 
--- src/header.rt:82:44
 check-nodes-requires : tie.Need-check-nodes-requires
 check-nodes-requires c κs = (counted (c .before .before) .inside, c .if2 .left)
 
--- src/header.rt:82:25
 enum-known-next : tie.Need-enum-known-next
 enum-known-next c = search needs
 
--- src/header.rt:83:45
 enum-told-2 : tie.Need-enum-told-2
 enum-told-2 c = search needs
 
--- src/header.rt:83:39
 place-requires-2 : tie.Need-place-requires-2
 place-requires-2 c κs =
     omega (arith, nodes-as-cut _ _ _ (c .enum-told2 .given .1) (c .before .before .check-nodes .ensures), counted (c .before .before .before .before .before) .near,
       c .before .before .before .if2 .left, c .before .before .before .before .before .before .before .before .before .before .pre)
 
--- src/header.rt:83:9
 returns-4 : tie.Need-returns-4
 unfolding Wanted-says
 returns-4 c =
@@ -88,11 +70,9 @@ returns-4 c =
     (wanted-cut _ _ _ (counted k) (c .before .before .before .before .if2 .left)
     (nodes-as-cut _ _ _ (c .before .enum-told2 .given .1) (c .before .before .before .check-nodes .ensures)))
 
--- src/header.rt:85:35
 both-requires : tie.Need-both-requires
 both-requires c κs = search needs
 
--- src/header.rt:69:1
 returns-5 : tie.Need-returns-5
 unfolding Wanted-says
 returns-5 c =

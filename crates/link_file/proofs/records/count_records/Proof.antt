@@ -14,9 +14,6 @@ use Rattle.link_file.specs.declared.records.Counted.the-variants.{Arcs}
 use Rattle.link_file.proofs.Runs.{remaining, Standing, standing-next, run-none, run-full, run-refused, run-more, tally-more, part-is, answer-record, answer-refused}
 use Rattle.link_file.proofs.records.count_records.Statement.{statement}
 use Rattle.link_file.proofs.records.count_records.Tie as tie
-use Rattle.link_file.proofs.records.count_records.Reads as reads
-use Rattle.link_file.proofs.records.count_records.Lts as lts
-use Rattle.link_file.proofs.records.read_record.Reads as read-record-reads
 
 -- The loop: the count so far with what is left to read gives the answer for all.
 record Counting (file : List ℕ) (start at count : ℕ) (before : Option Arc) : Type 0 where
@@ -29,41 +26,33 @@ Inv-loop file start at₀ count₀ previous₀ at count previous = Counting file
 abbrev μ-loop : tie.MeasureT-loop
 μ-loop file start at₀ count₀ previous₀ at count previous = length file - at
 
--- src/records.rt:77:5
 loop-holds : tie.Need-loop-holds Inv-loop μ-loop
 unfolding arc-before
 loop-holds c = record { stands = record { inside = c .before .pre .0; few = omega arith; short = omega arith }; same = refl }
 
--- src/records.rt:79:13
 returns : tie.Need-returns Inv-loop μ-loop
 unfolding tally
 returns c =
     let l = c .before .before in
     sym (ap (tally (l .loop .count)) (run-full _ _ _ _ (c .before .loop-test .taken) (c .if1 .taken))) ∙ l .loop .inv .same
 
--- src/records.rt:81:27
 sub-read-record : tie.Need-sub-read-record Inv-loop μ-loop
 sub-read-record c = omega arith
 
--- src/records.rt:81:27
 part-read-record-start : tie.Need-part-read-record-start Inv-loop μ-loop
 part-read-record-start c = omega arith
 
--- src/records.rt:81:27
 part-read-record-end : tie.Need-part-read-record-end Inv-loop μ-loop
 part-read-record-end c = omega arith
 
--- src/records.rt:81:15
 read-record-requires : tie.Need-read-record-requires Inv-loop μ-loop
 read-record-requires c κs =
     let l = c .before .before .before in
     (rw (part-is (l .before .before .args .file .now) (l .loop .at)) (omega (arith, length-drop (l .loop .at) (l .before .before .args .file .now))), omega arith)
 
--- src/records.rt:82:32
 enum-known-arc : tie.Need-enum-known-arc Inv-loop μ-loop
 enum-known-arc c = search needs
 
--- src/records.rt:85:17
 add-count : tie.Need-add-count Inv-loop μ-loop
 add-count c = omega arith
 
@@ -72,13 +61,11 @@ read : (c : tie.After-arc Inv-loop μ-loop) → let l = c .before .before .befor
     Record-got (arc-before (l .loop .previous)) (drop (l .loop .at) (l .before .before .args .file .now)) (l .loop .at) (arc-of (c .arc .given .0 .0)) (c .arc .given .0 .1 .0)
 read c = answer-record _ _ _ (c .before .before .read-record .result) (c .before .before .read-record .ensures) (c .arc .given .1)
 
--- src/records.rt:77:5
 loop-less : tie.Need-loop-less Inv-loop μ-loop
 loop-less c =
     let r = read (c .before) in
     omega (arith, r .on, r .inside, c .before .before .before .before .before .before .loop-test .taken)
 
--- src/records.rt:77:5
 loop-again : tie.Need-loop-again Inv-loop μ-loop
 unfolding arc-before
 loop-again c =
@@ -90,11 +77,9 @@ loop-again c =
     ; same = sym (tally-more _ _ _) ∙ ap (tally (l .loop .count)) (sym (run-more _ _ _ _ (c .before .before .before .before .before .before .loop-test .taken) few r)) ∙ l .loop .inv .same
     }
 
--- src/records.rt:87:33
 enum-known-number : tie.Need-enum-known-number Inv-loop μ-loop
 enum-known-number c = search needs
 
--- src/records.rt:88:17
 returns-2 : tie.Need-returns-2 Inv-loop μ-loop
 unfolding tally
 returns-2 c =
@@ -103,7 +88,6 @@ returns-2 c =
     let r = answer-refused _ _ _ (c .before .before .before .read-record .result) (c .before .before .before .read-record .ensures) (c .before .number .given .1) in
     sym (ap (tally (l .loop .count)) (run-refused _ _ _ _ (c .before .before .before .before .before .before .loop-test .taken) few r)) ∙ l .loop .inv .same
 
--- src/records.rt:70:1
 returns-3 : tie.Need-returns-3 Inv-loop μ-loop
 unfolding tally
 returns-3 c =

@@ -16,14 +16,6 @@ use Rattle.link_file.proofs.Ways.{as-got, as-ends, renamed, loose, firs
 use borrow.Author.Needs.{needs}
 use Rattle.link_file.proofs.records.read_record.Statement.{statement}
 use Rattle.link_file.proofs.records.read_record.Tie as tie
-use Rattle.link_file.proofs.records.read_record.Reads as reads
-use Rattle.link_file.proofs.records.read_record.Lts as lts
-use Rattle.link_file.proofs.arcs.forbidden.Reads as forbidden-reads
-use Rattle.link_file.proofs.arcs.implied.Reads as implied-reads
-use Rattle.link_file.proofs.arcs.record_bits.Reads as record-bits-reads
-use Rattle.link_file.proofs.arcs.stands.Reads as stands-reads
-use Rattle.link_file.proofs.fields.read_optional.Reads as read-optional-reads
-use Rattle.link_file.proofs.records.cut.Reads as cut-reads
 
 -- where the bit map was found allowed: the arguments, the bit map, and what is known of it
 module _ (c : tie.Else1) where
@@ -96,128 +88,102 @@ length-got : (c : tie.After-length) → let h = c .before .before .before .befor
     Got (length-reader k) (part k) (h .head .given .0 .1 .0) 4 (loose 4 (t .before .before .before .before .implied .result .length)) (c .length .given .0 .0) (c .length .given .0 .1 .0)
 length-got c = as-got (c .length .given .1) (length-says (c .before .before))
 
--- src/records.rt:30:16
 shared-slice-read-bits : tie.Need-shared-slice-read-bits
 shared-slice-read-bits c = search needs
 
--- src/records.rt:31:17
 cast-start : tie.Need-cast-start
 cast-start c = search needs
 
--- src/records.rt:32:8
 forbidden-requires : tie.Need-forbidden-requires
 forbidden-requires c κs = search needs
 
--- src/records.rt:33:9
 returns : tie.Need-returns
 unfolding Record-says
 returns c =
     let s = c .before .before .before .before in
     refused-bits _ _ _ _ (first-byte (now (s .args .part)) (s .args .at) (s .pre .0)) (sym (c .before .forbidden .ensures) ∙ c .if1 .taken)
 
--- src/records.rt:35:9
 implied-requires : tie.Need-implied-requires
 implied-requires c κs = search needs
 
--- src/records.rt:36:9
 stands-requires : tie.Need-stands-requires
 stands-requires c κs = search needs
 
--- src/records.rt:37:39
 read-optional-requires : tie.Need-read-optional-requires
 read-optional-requires c κs = search needs
 
--- src/records.rt:37:22
 enum-known-tail : tie.Need-enum-known-tail
 enum-known-tail c = search needs
 
--- src/records.rt:38:25
 enum-told : tie.Need-enum-told
 enum-told c = search needs
 
--- src/records.rt:38:20
-add-cut : tie.Need-add-cut
-add-cut c = search needs
+add-place : tie.Need-add-place
+add-place c = search needs
 
--- src/records.rt:38:9
-cut-requires : tie.Need-cut-requires
-cut-requires c κs = omega (arith, as-ends 65536 (c .enum-told .given .1) (tail-says (c .before .before)) .near)
+place-requires : tie.Need-place-requires
+place-requires c κs = omega (arith, as-ends 65536 (c .enum-told .given .1) (tail-says (c .before .before)) .near)
 
--- src/records.rt:38:9
 returns-2 : tie.Need-returns-2
 unfolding Record-says
 returns-2 c =
     let k = c .before .before .before .before .before .before in
-    rw (c .cut .ensures) (cut-tail _ _ _ _ (one k) (allowed k) (as-ends 65536 (c .before .enum-told .given .1) (tail-says (c .before .before .before))))
+    rw (c .place .ensures) (cut-tail _ _ _ _ (one k) (allowed k) (as-ends 65536 (c .before .enum-told .given .1) (tail-says (c .before .before .before))))
 
--- src/records.rt:40:9
 stands-requires-2 : tie.Need-stands-requires-2
 stands-requires-2 c κs = search needs
 
--- src/records.rt:41:41
 read-optional-requires-2 : tie.Need-read-optional-requires-2
 read-optional-requires-2 c κs = (tail-got (c .before .before) .inside, omega arith)
 
--- src/records.rt:41:22
 enum-known-head : tie.Need-enum-known-head
 enum-known-head c = search needs
 
--- src/records.rt:42:25
 enum-told-2 : tie.Need-enum-told-2
 enum-told-2 c = search needs
 
--- src/records.rt:42:20
-add-cut-2 : tie.Need-add-cut-2
-add-cut-2 c = search needs
+add-place-2 : tie.Need-add-place-2
+add-place-2 c = search needs
 
--- src/records.rt:42:9
-cut-requires-2 : tie.Need-cut-requires-2
-cut-requires-2 c κs =
+place-requires-2 : tie.Need-place-requires-2
+place-requires-2 c κs =
     let r = c .before .before in
     let t = r .before .before .before in
     omega (arith, as-ends _ (c .enum-told2 .given .1) (head-says r) .near, tail-got t .near, low (t .before .before .before .before .before))
 
--- src/records.rt:42:9
 returns-3 : tie.Need-returns-3
 unfolding Record-says
 returns-3 c =
     let r = c .before .before .before in
     let t = r .before .before .before in
     let k = t .before .before .before .before .before in
-    rw (c .cut2 .ensures) (cut-head _ _ _ _ (one k) (allowed k) (tail-got t) (as-ends _ (c .before .enum-told2 .given .1) (head-says r)))
+    rw (c .place2 .ensures) (cut-head _ _ _ _ (one k) (allowed k) (tail-got t) (as-ends _ (c .before .enum-told2 .given .1) (head-says r)))
 
--- src/records.rt:44:9
 stands-requires-3 : tie.Need-stands-requires-3
 stands-requires-3 c κs = search needs
 
--- src/records.rt:45:37
 read-optional-requires-3 : tie.Need-read-optional-requires-3
 read-optional-requires-3 c κs = (head-got (c .before .before) .inside, omega arith)
 
--- src/records.rt:45:22
 enum-known-length : tie.Need-enum-known-length
 enum-known-length c = search needs
 
--- src/records.rt:46:25
 enum-told-3 : tie.Need-enum-told-3
 enum-told-3 c = search needs
 
--- src/records.rt:46:20
-add-cut-3 : tie.Need-add-cut-3
-add-cut-3 c =
+add-place-3 : tie.Need-add-place-3
+add-place-3 c =
     let h = c .before .before .before .before .before in
     let k = h .before .before .before .before .before .before .before .before .before .before in
     omega (arith, k .before .before .before .before .good, low k)
 
--- src/records.rt:46:9
-cut-requires-3 : tie.Need-cut-requires-3
-cut-requires-3 c κs =
+place-requires-3 : tie.Need-place-requires-3
+place-requires-3 c κs =
     let r = c .before .before in
     let h = r .before .before .before in
     let t = h .before .before .before .before .before in
     omega (arith, as-ends _ (c .enum-told3 .given .1) (length-says r) .near, head-got h .near, tail-got t .near, low (t .before .before .before .before .before))
 
--- src/records.rt:46:9
 returns-4 : tie.Need-returns-4
 unfolding Record-says
 returns-4 c =
@@ -225,9 +191,8 @@ returns-4 c =
     let h = r .before .before .before in
     let t = h .before .before .before .before .before in
     let k = t .before .before .before .before .before in
-    rw (c .cut3 .ensures) (cut-length _ _ _ _ (one k) (allowed k) (tail-got t) (head-got h) (as-ends _ (c .before .enum-told3 .given .1) (length-says r)))
+    rw (c .place3 .ensures) (cut-length _ _ _ _ (one k) (allowed k) (tail-got t) (head-got h) (as-ends _ (c .before .enum-told3 .given .1) (length-says r)))
 
--- src/records.rt:49:9
 returns-5 : tie.Need-returns-5
 unfolding Record-says
 returns-5 c =
@@ -237,19 +202,15 @@ returns-5 c =
     let k = t .before .before .before .before .before in
     refused-head _ _ _ _ (one k) (allowed k) (tail-got t) (head-got h) (length-got l) (c .if2 .taken)
 
--- src/records.rt:51:27
-cast-t30 : tie.Need-cast-t30
-cast-t30 c = record { fits = tail-got (c .before .before .before .before .before .before .before .before .before .before .before .before) .small }
+cast-near : tie.Need-cast-near
+cast-near c = record { fits = tail-got (c .before .before .before .before .before .before .before .before .before .before .before .before) .small }
 
--- src/records.rt:51:46
-cast-t31 : tie.Need-cast-t31
-cast-t31 c = search needs
+cast-far : tie.Need-cast-far
+cast-far c = search needs
 
--- src/records.rt:52:16
 record-bits-requires : tie.Need-record-bits-requires
 record-bits-requires c κs = search needs
 
--- src/records.rt:53:9
 returns-6 : tie.Need-returns-6
 unfolding Record-says arc-of
 returns-6 c =
@@ -261,15 +222,13 @@ returns-6 c =
     λ (e : bits k ≡ record-bits (before k) (arc (t .tail .given .0 .0) (h .head .given .0 .0) (l .length .given .0 .0))).
     c .if3 .taken (e ∙ sym (c .before .record-bits .ensures))
 
--- src/records.rt:55:29
-add-t32 : tie.Need-add-t32
-add-t32 c =
+add-next : tie.Need-add-next
+add-next c =
     let l = c .before .before .before .before in
     let h = l .before .before .before .before .before in
     let t = h .before .before .before .before .before in
     omega (arith, tail-got t .near, head-got h .near, length-got l .near, low (t .before .before .before .before .before))
 
--- src/records.rt:26:1
 returns-7 : tie.Need-returns-7
 unfolding Record-says arc-of
 returns-7 c =
@@ -292,27 +251,27 @@ read-record-spec =
     read-optional-requires
     enum-known-tail
     enum-told
-    add-cut
-    cut-requires
+    add-place
+    place-requires
     returns-2
     stands-requires-2
     read-optional-requires-2
     enum-known-head
     enum-told-2
-    add-cut-2
-    cut-requires-2
+    add-place-2
+    place-requires-2
     returns-3
     stands-requires-3
     read-optional-requires-3
     enum-known-length
     enum-told-3
-    add-cut-3
-    cut-requires-3
+    add-place-3
+    place-requires-3
     returns-4
     returns-5
-    cast-t30
-    cast-t31
+    cast-near
+    cast-far
     record-bits-requires
     returns-6
-    add-t32
+    add-next
     returns-7)

@@ -4,34 +4,25 @@ use mathlib.Core.Path.{refl}
 use Rattle.link_file.specs.Says.{arc-of}
 use Rattle.link_file.proofs.writer.arc_at.Statement.{statement}
 use Rattle.link_file.proofs.writer.arc_at.Tie as tie
-use Rattle.link_file.proofs.writer.arc_at.Reads as reads
-use Rattle.link_file.proofs.writer.arc_at.Lts as lts
 
--- src/writer.rt:42:17
 mul-t5 : tie.Need-mul-t5
 mul-t5 c = search needs
 
--- src/writer.rt:42:17
 shared-slice-read-t7 : tie.Need-shared-slice-read-t7
 shared-slice-read-t7 c = search needs
 
--- src/writer.rt:42:33
 mul-t8 : tie.Need-mul-t8
 mul-t8 c = search needs
 
--- src/writer.rt:42:33
 shared-slice-read-t10 : tie.Need-shared-slice-read-t10
 shared-slice-read-t10 c = search needs
 
--- src/writer.rt:42:51
 mul-t11 : tie.Need-mul-t11
 mul-t11 c = search needs
 
--- src/writer.rt:42:51
 shared-slice-read-t13 : tie.Need-shared-slice-read-t13
 shared-slice-read-t13 c = search needs
 
--- src/writer.rt:38:1
 returns : tie.Need-returns
 unfolding arc-of
 returns c = refl

@@ -7,9 +7,6 @@ use lib.ListN.{getD}
 use Rattle.link_file.proofs.HeaderBytes.{Comparing, comparing-begins, comparing-next, comparing-other, comparing-done, not-all}
 use Rattle.link_file.proofs.writer.is_all.Statement.{statement}
 use Rattle.link_file.proofs.writer.is_all.Tie as tie
-use Rattle.link_file.proofs.writer.is_all.Reads as reads
-use Rattle.link_file.proofs.writer.is_all.Lts as lts
-use Rattle.link_file.proofs.arcs.wide.Reads as wide-reads
 
 abbrev Inv-loop : tie.InvT-loop
 Inv-loop n wanted i₀ i = Comparing n wanted i
@@ -17,52 +14,41 @@ Inv-loop n wanted i₀ i = Comparing n wanted i
 abbrev μ-loop : tie.MeasureT-loop
 μ-loop n wanted i₀ i = n - i
 
--- src/writer.rt:93:9
 returns : tie.Need-returns Inv-loop μ-loop
 returns c = sym (not-all _ _ (c .if1 .taken))
 
--- src/writer.rt:96:5
 loop-holds : tie.Need-loop-holds Inv-loop μ-loop
 loop-holds c = comparing-begins _ _
 
--- src/writer.rt:97:37
 cast-wide : tie.Need-cast-wide Inv-loop μ-loop
 cast-wide c = omega arith
 
--- src/writer.rt:97:30
 mul-wide : tie.Need-mul-wide Inv-loop μ-loop
 mul-wide c = omega arith
 
--- src/writer.rt:97:30
 shared-slice-read-wide : tie.Need-shared-slice-read-wide Inv-loop μ-loop
 shared-slice-read-wide c = omega arith
 
--- src/writer.rt:97:12
 wide-requires : tie.Need-wide-requires Inv-loop μ-loop
 wide-requires c κs = search needs
 
--- src/writer.rt:98:13
 returns-2 : tie.Need-returns-2 Inv-loop μ-loop
 returns-2 c =
     let l = c .before .before .before .before in
     sym (comparing-other (l .loop .inv) (l .before .if1 .left) (c .before .before .before .loop-test .taken)
     λ (e : getD (l .before .before .before .args .wanted .now) (l .loop .i) 0 ≡ l .loop .i). c .if2 .taken (c .before .wide .ensures .0 ∙ e))
 
--- src/writer.rt:100:9
 add-i : tie.Need-add-i Inv-loop μ-loop
 add-i c = omega arith
 
--- src/writer.rt:96:5
 loop-less : tie.Need-loop-less Inv-loop μ-loop
 loop-less c = omega arith
 
--- src/writer.rt:96:5
 loop-again : tie.Need-loop-again Inv-loop μ-loop
 loop-again c =
     let l = c .before .before .before .before in
     comparing-next (l .loop .inv) (l .before .if1 .left) (c .before .before .before .loop-test .taken) (sym (c .before .wide .ensures .0) ∙ c .if2 .left)
 
--- src/writer.rt:88:1
 returns-3 : tie.Need-returns-3 Inv-loop μ-loop
 returns-3 c = sym (comparing-done (c .before .loop .inv) (c .before .before .if1 .left) (c .loop-test .left))
 

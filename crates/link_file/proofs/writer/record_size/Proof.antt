@@ -6,48 +6,34 @@ use native.Mathlib.Omega.{arith}
 use Rattle.link_file.proofs.Sizes.{sized}
 use Rattle.link_file.proofs.writer.record_size.Statement.{statement}
 use Rattle.link_file.proofs.writer.record_size.Tie as tie
-use Rattle.link_file.proofs.writer.record_size.Reads as reads
-use Rattle.link_file.proofs.writer.record_size.Lts as lts
-use Rattle.link_file.proofs.arcs.stands.Reads as stands-reads
-use Rattle.link_file.proofs.writer.field_size.Reads as field-size-reads
 
--- src/writer.rt:32:27
 stands-requires : tie.Need-stands-requires
 stands-requires c κs = search needs
 
--- src/writer.rt:32:9
 field-size-requires : tie.Need-field-size-requires
 field-size-requires c κs = search needs
 
--- src/writer.rt:33:27
 stands-requires-2 : tie.Need-stands-requires-2
 stands-requires-2 c κs = search needs
 
--- src/writer.rt:33:9
 field-size-requires-2 : tie.Need-field-size-requires-2
 field-size-requires-2 c κs = search needs
 
--- src/writer.rt:34:29
 stands-requires-3 : tie.Need-stands-requires-3
 stands-requires-3 c κs = search needs
 
--- src/writer.rt:34:9
 field-size-requires-3 : tie.Need-field-size-requires-3
 field-size-requires-3 c κs = search needs
 
--- src/writer.rt:35:18
 add-result : tie.Need-add-result
 add-result c = omega (arith, c .field-size3 .ensures .1, c .before .before .field-size2 .ensures .1)
 
--- src/writer.rt:35:10
 add-result-2 : tie.Need-add-result-2
 add-result-2 c = omega (arith, c .field-size3 .ensures .1, c .before .before .field-size2 .ensures .1, c .before .before .before .before .field-size .ensures .1)
 
--- src/writer.rt:35:5
 add-result-3 : tie.Need-add-result-3
 add-result-3 c = omega (arith, c .field-size3 .ensures .1, c .before .before .field-size2 .ensures .1, c .before .before .before .before .field-size .ensures .1)
 
--- src/writer.rt:29:1
 returns : tie.Need-returns
 returns c =
     sized _ _ _ _

@@ -8,11 +8,6 @@ use Rattle.link_file.specs.Says.{arc-before, Record-sized}
 use Rattle.link_file.proofs.Sizes.{Sizing, sizing-begins, sizing-next, sizing-done}
 use Rattle.link_file.proofs.writer.records_size.Statement.{statement}
 use Rattle.link_file.proofs.writer.records_size.Tie as tie
-use Rattle.link_file.proofs.writer.records_size.Reads as reads
-use Rattle.link_file.proofs.writer.records_size.Lts as lts
-use Rattle.link_file.proofs.arcs.record_bits.Reads as record-bits-reads
-use Rattle.link_file.proofs.writer.arc_at.Reads as arc-at-reads
-use Rattle.link_file.proofs.writer.record_size.Reads as record-size-reads
 
 abbrev Inv-loop : tie.InvT-loop
 Inv-loop tails heads lengths size₀ previous₀ i₀ size previous i = Sizing tails heads lengths size (arc-before previous) i
@@ -20,36 +15,28 @@ Inv-loop tails heads lengths size₀ previous₀ i₀ size previous i = Sizing t
 abbrev μ-loop : tie.MeasureT-loop
 μ-loop tails heads lengths size₀ previous₀ i₀ size previous i = length tails - i
 
--- src/writer.rt:53:5
 loop-holds : tie.Need-loop-holds Inv-loop μ-loop
 unfolding arc-before
 loop-holds c = sizing-begins _ _ _
 
--- src/writer.rt:54:13
 arc-at-requires : tie.Need-arc-at-requires Inv-loop μ-loop
 arc-at-requires c κs = omega arith
 
--- src/writer.rt:55:29
 record-bits-requires : tie.Need-record-bits-requires Inv-loop μ-loop
 record-bits-requires c κs = search needs
 
--- src/writer.rt:55:17
 record-size-requires : tie.Need-record-size-requires Inv-loop μ-loop
 record-size-requires c κs = search needs
 
--- src/writer.rt:55:9
 add-size : tie.Need-add-size Inv-loop μ-loop
 add-size c = let l = c .before .before .before .before in omega (arith, l .loop .inv .near, l .loop .inv .low, c .record-size .ensures .near, l .before .before .before .before .pre .few)
 
--- src/writer.rt:57:9
 add-i : tie.Need-add-i Inv-loop μ-loop
 add-i c = omega arith
 
--- src/writer.rt:53:5
 loop-less : tie.Need-loop-less Inv-loop μ-loop
 loop-less c = omega arith
 
--- src/writer.rt:53:5
 loop-again : tie.Need-loop-again Inv-loop μ-loop
 unfolding arc-before
 loop-again c =
@@ -57,7 +44,6 @@ loop-again c =
     sizing-next (l .loop .inv) (l .before .before .before .before .pre) (c .before .before .before .loop-test .taken) _ (c .before .before .arc-at .ensures) _
     (rw (c .before .record-bits .ensures) at (c .record-size .ensures))
 
--- src/writer.rt:46:1
 returns : tie.Need-returns Inv-loop μ-loop
 returns c =
     let l = c .before in

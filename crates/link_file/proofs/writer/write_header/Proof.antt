@@ -9,36 +9,24 @@ use Rattle.link_file.proofs.Pieces.{put-renamed, piece-room, put-kept}
 use Rattle.link_file.proofs.HeaderBytes.{byte-room, count-room, origin-room, wanted-room, put-header, list-renamed, list-room-renamed}
 use Rattle.link_file.proofs.writer.write_header.Statement.{statement}
 use Rattle.link_file.proofs.writer.write_header.Tie as tie
-use Rattle.link_file.proofs.writer.write_header.Reads as reads
-use Rattle.link_file.proofs.writer.write_header.Lts as lts
-use Rattle.link_file.proofs.arcs.stands.Reads as stands-reads
-use Rattle.link_file.proofs.arcs.wide.Reads as wide-reads
-use Rattle.link_file.proofs.fields.put_field.Reads as put-field-reads
-use Rattle.link_file.proofs.fields.put_optional.Reads as put-optional-reads
-use Rattle.link_file.proofs.writer.write_wanted.Reads as write-wanted-reads
 
 -- the origin, put
 origin-put : (c : tie.After-put-optional) → let p = c .before .before .before .before .before .before in let s = p .before .before .before .before in
     Put (p .put-field .last .0) (p .put-field .result) (field-bytes (has 2 (s .args .bits)) 2 (s .args .origin)) (c .put-optional .result) (c .put-optional .last .0)
 origin-put c = put-renamed 2 (c .before .before .before .stands .ensures) (c .before .wide .ensures .0) (c .put-optional .ensures)
 
--- src/writer.rt:154:5
 slice-write-output : tie.Need-slice-write-output
 slice-write-output c = let s = c .before .before in byte-room (now (s .args .output)) (s .args .n) (s .args .origin) (now (s .args .wanted)) (s .pre .canonical) (s .pre .room)
 
--- src/writer.rt:155:9
 put-field-requires : tie.Need-put-field-requires
 put-field-requires c κs = let s = c .before .before .before in count-room (now (s .args .output)) (s .args .n) (s .args .origin) (now (s .args .wanted)) (s .pre .canonical) (s .pre .room)
 
--- src/writer.rt:156:9
 stands-requires : tie.Need-stands-requires
 stands-requires c κs = search needs
 
--- src/writer.rt:157:83
 wide-requires : tie.Need-wide-requires
 wide-requires c κs = search needs
 
--- src/writer.rt:157:9
 put-optional-requires : tie.Need-put-optional-requires
 put-optional-requires c κs =
     let p = c .before .before .before .before .before in
@@ -46,11 +34,9 @@ put-optional-requires c κs =
     piece-room 2 (p .put-field .result) (c .before .before .stands .ensures) (c .wide .ensures .0)
     (origin-room (now (s .args .output)) (s .args .n) (s .args .origin) (now (s .args .wanted)) (s .pre .canonical) (s .pre .room) (p .put-field .ensures))
 
--- src/writer.rt:158:9
 stands-requires-2 : tie.Need-stands-requires-2
 stands-requires-2 c κs = search needs
 
--- src/writer.rt:159:5
 write-wanted-requires : tie.Need-write-wanted-requires
 write-wanted-requires c κs =
     let o = c .before .before .before .before in
@@ -71,11 +57,9 @@ headed c =
     put-header (now (s .args .output)) (s .args .n) (s .args .origin) (now (s .args .wanted)) (s .pre .canonical) (s .pre .room) (p .put-field .ensures) (origin-put o)
     (list-renamed (now (s .args .wanted)) (c .before .before .before .before .stands2 .ensures) (c .before .before .write-wanted .ensures))
 
--- src/writer.rt:150:1
 same-length : tie.Need-same-length
 same-length c = put-kept (headed c)
 
--- src/writer.rt:150:1
 returns : tie.Need-returns
 returns c = headed c
 

@@ -7,10 +7,6 @@ use lib.ListN.{length}
 use Rattle.link_file.proofs.HeaderBytes.{Writing-nodes, nodes-begin, node-room, nodes-next, nodes-put}
 use Rattle.link_file.proofs.writer.write_nodes.Statement.{statement}
 use Rattle.link_file.proofs.writer.write_nodes.Tie as tie
-use Rattle.link_file.proofs.writer.write_nodes.Reads as reads
-use Rattle.link_file.proofs.writer.write_nodes.Lts as lts
-use Rattle.link_file.proofs.arcs.wide.Reads as wide-reads
-use Rattle.link_file.proofs.fields.put_field.Reads as put-field-reads
 
 abbrev Inv-loop : tie.InvT-loop
 Inv-loop wanted start output₀ at₀ i₀ output at i = Writing-nodes wanted output₀ start output at i
@@ -18,47 +14,37 @@ Inv-loop wanted start output₀ at₀ i₀ output at i = Writing-nodes wanted ou
 abbrev μ-loop : tie.MeasureT-loop
 μ-loop wanted start output₀ at₀ i₀ output at i = length wanted - i
 
--- src/writer.rt:130:5
 loop-holds : tie.Need-loop-holds Inv-loop μ-loop
 loop-holds c = nodes-begin _ _ _
 
--- src/writer.rt:131:72
 mul-wide : tie.Need-mul-wide Inv-loop μ-loop
 mul-wide c = search needs
 
--- src/writer.rt:131:72
 shared-slice-read-wide : tie.Need-shared-slice-read-wide Inv-loop μ-loop
 shared-slice-read-wide c = omega arith
 
--- src/writer.rt:131:54
 wide-requires : tie.Need-wide-requires Inv-loop μ-loop
 wide-requires c κs = search needs
 
--- src/writer.rt:131:9
 put-field-requires : tie.Need-put-field-requires Inv-loop μ-loop
 put-field-requires c κs =
     let l = c .before .before .before .before in
     node-room (l .loop .inv) (c .before .before .before .loop-test .taken) (l .before .before .before .pre)
 
--- src/writer.rt:132:9
 add-i : tie.Need-add-i Inv-loop μ-loop
 add-i c = omega arith
 
--- src/writer.rt:130:5
 loop-less : tie.Need-loop-less Inv-loop μ-loop
 loop-less c = omega arith
 
--- src/writer.rt:130:5
 loop-again : tie.Need-loop-again Inv-loop μ-loop
 loop-again c =
     let l = c .before .before .before .before .before .before .before in
     nodes-next (l .loop .inv) (c .before .before .before .before .before .before .loop-test .taken) (rw (c .before .before .before .wide .ensures .0) at (c .before .before .put-field .ensures))
 
--- src/writer.rt:124:1
 same-length : tie.Need-same-length Inv-loop μ-loop
 same-length c = c .before .loop .inv .column .kept
 
--- src/writer.rt:124:1
 returns : tie.Need-returns Inv-loop μ-loop
 returns c = nodes-put (c .before .loop .inv) (c .loop-test .left)
 

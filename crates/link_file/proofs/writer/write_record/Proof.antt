@@ -12,12 +12,6 @@ use Rattle.link_file.specs.Says.{Put, arc-of, arc-before}
 use Rattle.link_file.proofs.Pieces.{put-renamed, piece-room, put-kept, room-by-bits, put-by-bits, room-tail, room-head, room-length, put-record}
 use Rattle.link_file.proofs.writer.write_record.Statement.{statement}
 use Rattle.link_file.proofs.writer.write_record.Tie as tie
-use Rattle.link_file.proofs.writer.write_record.Reads as reads
-use Rattle.link_file.proofs.writer.write_record.Lts as lts
-use Rattle.link_file.proofs.arcs.record_bits.Reads as record-bits-reads
-use Rattle.link_file.proofs.arcs.stands.Reads as stands-reads
-use Rattle.link_file.proofs.arcs.wide.Reads as wide-reads
-use Rattle.link_file.proofs.fields.put_optional.Reads as put-optional-reads
 
 -- the room for the record, by the bit map that the code has
 module _ (c : tie.After-record-bits) where
@@ -47,42 +41,33 @@ head-put : (c : tie.After-put-optional2) → let t = c .before .before .before .
 unfolding arc-of arc
 head-put c = put-renamed 2 (c .before .before .before .stands2 .ensures) (c .before .wide2 .ensures .0) (c .put-optional2 .ensures)
 
--- src/writer.rt:61:9
 record-bits-requires : tie.Need-record-bits-requires
 record-bits-requires c κs = search needs
 
--- src/writer.rt:62:5
 slice-write-output : tie.Need-slice-write-output
 slice-write-output c = omega (arith, room c)
 
--- src/writer.rt:63:9
 stands-requires : tie.Need-stands-requires
 stands-requires c κs = search needs
 
--- src/writer.rt:64:55
 add-put-optional : tie.Need-add-put-optional
 add-put-optional c = search needs
 
--- src/writer.rt:64:76
 wide-requires : tie.Need-wide-requires
 wide-requires c κs = search needs
 
--- src/writer.rt:64:9
 put-optional-requires : tie.Need-put-optional-requires
 unfolding arc-of arc
 put-optional-requires c κs = 
     let k = c .before .before .before in
     piece-room 2 _ (c .before .before .stands .ensures) (c .wide .ensures .0) (room-tail (output k) (at k) (bits k) (this k) (room k))
 
--- src/writer.rt:65:9
 stands-requires-2 : tie.Need-stands-requires-2
 stands-requires-2 c κs = search needs
 
--- src/writer.rt:66:79
 wide-requires-2 : tie.Need-wide-requires-2
 wide-requires-2 c κs = search needs
 
--- src/writer.rt:66:9
 put-optional-requires-2 : tie.Need-put-optional-requires-2
 unfolding arc-of arc
 put-optional-requires-2 c κs =
@@ -90,11 +75,9 @@ put-optional-requires-2 c κs =
     let k = t .before .before .before .before in
     piece-room 2 _ (c .before .before .stands2 .ensures) (c .wide2 .ensures .0) (room-head (output k) (at k) (bits k) (this k) (room k) (tail-put t))
 
--- src/writer.rt:67:9
 stands-requires-3 : tie.Need-stands-requires-3
 stands-requires-3 c κs = search needs
 
--- src/writer.rt:68:5
 put-optional-requires-3 : tie.Need-put-optional-requires-3
 unfolding arc-of arc
 put-optional-requires-3 c κs =
@@ -115,11 +98,9 @@ recorded c =
     (put-record (output k) (at k) (bits k) (this k) (room k) (tail-put t) (head-put h)
     (put-renamed 4 (c .before .before .before .before .stands3 .ensures) refl (c .before .before .put-optional3 .ensures)))
 
--- src/writer.rt:57:1
 same-length : tie.Need-same-length
 same-length c = put-kept (recorded c)
 
--- src/writer.rt:57:1
 returns : tie.Need-returns
 returns c = recorded c
 

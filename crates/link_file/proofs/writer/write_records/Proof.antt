@@ -8,10 +8,6 @@ use Rattle.link_file.specs.Says.{arc-before}
 use Rattle.link_file.proofs.Sizes.{Writing, writing-begins, writing-next, record-room, writing-done}
 use Rattle.link_file.proofs.writer.write_records.Statement.{statement}
 use Rattle.link_file.proofs.writer.write_records.Tie as tie
-use Rattle.link_file.proofs.writer.write_records.Reads as reads
-use Rattle.link_file.proofs.writer.write_records.Lts as lts
-use Rattle.link_file.proofs.writer.arc_at.Reads as arc-at-reads
-use Rattle.link_file.proofs.writer.write_record.Reads as write-record-reads
 
 abbrev Inv-loop : tie.InvT-loop
 Inv-loop tails heads lengths start output₀ at₀ previous₀ i₀ output at previous i = Writing tails heads lengths output₀ start output at (arc-before previous) i
@@ -19,30 +15,24 @@ Inv-loop tails heads lengths start output₀ at₀ previous₀ i₀ output at pr
 abbrev μ-loop : tie.MeasureT-loop
 μ-loop tails heads lengths start output₀ at₀ previous₀ i₀ output at previous i = length tails - i
 
--- src/writer.rt:85:5
 loop-holds : tie.Need-loop-holds Inv-loop μ-loop
 unfolding arc-before
 loop-holds c = writing-begins _ _ _ _ _ (c .before .before .before .before .pre .1)
 
--- src/writer.rt:86:13
 arc-at-requires : tie.Need-arc-at-requires Inv-loop μ-loop
 arc-at-requires c κs = omega arith
 
--- src/writer.rt:87:9
 write-record-requires : tie.Need-write-record-requires Inv-loop μ-loop
 write-record-requires c κs =
     let l = c .before .before .before in
     record-room (l .loop .inv) (l .before .before .before .before .before .pre .0) (c .before .before .loop-test .taken) _ (c .before .arc-at .ensures)
 
--- src/writer.rt:89:9
 add-i : tie.Need-add-i Inv-loop μ-loop
 add-i c = omega arith
 
--- src/writer.rt:85:5
 loop-less : tie.Need-loop-less Inv-loop μ-loop
 loop-less c = omega arith
 
--- src/writer.rt:85:5
 loop-again : tie.Need-loop-again Inv-loop μ-loop
 unfolding arc-before
 loop-again c =
@@ -50,11 +40,9 @@ loop-again c =
     writing-next (l .loop .inv) (l .before .before .before .before .before .pre .0) (c .before .before .before .before .before .loop-test .taken) _
     (c .before .before .before .before .arc-at .ensures) (c .before .before .write-record .ensures)
 
--- src/writer.rt:78:1
 same-length : tie.Need-same-length Inv-loop μ-loop
 same-length c = c .before .loop .inv .column .kept
 
--- src/writer.rt:78:1
 returns : tie.Need-returns Inv-loop μ-loop
 returns c = writing-done (c .before .loop .inv) (c .loop-test .left)
 

@@ -10,20 +10,13 @@ use Rattle.link_file.proofs.Pieces.{put-then, room-first, room-rest}
 use Rattle.link_file.proofs.HeaderBytes.{list-room, list-put, list-absent}
 use Rattle.link_file.proofs.writer.write_wanted.Statement.{statement}
 use Rattle.link_file.proofs.writer.write_wanted.Tie as tie
-use Rattle.link_file.proofs.writer.write_wanted.Reads as reads
-use Rattle.link_file.proofs.writer.write_wanted.Lts as lts
-use Rattle.link_file.proofs.fields.put_field.Reads as put-field-reads
-use Rattle.link_file.proofs.writer.write_nodes.Reads as write-nodes-reads
 
--- src/writer.rt:143:9
 returns : tie.Need-returns
 returns c = let s = c .before .before .before in list-absent _ _ _ (not-true (s .args .stands) (c .if1 .taken))
 
--- src/writer.rt:145:60
 cast-put-field : tie.Need-cast-put-field
 cast-put-field c = search needs
 
--- src/writer.rt:145:9
 put-field-requires : tie.Need-put-field-requires
 put-field-requires c κs =
     let s = c .before .before .before .before in
@@ -31,7 +24,6 @@ put-field-requires c κs =
     omega (arith, length-bytes 2 (length ws),
       room-first _ (s .args .at) (bytes 2 (length ws)) (nodes-bytes ws) (list-room ws (s .args .at) _ (not-false (s .args .stands) (c .before .if1 .left)) (s .pre .0)))
 
--- src/writer.rt:146:5
 write-nodes-requires : tie.Need-write-nodes-requires
 write-nodes-requires c κs =
     let s = c .before .before .before .before .before .before .before .before in
@@ -39,11 +31,9 @@ write-nodes-requires c κs =
     room-rest (c .before .before .before .put-field .ensures) (nodes-bytes ws)
     (list-room ws (s .args .at) _ (not-false (s .args .stands) (c .before .before .before .before .before .if1 .left)) (s .pre .0))
 
--- src/writer.rt:138:1
 same-length : tie.Need-same-length
 same-length c = search needs
 
--- src/writer.rt:138:1
 returns-2 : tie.Need-returns-2
 returns-2 c =
     let s = c .before .before .before .before .before .before .before .before .before .before .before in
