@@ -4,13 +4,14 @@ use mathlib.Core.Option.{Option, none, some}
 use mathlib.Core.Path.{_≡_, refl, ap, sym, _∙_}
 use Prim.Native.Nat.{ℕ, zero, suc, _+_, _≤_, _<_}
 use native.Mathlib.Omega.{arith}
-use lib.Dec.{eqb, ltb}
+use lib.Dec.{eqb}
 use borrow.Author.Tests.{le-ltb, lt-ltb, ltb-false, eq-eqb, ne-eqb, eqb-true, not-false}
 use Rattle.table.specs.Table.{Arc, arc}
 use Rattle.link_file.specs.Format.{bit-map, has, all-nodes, header-bits, record-bits}
 use Rattle.link_file.specs.Reading.{forbidden, implied}
-use Rattle.link_file.specs.Promises.{needless, needless-header, Implied-where-absent, Needless-is-not-canonical, Needless-header-is-not-canonical}
+use Rattle.link_file.specs.Promises.{needless, needless-header, Needless-is-not-canonical, Needless-header-is-not-canonical}
 use Rattle.link_file.specs.Says.{first}
+use Rattle.link_file.proofs.Booleans.{true-false}
 
 -- all three fields; fewer; a forbidden bit
 pub forbidden-full : (before : Option Arc) (bits : ℕ) → bits ≡ 7 → forbidden before bits ≡ false
@@ -64,7 +65,7 @@ each-case : (P : Bool → Bool → Type 0) → P true true → P true false → 
 each-case P tt tf ft true true h = tt
 each-case P tt tf ft true false h = tf
 each-case P tt tf ft false true h = ft
-each-case P tt tf ft false false h = let z : _≡_ {A = Bool} false true = h refl in let y : _≡_ {A = ℕ} 0 1 = cc in absurd (omega arith)
+each-case P tt tf ft false false h = true-false (h refl) refl
 
 -- Three bits, each with whether its field says what its absence would: one stands needlessly just where the bit map is not the canonical one.
 abbrev Agree : (b₁ e₁ b₂ e₂ b₃ e₃ : Bool) → Type 0

@@ -3,7 +3,7 @@ use mathlib.Core.Bool.{Bool, true, false}
 use mathlib.Core.List.{List, [], _∷_}
 use mathlib.Core.Option.{Option, none, some}
 use mathlib.Core.Path.{_≡_, refl, ap, sym, _∙_, subst}
-use Prim.Native.Nat.{ℕ, _+_, _-_, _≤_, _<_}
+use Prim.Native.Nat.{ℕ, _+_, _≤_, _<_}
 use native.Mathlib.Decide.{decLt}
 use native.Mathlib.Omega.{arith}
 use lib.ListN.{length, drop, set}
@@ -11,11 +11,9 @@ use Rattle.table.specs.Table.{Arc, most-arcs}
 use Rattle.link_file.specs.Format.{tails-of, heads-of, lengths-of}
 use Rattle.link_file.specs.Reading.{Outcome, got, refused, accepted, list-got, after, give, read-record}
 use Rattle.link_file.specs.Says.{Record-got, Fillable, Filled, records-from}
+use Rattle.link_file.proofs.Booleans.{true-false}
 use Rattle.link_file.proofs.Columns.{Column, column-begins, column-next}
 use Rattle.link_file.proofs.Runs.{remaining, then, Standing, standing-next, run-none, run-full, run-refused, run-more}
-
-false-true : _≡_ {A = Bool} false true → ⊥
-false-true e = let z : _≡_ {A = ℕ} 0 1 = cc in omega arith
 
 -- an arc in front of the rest
 accepted-then : (a : Arc) (o : Outcome (List Arc)) → accepted (then a o) ≡ accepted o
@@ -26,12 +24,12 @@ accepted-then a (refused n p) = refl
 got-then : (a : Arc) (o : Outcome (List Arc)) → accepted o ≡ true → list-got (then a o) ≡ a ∷ list-got o
 unfolding after give accepted list-got
 got-then a (got more at rest) e = refl
-got-then a (refused n p) e = let z : _≡_ {A = Bool} false true = e in absurd (false-true z)
+got-then a (refused n p) e = true-false e refl
 
 -- a refusal is no acceptance
 pub refused-not : {A : Type 0} {o : Outcome A} {n p : ℕ} → o ≡ refused n p → accepted o ≡ true → ⊥
 unfolding accepted
-refused-not e good = false-true (rw e at good)
+refused-not e good = true-false (rw e at good) refl
 
 module _ (file : List ℕ) (at i : ℕ) (before : Option Arc) (more : at < length file) (good : accepted (remaining file at i before) ≡ true) where
   -- an accepted file has no record 6,001, and no refused record

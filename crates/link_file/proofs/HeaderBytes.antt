@@ -1,21 +1,20 @@
 -- The header's bytes: its size, its pieces, and the loops over the wanted list. Assumes nothing.
-use mathlib.Core.Bool.{Bool, true, false, cond, _&&_}
+use mathlib.Core.Bool.{Bool, true, false, cond}
 use mathlib.Core.List.{List, [], _∷_, _++_}
 use mathlib.Core.Path.{_≡_, refl, ap, sym, _∙_, subst}
-use Prim.Native.Nat.{ℕ, zero, suc, _+_, _-_, _*_, _≤_, _<_}
+use Prim.Native.Nat.{ℕ, suc, _+_, _*_, _≤_, _<_}
 use native.Mathlib.Nat.{add-zero}
 use native.Mathlib.Numerals.{add-one}
 use native.Mathlib.Omega.{arith}
 use borrow.Author.Tests.{eq-eqb, ne-eqb}
-use lib.Dec.{eqb}
 use lib.ListN.{length, drop, set, getD, length-append, length-set, drop-of-length-le}
-use lib.Seq.{sets, drop-cons}
+use lib.Seq.{drop-cons}
 use Rattle.table.specs.Table.{most-wanted}
 use Rattle.link_file.specs.Format.{bytes, has, field-bytes, counts-from, all-nodes, nodes-bytes, wanted-bytes, header-bits, header-bytes}
 use Rattle.link_file.specs.Says.{Put, Header-sized}
 use Rattle.link_file.proofs.Columns.{Column, column-begins, column-piece}
 use Rattle.link_file.proofs.Numbers.{length-bytes}
-use Rattle.link_file.proofs.Pieces.{put-byte, put-then, put-kept, room-first, room-rest}
+use Rattle.link_file.proofs.Pieces.{put-byte, put-then, room-first, room-rest}
 use Rattle.link_file.proofs.Sizes.{length-field}
 
 pub length-nodes : (ws : List ℕ) → length (nodes-bytes ws) ≡ 2 * length ws

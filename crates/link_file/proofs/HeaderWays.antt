@@ -1,7 +1,7 @@
 -- The ways out of reading a header and its wanted list, one law for each `return` of the code, in the code's order. Assumes nothing.
 use mathlib.Core.Bool.{Bool, true, false, not, _&&_, _||_}
 use mathlib.Core.List.{List, [], _∷_}
-use mathlib.Core.Path.{_≡_, refl, ap, sym, _∙_}
+use mathlib.Core.Path.{_≡_, refl, sym}
 use Prim.Native.Nat.{ℕ, _+_, _-_, _*_, _≤_, _<_}
 use native.Mathlib.Nat.{zero-add}
 use native.Mathlib.Omega.{arith}
@@ -10,15 +10,11 @@ use lib.ListN.{length, drop, length-drop}
 use lib.Seq.{drop-drop}
 use borrow.Author.Tests.{lt-ltb, le-ltb, eq-eqb, ne-eqb}
 use Rattle.table.specs.Table.{most-nodes, most-wanted}
-use Rattle.link_file.specs.Format.{Content, content, has, count-up, counts-from, all-nodes, header-bits}
-use Rattle.link_file.specs.Reading.{Reader, got, refused, after, _>>=_, _>>_, give, here, refuse-if, field, optional, read-nodes, read-wanted, read-header}
-use Rattle.link_file.specs.Says.{Got, Ends, Nodes-got, Wanted-got, Header-got, nodes-in, wanted-in}
-use Rattle.link_file.specs.declared.header.Header.{Header}
+use Rattle.link_file.specs.Format.{has, all-nodes, header-bits}
+use Rattle.link_file.specs.Reading.{_>>_, _>>=_, got, refused, after, give, here, refuse-if, field, optional, read-wanted, read-header}
+use Rattle.link_file.specs.Says.{Got, Ends, Nodes-got, Wanted-got, Header-got, wanted-in}
+use Rattle.link_file.proofs.Booleans.{true-false}
 use Rattle.link_file.proofs.Nodes.{nodes-read, nodes-cut, length-count-up, all-count-up, length-nodes-in}
-
-pub or-false : (a : Bool) {b : Bool} → (a || b) ≡ false → b ≡ false
-or-false true e = let z : _≡_ {A = ℕ} 0 1 = cc in absurd (omega arith)
-or-false false e = e
 
 -- no list: all nodes
 pub wanted-absent : (file : List ℕ) (from n : ℕ) → from ≤ length file → n ≤ most-nodes → Wanted-got file from false n n from true
@@ -31,7 +27,7 @@ wanted-absent file from n fits few =
     ; few = few
     ; near = omega arith
     ; inside = fits
-    ; room = λ (e : false ≡ true). let z : _≡_ {A = ℕ} 0 1 = cc in absurd (omega arith)
+    ; room = λ (e : false ≡ true). true-false e refl
     }
 
 module _ (file : List ℕ) (from n : ℕ) where

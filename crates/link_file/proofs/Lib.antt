@@ -1,3 +1,4 @@
+pub mod Booleans
 pub mod Numbers
 pub mod Parts
 pub mod BitMaps

@@ -1,6 +1,6 @@
 -- A run of nodes: what the reader says of it, and the loops over it. Assumes nothing.
 use mathlib.Core.Bool.{Bool, true, false, _&&_}
-use mathlib.Core.List.{List, [], _∷_}
+use mathlib.Core.List.{List, _∷_}
 use mathlib.Core.Path.{_≡_, refl, ap, sym, _∙_, subst}
 use Prim.Native.Nat.{ℕ, zero, suc, _+_, _-_, _*_, _≤_, _<_}
 use native.Mathlib.Nat.{add-zero}
@@ -12,10 +12,11 @@ use lib.ListN.{length, drop, set, length-drop}
 use lib.Seq.{drop-drop, sets}
 use borrow.Author.Tests.{le-leb, lt-leb, eq-eqb}
 use Rattle.link_file.specs.Format.{count-up, counts-from, all-nodes}
-use Rattle.link_file.specs.Reading.{got, refused, after, _>>=_, give, field, number, read-nodes}
+use Rattle.link_file.specs.Reading.{_>>=_, got, refused, after, give, field, number, read-nodes}
 use Rattle.link_file.specs.Says.{nodes-in, Nodes-got, Nodes-says}
 use Rattle.link_file.specs.declared.header.NodesRead.{NodesRead}
 use Rattle.link_file.specs.declared.header.NodesRead.the-variants.{Read, Cut}
+use Rattle.link_file.proofs.Booleans.{and-assoc, and-true}
 use Rattle.link_file.proofs.Columns.{Column, column-begins, column-next}
 
 -- the reader, where all nodes are there
@@ -45,14 +46,6 @@ nodes-cut (suc k) at rest h =
 pub nodes-more : (k at : ℕ) (file : List ℕ) → nodes-in (suc k) (drop at file) ≡ number 2 (drop at file) ∷ nodes-in k (drop (at + 2) file)
 unfolding nodes-in
 nodes-more k at file = rw (drop-drop 2 at file)
-
-and-assoc : (a b c : Bool) → ((a && b) && c) ≡ (a && (b && c))
-and-assoc true b c = refl
-and-assoc false b c = refl
-
-and-true : (a : Bool) → (a && true) ≡ a
-and-true true = refl
-and-true false = refl
 
 -- Where a loop over a run of nodes stands.
 pub record Along (file : List ℕ) (from count at i : ℕ) : Type 0 where

@@ -3,10 +3,10 @@ use mathlib.Core.Bool.{Bool}
 use mathlib.Core.List.{List, [], _∷_, _++_}
 use mathlib.Core.Option.{Option}
 use mathlib.Core.Path.{_≡_, refl, ap, sym, _∙_}
-use Prim.Native.Nat.{ℕ, suc, _+_, _≤_}
+use Prim.Native.Nat.{ℕ, _+_, _≤_}
 use native.Mathlib.Omega.{arith}
 use lib.ListN.{length, set, length-append, length-set}
-use lib.Seq.{sets, length-sets}
+use lib.Seq.{length-sets}
 use Rattle.table.specs.Table.{Arc}
 use Rattle.link_file.specs.Format.{has, field-bytes, fields-bytes, record-bits, record-bytes}
 use Rattle.link_file.specs.Says.{Put}

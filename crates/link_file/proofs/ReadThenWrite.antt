@@ -1,22 +1,22 @@
 -- Every file that the reader accepts is what the writer makes of what was read. Each part of the reader is taken back to the bytes that it
 -- read: where it got a value, those bytes are what the writer puts for that value. Assumes nothing.
 use mathlib.Core.Bool.{Bool, true, false, not, _||_}
-use mathlib.Core.List.{List, [], _∷_, _++_, append-assoc, append-nil}
+use mathlib.Core.List.{List, [], _∷_, _++_, append-assoc}
 use mathlib.Core.Option.{Option, none, some}
 use mathlib.Core.Path.{_≡_, refl, ap, sym, _∙_, subst}
-use Prim.Native.Nat.{ℕ, zero, suc, _+_, _*_, _≤_, _<_}
+use Prim.Native.Nat.{ℕ, zero, suc, _+_}
 use native.Mathlib.Nat.{zero-add}
 use native.Mathlib.Decide.{decLe}
 use native.Mathlib.Omega.{arith}
 use lib.Dec.{eqb, ltb}
-use lib.ListN.{length, take, drop, take-append-drop}
+use lib.ListN.{length, drop, take-append-drop}
 use borrow.Author.Tests.{le-leb, lt-leb, eqb-true, not-false}
 use Rattle.table.specs.Table.{Arc, arc, Below, most-nodes, most-arcs, most-wanted}
 use Rattle.link_file.specs.Format.{Content, content, bytes, has, field-bytes, nodes-bytes, wanted-bytes, header-bits, header-bytes, record-bits, fields-bytes, record-bytes, records-bytes, file-bytes}
-use Rattle.link_file.specs.Reading.{Outcome, Reader, got, refused, after, _>>=_, _>>_, give, here, refuse-if, number, field, optional, implied, forbidden, read-nodes, read-wanted, read-header, read-record, read-records, read-content, read-file}
+use Rattle.link_file.specs.Reading.{_>>_, _>>=_, Outcome, Reader, got, refused, after, give, here, refuse-if, number, field, optional, implied, forbidden, read-nodes, read-wanted, read-header, read-record, read-records, read-content, read-file}
 use Rattle.link_file.specs.Promises.{Accepted-files-write-back}
 use Rattle.link_file.proofs.Numbers.{bytes-number, below-drop}
-use Rattle.link_file.proofs.Parts.{got-value, got-next, got-rest, refused-got}
+use Rattle.link_file.proofs.Parts.{got-value, got-rest, refused-got}
 
 -- What follows a step of a `do` block that got a value: the step got one too.
 module _ {B : Type 0} {b : B} {next : ℕ} {end : List ℕ} {P : Type 0} where

@@ -1,15 +1,14 @@
 -- Running through the records of a file: what is left to read at an offset, before and after one record. Assumes nothing.
-use mathlib.Core.Bool.{true, false}
 use mathlib.Core.List.{List, [], _∷_}
-use mathlib.Core.Option.{Option, none, some}
-use mathlib.Core.Path.{_≡_, refl, ap, sym, _∙_}
+use mathlib.Core.Option.{Option, some}
+use mathlib.Core.Path.{_≡_, refl, _∙_}
 use Prim.Native.Nat.{ℕ, zero, suc, _+_, _-_, _*_, _≤_, _<_}
 use native.Mathlib.Nat.{le-of-eq}
 use native.Mathlib.Omega.{arith}
 use lib.ListN.{length, take, drop, length-drop, drop-of-length-le}
 use lib.Seq.{take-all, drop-drop}
 use Rattle.table.specs.Table.{Arc, most-arcs}
-use Rattle.link_file.specs.Reading.{Outcome, Reader, got, refused, after, _>>=_, give, read-record, read-records}
+use Rattle.link_file.specs.Reading.{_>>=_, Outcome, got, refused, after, give, read-record, read-records}
 use Rattle.link_file.specs.Says.{Record-got, Record-says, arc-of, tally}
 use Rattle.link_file.specs.declared.arcs.Arc as Code
 use Rattle.link_file.specs.declared.records.RecordRead.{RecordRead}

@@ -3,14 +3,13 @@ use mathlib.Core.Bool.{Bool, true, false, cond}
 use mathlib.Core.List.{List, [], _∷_, _++_}
 use mathlib.Core.Option.{Option, none, some}
 use mathlib.Core.Path.{_≡_, refl, ap, sym, _∙_, subst}
-use Prim.Native.Nat.{ℕ, zero, suc, _+_, _-_, _*_, _≤_, _<_}
-use native.Mathlib.Nat.{add-zero}
+use Prim.Native.Nat.{ℕ, _+_, _*_, _≤_, _<_}
 use native.Mathlib.Numerals.{add-one}
 use native.Mathlib.Omega.{arith}
 use lib.ListN.{length, drop, getD, length-append, drop-of-length-le}
 use lib.Seq.{sets, drop-cons}
-use Rattle.table.specs.Table.{Arc, arc, arcs-of, most-arcs}
-use Rattle.link_file.specs.Format.{bytes, has, field-bytes, fields-bytes, record-bits, record-bytes, records-bytes}
+use Rattle.table.specs.Table.{Arc, arc, arcs-of}
+use Rattle.link_file.specs.Format.{has, field-bytes, fields-bytes, record-bits, record-bytes, records-bytes}
 use Rattle.link_file.specs.Says.{Put, Record-sized, Equal-columns}
 use Rattle.link_file.proofs.Columns.{Column, column-begins, column-piece}
 use Rattle.link_file.proofs.Numbers.{length-bytes}

@@ -1,17 +1,16 @@
 -- The ways out of reading a record, one law for each `return` of the code, in the code's order. Assumes nothing.
-use mathlib.Core.Bool.{Bool, true, false, not}
+use mathlib.Core.Bool.{Bool, true, false}
 use mathlib.Core.List.{List, [], _∷_}
 use mathlib.Core.Option.{Option}
-use mathlib.Core.Path.{_≡_, refl, ap, sym, _∙_}
-use Prim.Native.Nat.{ℕ, _+_, _-_, _^_, _≤_, _<_}
+use mathlib.Core.Path.{_≡_}
+use Prim.Native.Nat.{ℕ, _+_, _^_, _≤_, _<_}
 use native.Mathlib.Nat.{zero-add, add-sub-cancel-left}
 use native.Mathlib.Omega.{arith}
-use lib.Dec.{eqb, ltb}
 use lib.ListN.{length, drop, getD}
 use borrow.Author.Tests.{le-leb, lt-ltb, le-ltb, eq-eqb, ne-eqb}
 use Rattle.table.specs.Table.{Arc, arc}
 use Rattle.link_file.specs.Format.{has, record-bits}
-use Rattle.link_file.specs.Reading.{Reader, got, refused, after, _>>=_, _>>_, give, here, refuse-if, number, field, optional, implied, forbidden, read-record}
+use Rattle.link_file.specs.Reading.{_>>_, _>>=_, Reader, got, refused, after, give, here, refuse-if, number, field, optional, implied, forbidden, read-record}
 use Rattle.link_file.specs.Says.{Got, Ends, Field-says, Record-got}
 use Rattle.link_file.specs.declared.fields.Field.{Field}
 use Rattle.link_file.specs.declared.fields.Field.the-variants.{Value, Cut}

@@ -1,29 +1,25 @@
 -- From the header and the records to the whole file, and from the filled buffers to what the reader's entry says. Assumes nothing.
 use mathlib.Core.Bool.{Bool, true, false, _||_}
-use mathlib.Core.List.{List, [], _∷_, _++_, map}
+use mathlib.Core.List.{List, [], _∷_}
 use mathlib.Core.Option.{Option, none, some}
-use mathlib.Core.Path.{_≡_, refl, ap, sym, _∙_}
-use Prim.Native.Nat.{ℕ, zero, suc, _+_, _*_, _≤_, _<_}
+use mathlib.Core.Path.{_≡_, refl, ap, _∙_}
+use Prim.Native.Nat.{ℕ, zero, suc, _+_, _≤_}
 use native.Mathlib.Nat.{zero-add}
 use native.Mathlib.Omega.{arith}
 use borrow.Author.Tests.{ltb-false}
 use lib.Dec.{ltb}
 use lib.ListN.{length, drop, length-map}
 use lib.Seq.{sets, sets-eq}
-use Rattle.table.specs.Grounds.{Refusal, refusal, no-refusal}
+use Rattle.table.specs.Grounds.{refusal, no-refusal}
 use Rattle.table.specs.Table.{Arc, most-arcs, most-wanted}
-use Rattle.link_file.specs.Format.{Content, content, tails-of, heads-of, lengths-of}
-use Rattle.link_file.specs.Reading.{Outcome, got, refused, accepted, list-got, after, _>>=_, give, read-header, read-record, read-records, read-content, read-file}
-use Rattle.link_file.specs.Says.{Header-got, Fillable, Filled, wanted-in, tally, records-from}
+use Rattle.link_file.specs.Format.{content, tails-of, heads-of, lengths-of}
+use Rattle.link_file.specs.Reading.{_>>=_, Outcome, got, refused, accepted, list-got, after, give, read-header, read-record, read-records, read-content, read-file}
+use Rattle.link_file.specs.Says.{Header-got, Filled, wanted-in, tally, records-from}
 use Rattle.link_file.specs.Entries.{over, too-short, reading, refusal-of, content-of, read-answer, Read-says}
 use Rattle.link_file.specs.declared.TableRead.{TableRead}
 use Rattle.link_file.specs.declared.header.Header.{Header}
 use Rattle.link_file.specs.declared.records.Counted.the-variants.{Arcs, Refused}
-use Rattle.link_file.proofs.HeaderWays.{or-false}
-
-pub or-false-first : (a b : Bool) → (a || b) ≡ false → a ≡ false
-or-false-first true b e = e
-or-false-first false b e = refl
+use Rattle.link_file.proofs.Booleans.{or-false-first, or-false-second}
 
 -- the buffers that are long enough
 pub record Roomy (tails heads lengths wanted : ℕ) : Type 0 where
@@ -36,12 +32,12 @@ pub roomy : (t h l w : ℕ) → too-short t h l w ≡ false → Roomy t h l w
 unfolding too-short
 roomy t h l w e =
     let a : (ltb t most-arcs || ltb h most-arcs) ≡ false = or-false-first (ltb t most-arcs || ltb h most-arcs) (ltb l most-arcs || ltb w most-wanted) e in
-    let b : (ltb l most-arcs || ltb w most-wanted) ≡ false = or-false (ltb t most-arcs || ltb h most-arcs) e in
+    let b : (ltb l most-arcs || ltb w most-wanted) ≡ false = or-false-second (ltb t most-arcs || ltb h most-arcs) (ltb l most-arcs || ltb w most-wanted) e in
     record
     { tails-room = ltb-false t most-arcs (or-false-first (ltb t most-arcs) (ltb h most-arcs) a)
-    ; heads-room = ltb-false h most-arcs (or-false (ltb t most-arcs) a)
+    ; heads-room = ltb-false h most-arcs (or-false-second (ltb t most-arcs) (ltb h most-arcs) a)
     ; lengths-room = ltb-false l most-arcs (or-false-first (ltb l most-arcs) (ltb w most-wanted) b)
-    ; wanted-room = ltb-false w most-wanted (or-false (ltb l most-arcs) b)
+    ; wanted-room = ltb-false w most-wanted (or-false-second (ltb l most-arcs) (ltb w most-wanted) b)
     }
 
 -- a list stored from the start

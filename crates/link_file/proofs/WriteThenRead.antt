@@ -1,23 +1,23 @@
 -- Every table that the writer accepts is read back as it was: each part of the reader gets, from the bytes that the writer puts for a value,
 -- that value. Assumes nothing.
-use mathlib.Core.Bool.{Bool, true, false, not, cond, _&&_, _||_}
-use mathlib.Core.List.{List, [], _∷_, _++_, append-assoc, append-nil}
+use mathlib.Core.Bool.{Bool, true, false, not, _&&_, _||_}
+use mathlib.Core.List.{List, [], _∷_, _++_, append-assoc}
 use mathlib.Core.Option.{Option, none, some}
-use mathlib.Core.Path.{_≡_, refl, ap, sym, _∙_, subst}
-use Prim.Native.Nat.{ℕ, zero, suc, _+_, _*_, _^_, _≤_, _<_}
+use mathlib.Core.Path.{_≡_, refl, ap, sym, _∙_}
+use Prim.Native.Nat.{ℕ, zero, suc, _+_, _^_, _≤_, _<_}
 use native.Mathlib.Nat.{zero-add, add-zero}
 use native.Mathlib.Omega.{arith}
 use lib.Dec.{eqb, ltb}
-use lib.ListN.{length, take, drop, length-append}
+use lib.ListN.{length, length-append}
 use lib.Seq.{drop-at}
 use borrow.Author.Tests.{le-leb, le-ltb, eq-eqb, ne-eqb, eqb-true, not-false}
 use Rattle.table.specs.Table.{Arc, arc, Below, most-nodes, most-arcs, most-wanted}
-use Rattle.link_file.specs.Format.{Content, content, bytes, bit-map, has, field-bytes, count-up, counts-from, all-nodes, nodes-bytes, wanted-bytes, header-bits, header-bytes, record-bits, fields-bytes, record-bytes, records-bytes, file-bytes}
-use Rattle.link_file.specs.Reading.{Outcome, Reader, got, refused, after, _>>=_, _>>_, give, here, refuse-if, number, field, optional, implied, forbidden, read-nodes, read-wanted, read-header, read-record, read-records, read-content, read-file}
-use Rattle.link_file.specs.Promises.{Small-arc, Small-arcs, Writable, Implied-where-absent, Written-tables-read-back}
+use Rattle.link_file.specs.Format.{content, bytes, bit-map, has, field-bytes, count-up, counts-from, all-nodes, nodes-bytes, wanted-bytes, header-bits, header-bytes, record-bits, fields-bytes, record-bytes, records-bytes, file-bytes}
+use Rattle.link_file.specs.Reading.{_>>_, _>>=_, got, after, give, here, refuse-if, number, field, optional, implied, forbidden, read-nodes, read-wanted, read-header, read-record, read-records, read-content, read-file}
+use Rattle.link_file.specs.Promises.{Small-arc, Small-arcs, Implied-where-absent, Written-tables-read-back}
+use Rattle.link_file.proofs.Booleans.{true-false, and-true-first, and-true-second}
 use Rattle.link_file.proofs.Numbers.{length-bytes, number-bytes}
-use Rattle.link_file.proofs.Parts.{got-value}
-use Rattle.link_file.proofs.BitMaps.{Made-of, made-of}
+use Rattle.link_file.proofs.BitMaps.{made-of}
 use Rattle.link_file.proofs.Runs.{then, records-none, records-more}
 
 -- a field
@@ -48,28 +48,20 @@ nodes-again (w ∷ ws) at rest small =
     rw (append-assoc (bytes 2 w) (nodes-bytes ws) rest, field-again 2 w at (nodes-bytes ws ++ rest) (small 0),
       nodes-again ws (at + length (bytes 2 w)) rest (λ (i : ℕ). small (suc i)), sum)
 
-and-first : (a b : Bool) → (a && b) ≡ true → a ≡ true
-and-first true b e = refl
-and-first false b e = e
-
-and-second : (a b : Bool) → (a && b) ≡ true → b ≡ true
-and-second true b e = e
-and-second false b e = let z : _≡_ {A = ℕ} 0 1 = cc in absurd (omega arith)
-
 -- a list that is all nodes is the list of all nodes
 counts-up : (i : ℕ) (ws : List ℕ) → counts-from i ws ≡ true → ws ≡ count-up i (length ws)
 unfolding counts-from count-up
 counts-up i [] e = refl
 counts-up i (w ∷ ws) e =
-    let here-is : w ≡ i = eqb-true w i (and-first (eqb w i) (counts-from (suc i) ws) e) in
-    let more : ws ≡ count-up (suc i) (length ws) = counts-up (suc i) ws (and-second (eqb w i) (counts-from (suc i) ws) e) in
+    let here-is : w ≡ i = eqb-true w i (and-true-first (eqb w i) (counts-from (suc i) ws) e) in
+    let more : ws ≡ count-up (suc i) (length ws) = counts-up (suc i) ws (and-true-second (eqb w i) (counts-from (suc i) ws) e) in
     rw here-is (ap (λ (l : List ℕ). i ∷ l) more)
 
 all-nodes-are : (n : ℕ) (ws : List ℕ) → all-nodes n ws ≡ true → ws ≡ count-up 0 n
 unfolding all-nodes
 all-nodes-are n ws e =
-    let size : length ws ≡ n = eqb-true (length ws) n (and-first (eqb (length ws) n) (counts-from 0 ws) e) in
-    counts-up 0 ws (and-second (eqb (length ws) n) (counts-from 0 ws) e) ∙ rw size
+    let size : length ws ≡ n = eqb-true (length ws) n (and-true-first (eqb (length ws) n) (counts-from 0 ws) e) in
+    counts-up 0 ws (and-true-second (eqb (length ws) n) (counts-from 0 ws) e) ∙ rw size
 
 -- the wanted list
 wanted-again : (stands : Bool) (n : ℕ) (ws : List ℕ) (at : ℕ) (rest : List ℕ) → (stands ≡ false → all-nodes n ws ≡ true) → length ws ≤ most-wanted
@@ -91,14 +83,11 @@ canonical-allowed (some p) a = le-ltb 7 _ (made-of (not (eqb (a .tail) (p .tail)
 said : {b : Bool} (x y : ℕ) → b ≡ not (eqb x y) → b ≡ false → x ≡ y
 said x y e f = eqb-true x y (not-false (eqb x y) (sym e ∙ f))
 
-stood : {X : Type 0} {b : Bool} → b ≡ true → b ≡ false → X
-stood t f = let z : _≡_ {A = ℕ} 0 1 = cc in absurd (omega arith)
-
 pub canonical-implied : (before : Option Arc) (a : Arc) → Implied-where-absent before (record-bits before a) a
 unfolding record-bits implied arc
 canonical-implied none a =
     let made = made-of true true true in
-    record { tail-said = stood (made .first-bit); head-said = stood (made .second-bit); length-said = stood (made .third-bit) }
+    record { tail-said = true-false (made .first-bit); head-said = true-false (made .second-bit); length-said = true-false (made .third-bit) }
 canonical-implied (some p) a =
     let made = made-of (not (eqb (a .tail) (p .tail))) (not (eqb (a .head) (p .head + 1))) (not (eqb (a .arc-length) (p .arc-length))) in
     record

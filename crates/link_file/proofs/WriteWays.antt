@@ -1,31 +1,23 @@
 -- The ways out of writing a file, one law for each `return` of the writer's entry, in the code's order. Assumes nothing.
 use mathlib.Core.Bool.{Bool, true, false, not, _&&_, _||_}
-use mathlib.Core.List.{List, [], _∷_, _++_}
+use mathlib.Core.List.{List, _++_}
 use mathlib.Core.Option.{none}
-use mathlib.Core.Path.{_≡_, refl, ap, sym, _∙_}
+use mathlib.Core.Path.{_≡_, refl, _∙_}
 use Prim.Native.Nat.{ℕ, _+_, _≤_, _<_}
 use native.Mathlib.Omega.{arith}
 use borrow.Author.Tests.{lt-ltb, le-ltb, ltb-false, eqb-true, not-false}
 use lib.Dec.{eqb, ltb}
 use lib.ListN.{length, length-append}
 use lib.Seq.{sets}
-use Rattle.table.specs.Grounds.{Refusal, refusal, no-refusal, columns-bad}
+use Rattle.table.specs.Grounds.{refusal, no-refusal, columns-bad}
 use Rattle.table.specs.Table.{arcs-of, most-nodes, most-arcs, most-wanted}
 use Rattle.link_file.specs.Format.{content, header-bytes, records-bytes, file-bytes}
 use Rattle.link_file.specs.Says.{Put, Equal-columns}
 use Rattle.link_file.specs.Entries.{over, file-of, writing, put-bytes, write-answer, Write-says}
 use Rattle.link_file.specs.declared.Written.{Written}
-use Rattle.link_file.proofs.HeaderWays.{or-false}
+use Rattle.link_file.proofs.Booleans.{or-false-first, or-false-second, and-true-first, and-true-second}
 use Rattle.link_file.proofs.Pieces.{put-then}
-use Rattle.link_file.proofs.Whole.{or-false-first, sets-over}
-
-and-true-first : (a b : Bool) → (a && b) ≡ true → a ≡ true
-and-true-first true b e = refl
-and-true-first false b e = e
-
-and-true-second : (a : Bool) {b : Bool} → (a && b) ≡ true → b ≡ true
-and-true-second true e = e
-and-true-second false e = let z : _≡_ {A = ℕ} 0 1 = cc in absurd (omega arith)
+use Rattle.link_file.proofs.Whole.{sets-over}
 
 -- columns that ground 2 does not refuse
 pub equal-columns : (ts hs ls : List ℕ) → columns-bad ts hs ls ≡ false → Equal-columns ts hs ls
@@ -35,8 +27,8 @@ equal-columns ts hs ls e =
         not-false _ (or-false-first (not (eqb (length ts) (length hs) && eqb (length hs) (length ls))) (ltb most-arcs (length ts)) e) in
     record
     { heads-are = eqb-true (length ts) (length hs) (and-true-first (eqb (length ts) (length hs)) (eqb (length hs) (length ls)) same)
-    ; lengths-are = eqb-true (length hs) (length ls) (and-true-second (eqb (length ts) (length hs)) same)
-    ; few = ltb-false most-arcs (length ts) (or-false (not (eqb (length ts) (length hs) && eqb (length hs) (length ls))) e)
+    ; lengths-are = eqb-true (length hs) (length ls) (and-true-second (eqb (length ts) (length hs)) (eqb (length hs) (length ls)) same)
+    ; few = ltb-false most-arcs (length ts) (or-false-second (not (eqb (length ts) (length hs) && eqb (length hs) (length ls))) (ltb most-arcs (length ts)) e)
     }
 
 module _ (n o : ℕ) (ts hs ls ws out : List ℕ) where

@@ -3,7 +3,7 @@
 -- The reader reads the file as Reading.antt says, after ground 3: a lent buffer is too short. Its answer and the four buffers are those of the
 -- content that was read; where the file is refused that content is empty, so that every value is 0 and every buffer is as it was. The writer
 -- likewise puts the bytes that Format.antt says, or none.
-use mathlib.Core.Bool.{Bool, cond, _||_, _&&_, not}
+use mathlib.Core.Bool.{Bool, cond, _||_}
 use mathlib.Core.List.{List, [], _++_}
 use mathlib.Core.Path.{_≡_}
 use Prim.Native.Nat.{ℕ}

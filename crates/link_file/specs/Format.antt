@@ -7,7 +7,7 @@
 --
 -- The file is canonical: a bit stands exactly where its absence would say something else or be refused. `header-bits` and `record-bits` are
 -- that rule; the reader refuses every other bit map (page 2, Reading.antt).
-use mathlib.Core.Bool.{Bool, true, false, _&&_, not, cond}
+use mathlib.Core.Bool.{Bool, true, _&&_, not, cond}
 use mathlib.Core.List.{List, [], _∷_, _++_, map}
 use mathlib.Core.Option.{Option, none, some}
 use Prim.Native.Nat.{ℕ, zero, suc, _+_, _/_, _%_}

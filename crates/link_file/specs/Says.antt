@@ -8,7 +8,7 @@ use Prim.Native.Nat.{ℕ, zero, suc, _+_, _-_, _*_, _≤_, _<_}
 use lib.ListN.{length, drop}
 use lib.Seq.{sets}
 use Rattle.link_file.specs.Format.{tails-of, heads-of, lengths-of, content, count-up, counts-from, all-nodes, header-bits, header-bytes, fields-bytes}
-use Rattle.link_file.specs.Reading.{Outcome, Reader, got, refused, accepted, list-got, number, read-wanted, read-header, read-record, read-records}
+use Rattle.link_file.specs.Reading.{Outcome, Reader, got, refused, accepted, number, read-wanted, read-header, read-record, read-records}
 use Rattle.table.specs.Table.{Arc, arc, most-arcs, most-nodes, most-wanted}
 use Rattle.link_file.specs.declared.arcs.Arc as Arcs
 use Rattle.link_file.specs.declared.arcs.Previous.{Previous}

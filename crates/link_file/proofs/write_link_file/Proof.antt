@@ -2,7 +2,6 @@
 use borrow.Author.Needs.{needs}
 use mathlib.Core.Bool.{false, _||_}
 use mathlib.Core.List.{List}
-use mathlib.Core.Option.{none}
 use mathlib.Core.Path.{_≡_, refl, sym, _∙_}
 use Prim.Native.Nat.{ℕ, _+_, _≤_}
 use native.Mathlib.Omega.{arith}
@@ -13,7 +12,7 @@ use lib.ListN.{length}
 use Rattle.table.specs.Grounds.{columns-bad}
 use Rattle.table.specs.Table.{most-nodes}
 use Rattle.link_file.specs.Entries.{file-of}
-use Rattle.link_file.proofs.HeaderWays.{or-false}
+use Rattle.link_file.proofs.Booleans.{or-false-second}
 use Rattle.link_file.proofs.Pieces.{put-kept}
 use Rattle.link_file.proofs.WriteWays.{equal-columns, file-size, none-written, refuses-count, refuses-columns, refuses-wanted, refuses-room, all-written}
 use Rattle.link_file.proofs.write_link_file.Statement.{statement}
@@ -41,7 +40,7 @@ fine : (c : tie.Else1) → let n = c .before .before .before .before .before .be
 fine c = sym (c .before .bad-count .ensures) ∙ c .if1 .left
 
 low : (c : tie.Else1) → c .before .before .before .before .before .before .before .args .n ≤ most-nodes
-low c = let n = c .before .before .before .before .before .before .before .args .n in ltb-false most-nodes n (or-false (eqb n 0) (fine c))
+low c = let n = c .before .before .before .before .before .before .before .args .n in ltb-false most-nodes n (or-false-second (eqb n 0) _ (fine c))
 
 equal : (c : tie.Else2) → let s = c .before .before .before .before .before .before .before .before .before in columns-bad (ts s) (hs s) (ls s) ≡ false
 unfolding columns-bad

@@ -1,5 +1,5 @@
 -- `fields::put_field` meets its contract: the loop's invariant is `Putting`. Assumes nothing.
-use Prim.Native.Nat.{ℕ, _-_}
+use Prim.Native.Nat.{_-_}
 use native.Mathlib.Omega.{arith}
 use Rattle.link_file.proofs.Numbers.{length-bytes}
 use Rattle.link_file.proofs.Putting.{Putting, putting-begins, putting-next, putting-done}

@@ -1,9 +1,8 @@
 -- `fields::put_optional` meets its contract: the field, or nothing. Assumes nothing.
 use borrow.Author.Needs.{needs}
-use mathlib.Core.Path.{_≡_, refl, sym, _∙_}
+use mathlib.Core.Path.{refl, sym}
 use native.Mathlib.Nat.{add-zero}
 use native.Mathlib.Omega.{arith}
-use lib.ListN.{length}
 use Rattle.link_file.specs.Format.{field-bytes}
 use Rattle.link_file.proofs.Numbers.{length-bytes}
 use Rattle.link_file.proofs.fields.put_optional.Statement.{statement}

@@ -1,14 +1,9 @@
 -- `fields::read_field` meets its contract. The loop goes from the highest byte down; its value is the number in the bytes passed. Assumes nothing.
-use mathlib.Core.Path.{_≡_, refl, sym, ap, _∙_}
-use Prim.Native.Nat.{ℕ, _+_, _-_, _≤_}
+use Prim.Native.Nat.{_+_, _-_}
 use native.Mathlib.Omega.{arith}
 use borrow.Author.Needs.{needs}
-use lib.ListN.{length}
-use mir.Val.{Fits}
 use denote.Ref.{now}
-use Rattle.table.specs.Table.{Below}
-use Rattle.link_file.specs.Says.{Field-says, Got}
-use Rattle.link_file.specs.Reading.{field}
+use Rattle.link_file.specs.Says.{Field-says}
 use mir.Syntax.{w8}
 use Rattle.link_file.proofs.Numbers.{column-below}
 use Rattle.link_file.proofs.Parts.{Passed, passed-none, passed-next, passed-small, passed-all, field-got, field-ends}

@@ -1,6 +1,5 @@
 -- `fields::read_optional` meets its contract: the field's own answer, or the value that its absence says. Assumes nothing.
 use borrow.Author.Needs.{needs}
-use mathlib.Core.Path.{_≡_, refl}
 use Prim.Native.Nat.{ℕ, _^_, _≤_, _<_}
 use denote.Ref.{now}
 use Rattle.link_file.specs.Reading.{field, optional}

@@ -1,6 +1,5 @@
 -- `header::check_nodes` meets its contract: the loop's invariant is `Checking`. Assumes nothing.
-use mathlib.Core.Path.{_≡_, sym, _∙_}
-use Prim.Native.Nat.{ℕ, _-_}
+use Prim.Native.Nat.{_-_}
 use native.Mathlib.Omega.{arith}
 use borrow.Author.Needs.{needs}
 use Rattle.link_file.specs.Says.{Nodes-says, Got}

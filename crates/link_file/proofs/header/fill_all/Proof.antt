@@ -1,7 +1,6 @@
 -- `header::fill_all` meets its contract: the loop's invariant is `Filling-all`. Assumes nothing.
-use Prim.Native.Nat.{ℕ, _-_}
+use Prim.Native.Nat.{_-_}
 use native.Mathlib.Omega.{arith}
-use borrow.Author.Needs.{needs}
 use Rattle.link_file.proofs.Nodes.{Filling-all, all-begin, all-next, all-done}
 use Rattle.link_file.proofs.header.fill_all.Statement.{statement}
 use Rattle.link_file.proofs.header.fill_all.Tie as tie

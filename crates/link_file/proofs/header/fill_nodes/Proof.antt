@@ -1,5 +1,5 @@
 -- `header::fill_nodes` meets its contract: the nodes are there, and the loop's invariant is `Filling-nodes`. Assumes nothing.
-use Prim.Native.Nat.{ℕ, _-_}
+use Prim.Native.Nat.{_-_}
 use native.Mathlib.Omega.{arith}
 use borrow.Author.Needs.{needs}
 use Rattle.link_file.specs.Says.{Got}

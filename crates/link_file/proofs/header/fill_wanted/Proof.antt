@@ -1,6 +1,6 @@
 -- `header::fill_wanted` meets its contract: the nodes that stand just before the first record, or all nodes. Assumes nothing.
 use borrow.Author.Needs.{needs}
-use mathlib.Core.Path.{_≡_, _∙_}
+use mathlib.Core.Path.{_∙_}
 use native.Mathlib.Omega.{arith}
 use Rattle.link_file.specs.Says.{wanted-in}
 use Rattle.link_file.proofs.header.fill_wanted.Statement.{statement}

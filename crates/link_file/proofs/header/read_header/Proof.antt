@@ -1,21 +1,22 @@
 -- `header::read_header` meets its contract. After each field the reader has got what the code has read; each `return` is then one way out
 -- of reading a header. Assumes nothing.
 use borrow.Author.Needs.{needs}
-use mathlib.Core.Bool.{true, false, not, _||_}
+use mathlib.Core.Bool.{false, not, _||_}
 use mathlib.Core.List.{List}
 use mathlib.Core.Path.{_≡_, refl, sym, _∙_}
-use Prim.Native.Nat.{ℕ, _+_, _*_, _≤_}
+use Prim.Native.Nat.{ℕ, _≤_}
 use native.Mathlib.Omega.{arith}
 use borrow.Author.Tests.{ltb-false}
 use denote.Ref.{now}
 use lib.Dec.{eqb, ltb}
-use lib.ListN.{length, getD, drop}
+use lib.ListN.{getD, drop}
 use Rattle.table.specs.Table.{most-nodes}
 use Rattle.link_file.specs.Format.{has, header-bits}
 use Rattle.link_file.specs.Reading.{got, field, optional}
 use Rattle.link_file.specs.Says.{Got, Field-says, Wanted-got, Wanted-says, Header-says, wanted-in}
+use Rattle.link_file.proofs.Booleans.{or-false-second}
 use Rattle.link_file.proofs.Ways.{as-got, as-ends, renamed, first-byte}
-use Rattle.link_file.proofs.HeaderWays.{or-false, header-empty, header-forbidden, cut-n, bad-n, cut-origin, wanted-refused, header-needless, header-got}
+use Rattle.link_file.proofs.HeaderWays.{header-empty, header-forbidden, cut-n, bad-n, cut-origin, wanted-refused, header-needless, header-got}
 use Rattle.link_file.proofs.header.read_header.Statement.{statement}
 use Rattle.link_file.proofs.header.read_header.Tie as tie
 
@@ -41,7 +42,7 @@ fine : (c : tie.Else3) → let n = c .before .before .before .n .given .0 .0 in 
 fine c = sym (c .before .bad-count .ensures) ∙ c .if3 .left
 
 low : (c : tie.Else3) → c .before .before .before .n .given .0 .0 ≤ most-nodes
-low c = ltb-false _ _ (or-false (eqb (c .before .before .before .n .given .0 .0) 0) (fine c))
+low c = ltb-false _ _ (or-false-second (eqb (c .before .before .before .n .given .0 .0) 0) _ (fine c))
 
 -- the origin
 origin-says : (c : tie.After-read-optional) → let n = c .before .before .before .before .before in let k = n .before .before .before in

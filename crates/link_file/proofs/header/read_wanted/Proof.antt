@@ -1,13 +1,12 @@
 -- `header::read_wanted` meets its contract: each `return` is one way out of reading the wanted list. Assumes nothing.
 use borrow.Author.Needs.{needs}
-use mathlib.Core.Bool.{true, false}
-use mathlib.Core.Path.{_≡_, sym, _∙_}
-use Prim.Native.Nat.{ℕ, _+_, _*_}
+use mathlib.Core.Bool.{true}
+use mathlib.Core.Path.{_≡_}
 use native.Mathlib.Omega.{arith}
 use borrow.Author.Tests.{not-true, not-false}
 use denote.Ref.{now}
 use Rattle.link_file.specs.Reading.{field}
-use Rattle.link_file.specs.Says.{Got, Wanted-says, Nodes-says}
+use Rattle.link_file.specs.Says.{Got, Wanted-says}
 use Rattle.link_file.proofs.Ways.{as-got, as-ends}
 use Rattle.link_file.proofs.HeaderWays.{wanted-absent, wanted-cut-count, wanted-many, wanted-cut, wanted-got}
 use Rattle.link_file.proofs.Nodes.{nodes-as-got, nodes-as-cut}

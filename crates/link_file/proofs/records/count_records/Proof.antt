@@ -1,6 +1,6 @@
 -- `records::count_records` meets its contract: one law of `Runs` for each way on and out. Assumes nothing.
 use mathlib.Core.List.{List}
-use mathlib.Core.Option.{Option, none, some}
+use mathlib.Core.Option.{Option, none}
 use mathlib.Core.Path.{_≡_, refl, sym, ap, _∙_}
 use Prim.Native.Nat.{ℕ, _-_, _<_}
 use native.Mathlib.Nat.{add-zero}

@@ -1,8 +1,8 @@
 -- `records::read_record` meets its contract. After each field the reader has got what the code has read (`tail-got`, `head-got`,
 -- `length-got`); each `return` is then one way out of reading a record. Assumes nothing.
-use mathlib.Core.Bool.{true, false}
+use mathlib.Core.Bool.{false}
 use mathlib.Core.Path.{_≡_, sym, ap, _∙_}
-use Prim.Native.Nat.{ℕ, _+_, _≤_, _<_}
+use Prim.Native.Nat.{ℕ, _+_, _<_}
 use native.Mathlib.Omega.{arith}
 use mathlib.Core.List.{List}
 use mathlib.Core.Option.{Option}
@@ -11,7 +11,7 @@ use denote.Ref.{now}
 use Rattle.table.specs.Table.{Arc, arc}
 use Rattle.link_file.specs.Format.{has, record-bits}
 use Rattle.link_file.specs.Reading.{Reader, got, field, optional, implied, forbidden}
-use Rattle.link_file.specs.Says.{Got, Ends, Field-says, Record-says, arc-before, arc-of, arc-implied}
+use Rattle.link_file.specs.Says.{Got, Field-says, Record-says, arc-before, arc-of, arc-implied}
 use Rattle.link_file.proofs.Ways.{as-got, as-ends, renamed, loose, first-byte, refused-bits, cut-tail, cut-head, cut-length, refused-head, refused-needless, got-record}
 use borrow.Author.Needs.{needs}
 use Rattle.link_file.proofs.records.read_record.Statement.{statement}

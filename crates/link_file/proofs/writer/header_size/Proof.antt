@@ -1,8 +1,8 @@
 -- `writer::header_size` meets its contract: the sum of the sizes of the fields that stand. Assumes nothing.
 use borrow.Author.Needs.{needs}
 use mathlib.Core.Bool.{Bool, cond}
-use mathlib.Core.Path.{_≡_, ap, _∙_}
-use Prim.Native.Nat.{ℕ, _+_, _*_}
+use mathlib.Core.Path.{ap, _∙_}
+use Prim.Native.Nat.{_+_, _*_}
 use Rattle.link_file.proofs.HeaderBytes.{header-sized}
 use Rattle.link_file.proofs.writer.header_size.Statement.{statement}
 use Rattle.link_file.proofs.writer.header_size.Tie as tie

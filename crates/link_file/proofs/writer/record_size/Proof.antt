@@ -1,7 +1,7 @@
 -- `writer::record_size` meets its contract: the sum of the sizes of the fields that stand. Assumes nothing.
 use borrow.Author.Needs.{needs}
 use mathlib.Core.Bool.{Bool, cond}
-use mathlib.Core.Path.{_≡_, ap, _∙_}
+use mathlib.Core.Path.{ap, _∙_}
 use native.Mathlib.Omega.{arith}
 use Rattle.link_file.proofs.Sizes.{sized}
 use Rattle.link_file.proofs.writer.record_size.Statement.{statement}

@@ -1,10 +1,9 @@
 -- `writer::records_size` meets its contract: the loop's invariant is `Sizing`. Assumes nothing.
-use Prim.Native.Nat.{ℕ, _-_}
-use mathlib.Core.Path.{_≡_, refl}
+use Prim.Native.Nat.{_-_}
 use native.Mathlib.Omega.{arith}
 use borrow.Author.Needs.{needs}
 use lib.ListN.{length}
-use Rattle.link_file.specs.Says.{arc-before, Record-sized}
+use Rattle.link_file.specs.Says.{arc-before}
 use Rattle.link_file.proofs.Sizes.{Sizing, sizing-begins, sizing-next, sizing-done}
 use Rattle.link_file.proofs.writer.records_size.Statement.{statement}
 use Rattle.link_file.proofs.writer.records_size.Tie as tie

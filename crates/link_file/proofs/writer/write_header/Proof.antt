@@ -1,8 +1,6 @@
 -- `writer::write_header` meets its contract: the bit map and the fields are put one after the other, each with its room. Assumes nothing.
 use borrow.Author.Needs.{needs}
-use native.Mathlib.Omega.{arith}
 use denote.Ref.{now}
-use lib.ListN.{length}
 use Rattle.link_file.specs.Format.{has, field-bytes, header-bytes}
 use Rattle.link_file.specs.Says.{Put}
 use Rattle.link_file.proofs.Pieces.{put-renamed, piece-room, put-kept}

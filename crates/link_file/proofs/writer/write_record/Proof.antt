@@ -1,11 +1,11 @@
 -- `writer::write_record` meets its contract: the bit map and its fields are put one after the other, each with its room. Assumes nothing.
 use borrow.Author.Needs.{needs}
 use mathlib.Core.List.{List, _∷_}
-use mathlib.Core.Path.{_≡_, refl, ap, sym, _∙_}
+use mathlib.Core.Path.{refl}
 use Prim.Native.Nat.{ℕ, _+_, _≤_}
 use native.Mathlib.Omega.{arith}
 use denote.Ref.{now}
-use lib.ListN.{length, set, length-set}
+use lib.ListN.{length, set}
 use Rattle.table.specs.Table.{Arc, arc}
 use Rattle.link_file.specs.Format.{has, field-bytes, fields-bytes, record-bytes}
 use Rattle.link_file.specs.Says.{Put, arc-of, arc-before}

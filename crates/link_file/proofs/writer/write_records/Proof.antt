@@ -1,8 +1,6 @@
 -- `writer::write_records` meets its contract: the loop's invariant is `Writing`. Assumes nothing.
-use Prim.Native.Nat.{ℕ, _-_}
-use mathlib.Core.Path.{_≡_, refl}
+use Prim.Native.Nat.{_-_}
 use native.Mathlib.Omega.{arith}
-use borrow.Author.Needs.{needs}
 use lib.ListN.{length}
 use Rattle.link_file.specs.Says.{arc-before}
 use Rattle.link_file.proofs.Sizes.{Writing, writing-begins, writing-next, record-room, writing-done}
