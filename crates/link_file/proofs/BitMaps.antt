@@ -104,13 +104,13 @@ needless-record none bits a good said =
     rw seven
 needless-record (some p) bits a good said =
     let e = not-canonical (has 1 bits) (eqb (a .tail) (p .tail)) (has 2 bits) (eqb (a .head) (p .head + 1)) (has 4 bits) (eqb (a .arc-length) (p .arc-length))
-        (eqb-said (said .tail-said)) (eqb-said (said .head-said)) (eqb-said (said .length-said)) in
+    (eqb-said (said .tail-said)) (eqb-said (said .head-said)) (eqb-said (said .length-said)) in
     rw (← its-bits bits (ltb-false 7 bits good)) at e
 
 pub needless-header-bits : Needless-header-is-not-canonical
 unfolding needless-header header-bits Agree
 needless-header-bits bits n o ws low count no-origin no-list =
     let e = not-canonical true false (has 2 bits) (eqb o 0) (has 4 bits) (all-nodes n ws)
-        (λ (z : true ≡ false). sym z) (eqb-said no-origin) no-list in
+    (λ (z : true ≡ false). sym z) (eqb-said no-origin) no-list in
     let made : bit-map true (has 2 bits) (has 4 bits) ≡ bits = ap (λ (b : Bool). bit-map b (has 2 bits) (has 4 bits)) (sym count) ∙ sym (its-bits bits low) in
     rw made at e

@@ -65,12 +65,12 @@ pub record Filling (file : List ℕ) (start : ℕ) (tails₀ heads₀ lengths₀
 pub filling-begins : {file : List ℕ} {start : ℕ} {tails heads lengths : List ℕ} → Fillable file start tails heads lengths
     → Filling file start tails heads lengths tails heads lengths start 0 none
 filling-begins f =
-    record
-    { stands = record { inside = f .inside; few = omega arith; short = omega (arith, f .short) }
-    ; good = f .good
-    ; tails-left = column-begins _ 0 _
-    ; heads-left = column-begins _ 0 _
-    ; lengths-left = column-begins _ 0 _
+    record {
+      stands = record { inside = f .inside; few = omega arith; short = omega (arith, f .short) };
+      good = f .good;
+      tails-left = column-begins _ 0 _;
+      heads-left = column-begins _ 0 _;
+      lengths-left = column-begins _ 0 _;
     }
 
 module _ {file : List ℕ} {start : ℕ} {tails₀ heads₀ lengths₀ tails heads lengths : List ℕ} {at i : ℕ} {before : Option Arc}
@@ -80,12 +80,12 @@ module _ {file : List ℕ} {start : ℕ} {tails₀ heads₀ lengths₀ tails hea
   unfolding tails-of heads-of lengths-of
   filling-next more {a} {next} r =
       let few : i < most-arcs = still-few file at i before more (f .good) (f .stands .few) in
-      record
-      { stands = standing-next (f .stands) before a next few r
-      ; good = next-good file at i before more (f .good) few r
-      ; tails-left = next-column file at i before more (f .good) few r tails-of (a .tail) (λ (rest : List Arc). refl) (f .tails-left)
-      ; heads-left = next-column file at i before more (f .good) few r heads-of (a .head) (λ (rest : List Arc). refl) (f .heads-left)
-      ; lengths-left = next-column file at i before more (f .good) few r lengths-of (a .arc-length) (λ (rest : List Arc). refl) (f .lengths-left)
+      record {
+        stands = standing-next (f .stands) before a next few r;
+        good = next-good file at i before more (f .good) few r;
+        tails-left = next-column file at i before more (f .good) few r tails-of (a .tail) (λ (rest : List Arc). refl) (f .tails-left);
+        heads-left = next-column file at i before more (f .good) few r heads-of (a .head) (λ (rest : List Arc). refl) (f .heads-left);
+        lengths-left = next-column file at i before more (f .good) few r lengths-of (a .arc-length) (λ (rest : List Arc). refl) (f .lengths-left);
       }
 
   pub filling-done : length file ≤ at
@@ -93,8 +93,8 @@ module _ {file : List ℕ} {start : ℕ} {tails₀ heads₀ lengths₀ tails hea
   unfolding tails-of heads-of lengths-of list-got
   filling-done end =
       let none-left : list-got (remaining file at i before) ≡ [] = ap list-got (run-none file at i before end) in
-      record
-      { tails-are = rw none-left at (f .tails-left .same)
-      ; heads-are = rw none-left at (f .heads-left .same)
-      ; lengths-are = rw none-left at (f .lengths-left .same)
+      record {
+        tails-are = rw none-left at (f .tails-left .same);
+        heads-are = rw none-left at (f .heads-left .same);
+        lengths-are = rw none-left at (f .lengths-left .same);
       }

@@ -32,15 +32,20 @@ pub header-sized : (bits wanted origin list : ℕ) → origin ≡ cond (has 2 bi
     → list ≤ 2 + 2 * wanted → wanted ≤ most-wanted → Header-sized bits wanted (3 + (origin + list))
 unfolding header-bytes
 header-sized bits wanted origin list eo lo el ll few =
-    record
-    { is =
-        λ (n o : ℕ) (ws : List ℕ) (size : length ws ≡ wanted) (e : bits ≡ header-bits n o ws).
-        let f : length (field-bytes (has 2 (header-bits n o ws)) 2 o) ≡ origin = length-field (has 2 (header-bits n o ws)) 2 o ∙ rw (← e) (sym eo) in
-        let g : length (wanted-bytes (has 4 (header-bits n o ws)) ws) ≡ list = length-wanted (has 4 (header-bits n o ws)) ws ∙ rw (← e, size) (sym el) in
-        omega (arith, f, g, length-bytes 2 n,
-          length-append (bytes 2 n) (field-bytes (has 2 (header-bits n o ws)) 2 o ++ wanted-bytes (has 4 (header-bits n o ws)) ws),
-          length-append (field-bytes (has 2 (header-bits n o ws)) 2 o) (wanted-bytes (has 4 (header-bits n o ws)) ws))
-    ; near = omega arith
+    record {
+      is =
+          λ (n o : ℕ) (ws : List ℕ) (size : length ws ≡ wanted) (e : bits ≡ header-bits n o ws).
+          let f : length (field-bytes (has 2 (header-bits n o ws)) 2 o) ≡ origin = length-field (has 2 (header-bits n o ws)) 2 o ∙ rw (← e) (sym eo) in
+          let g : length (wanted-bytes (has 4 (header-bits n o ws)) ws) ≡ list = length-wanted (has 4 (header-bits n o ws)) ws ∙ rw (← e, size) (sym el) in
+          omega (
+            arith,
+            f,
+            g,
+            length-bytes 2 n,
+            length-append (bytes 2 n) (field-bytes (has 2 (header-bits n o ws)) 2 o ++ wanted-bytes (has 4 (header-bits n o ws)) ws),
+            length-append (field-bytes (has 2 (header-bits n o ws)) 2 o) (wanted-bytes (has 4 (header-bits n o ws)) ws),
+          );
+      near = omega arith;
     }
 
 -- Comparing a wanted list with all nodes: those left count up from here where all do.
@@ -95,22 +100,22 @@ module _ {ws output₀ : List ℕ} {start : ℕ} {output : List ℕ} {at i : ℕ
   pub nodes-next : i < length ws → {next : ℕ} {output′ : List ℕ} → Put output at (bytes 2 (getD ws i 0)) next output′
       → Writing-nodes ws output₀ start output′ next (i + 1)
   nodes-next h {next} {output′} put =
-      record
-      { low = omega arith
-      ; on = omega (arith, w .on, put .on, ap length (more-nodes h), length-append (bytes 2 (getD ws i 0)) (nodes-bytes (drop (i + 1) ws)))
-      ; column =
-          rw (put .is, put .on)
-          (column-piece (bytes 2 (getD ws i 0)) (nodes-bytes (drop (i + 1) ws))
-          (subst (λ (l : List ℕ). Column output₀ start (nodes-bytes ws) output at l) (more-nodes h) (w .column)))
+      record {
+        low = omega arith;
+        on = omega (arith, w .on, put .on, ap length (more-nodes h), length-append (bytes 2 (getD ws i 0)) (nodes-bytes (drop (i + 1) ws)));
+        column =
+            rw (put .is, put .on)
+            (column-piece (bytes 2 (getD ws i 0)) (nodes-bytes (drop (i + 1) ws))
+            (subst (λ (l : List ℕ). Column output₀ start (nodes-bytes ws) output at l) (more-nodes h) (w .column)));
       }
 
   pub nodes-put : length ws ≤ i → Put output₀ start (nodes-bytes ws) at output
   unfolding nodes-bytes
   nodes-put end =
       let none : nodes-bytes (drop i ws) ≡ [] = rw (drop-of-length-le ws end) in
-      record
-      { on = let e : at + 0 ≡ start + length (nodes-bytes ws) = rw none at (w .on) in omega arith
-      ; is = rw none at (w .column .same)
+      record {
+        on = let e : at + 0 ≡ start + length (nodes-bytes ws) = rw none at (w .on) in omega arith;
+        is = rw none at (w .column .same);
       }
 
 -- the wanted list, where it stands and where not

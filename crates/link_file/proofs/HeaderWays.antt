@@ -20,14 +20,14 @@ use Rattle.link_file.proofs.Nodes.{nodes-read, nodes-cut, length-count-
 pub wanted-absent : (file : List ℕ) (from n : ℕ) → from ≤ length file → n ≤ most-nodes → Wanted-got file from false n n from true
 unfolding read-wanted give wanted-in
 wanted-absent file from n fits few =
-    record
-    { is = refl
-    ; size = length-count-up 0 n
-    ; same = sym (all-count-up n)
-    ; few = few
-    ; near = omega arith
-    ; inside = fits
-    ; room = λ (e : false ≡ true). true-false e refl
+    record {
+      is = refl;
+      size = length-count-up 0 n;
+      same = sym (all-count-up n);
+      few = few;
+      near = omega arith;
+      inside = fits;
+      room = λ (e : false ≡ true). true-false e refl;
     }
 
 module _ (file : List ℕ) (from n : ℕ) where
@@ -55,15 +55,15 @@ module _ (file : List ℕ) (from n : ℕ) where
           let all : 2 * count ≤ length (drop at file) = rw (length-drop at file) (omega (arith, nodes .on, nodes .inside)) in
           let on : 0 + at + 2 * count ≡ 0 + next = omega (arith, nodes .on) in
           let far : at + 2 * count ≡ next = omega (arith, nodes .on) in
-          record
-          { is =
-              rw (counted .is 0, le-ltb most-wanted count few, nodes-read count (0 + at) (drop at file) all, drop-drop (2 * count) at file, there, on, far)
-          ; size = length-nodes-in count _
-          ; same = rw (there, length-nodes-in count (drop at file), nodes .up)
-          ; few = few
-          ; near = omega (arith, nodes .on, counted .near)
-          ; inside = nodes .inside
-          ; room = λ (e : true ≡ true). omega (arith, nodes .on)
+          record {
+            is =
+                rw (counted .is 0, le-ltb most-wanted count few, nodes-read count (0 + at) (drop at file) all, drop-drop (2 * count) at file, there, on, far);
+            size = length-nodes-in count _;
+            same = rw (there, length-nodes-in count (drop at file), nodes .up);
+            few = few;
+            near = omega (arith, nodes .on, counted .near);
+            inside = nodes .inside;
+            room = λ (e : true ≡ true). omega (arith, nodes .on);
           }
 
 pub header-empty : (file : List ℕ) → length file ≡ 0 → read-header 0 file ≡ refused 9 0
@@ -109,13 +109,13 @@ module _ (file : List ℕ) (bits : ℕ) (one : field 1 0 file ≡ got bits 1 (dr
                 → Header-got file (record { n = n; origin = o; wanted = count; listed = has 4 bits; next = next })
             unfolding read-header _>>=_ _>>_ after here refuse-if give ws
             header-got low same =
-                record
-                { is =
-                    rw (one, good, nodes .is 0, fine, origin .is 0, wanted .is, eq-eqb bits (header-bits n o ws) same, zero-add next)
-                ; size = wanted .size
-                ; nodes = low
-                ; few = wanted .few
-                ; short = omega (arith, nodes .near, origin .near, wanted .near)
-                ; inside = wanted .inside
-                ; room = wanted .room
+                record {
+                  is =
+                      rw (one, good, nodes .is 0, fine, origin .is 0, wanted .is, eq-eqb bits (header-bits n o ws) same, zero-add next);
+                  size = wanted .size;
+                  nodes = low;
+                  few = wanted .few;
+                  short = omega (arith, nodes .near, origin .near, wanted .near);
+                  inside = wanted .inside;
+                  room = wanted .room;
                 }

@@ -34,12 +34,12 @@ pub nodes-cut : (k at : ℕ) (rest : List ℕ) → length rest < 2 * k → read-
 unfolding read-nodes _>>=_ after field
 nodes-cut zero at rest h = absurd (omega arith)
 nodes-cut (suc k) at rest h =
-    elim (decLt (length rest) 2)
-    [ yes s ↦ rw (lt-leb 2 (length rest) s)
-    | no s ↦
-        let short : length (drop 2 rest) < 2 * k = rw (length-drop 2 rest) (omega (arith, s)) in
-        let end : at + 2 + length (drop 2 rest) ≡ at + length rest = rw (length-drop 2 rest) (omega (arith, s)) in
-        rw (le-leb 2 (length rest) (omega (arith, s)), nodes-cut k (at + 2) (drop 2 rest) short, end)
+    elim (decLt (length rest) 2) [
+      | yes s ↦ rw (lt-leb 2 (length rest) s)
+      | no s ↦
+          let short : length (drop 2 rest) < 2 * k = rw (length-drop 2 rest) (omega (arith, s)) in
+          let end : at + 2 + length (drop 2 rest) ≡ at + length rest = rw (length-drop 2 rest) (omega (arith, s)) in
+          rw (le-leb 2 (length rest) (omega (arith, s)), nodes-cut k (at + 2) (drop 2 rest) short, end)
     ]
 
 -- one node more
@@ -77,11 +77,11 @@ module _ {file : List ℕ} {from count at i : ℕ} {ascending : Bool} (c : Check
       → Checking file from count next (ascending && eqb (number 2 (drop at file)) i) (i + 1)
   unfolding counts-from
   checking-next more {next} e h =
-      record
-      { along = along-next (c .along) more e h
-      ; same =
-          rw (e, and-assoc, add-one i)
-          (rw (along-nodes (c .along) more, add-one i) at (c .same))
+      record {
+        along = along-next (c .along) more e h;
+        same =
+            rw (e, and-assoc, add-one i)
+            (rw (along-nodes (c .along) more, add-one i) at (c .same));
       }
 
   pub checking-done : count ≤ i → Nodes-got file from count at ascending
@@ -89,10 +89,10 @@ module _ {file : List ℕ} {from count at i : ℕ} {ascending : Bool} (c : Check
   checking-done end =
       let all : i ≡ count = omega (arith, c .along .low) in
       let none : count - i ≡ 0 = omega arith in
-      record
-      { on = omega (arith, c .along .here)
-      ; inside = c .along .inside
-      ; up = sym (and-true ascending) ∙ (rw none at (c .same))
+      record {
+        on = omega (arith, c .along .here);
+        inside = c .along .inside;
+        up = sym (and-true ascending) ∙ (rw none at (c .same));
       }
 
 -- Filling the wanted buffer with the nodes of the file.
@@ -109,11 +109,11 @@ module _ {file : List ℕ} {from count : ℕ} {wanted₀ wanted : List ℕ} {at 
   pub nodes-next : i < count → {next : ℕ} → next ≡ at + 2 → next ≤ length file
       → Filling-nodes file from count wanted₀ (set wanted i (number 2 (drop at file))) next (i + 1)
   nodes-next more {next} e h =
-      record
-      { along = along-next (f .along) more e h
-      ; column =
-          rw e
-          (column-next (subst (λ (l : List ℕ). Column wanted₀ 0 (nodes-in count (drop from file)) wanted i l) (along-nodes (f .along) more) (f .column)))
+      record {
+        along = along-next (f .along) more e h;
+        column =
+            rw e
+            (column-next (subst (λ (l : List ℕ). Column wanted₀ 0 (nodes-in count (drop from file)) wanted i l) (along-nodes (f .along) more) (f .column)));
       }
 
   pub nodes-done : count ≤ i → wanted ≡ sets wanted₀ 0 (nodes-in count (drop from file))

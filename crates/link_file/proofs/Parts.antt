@@ -35,24 +35,24 @@ module _ (part : List ℕ) (from width : ℕ) (fits : from ≤ length part) wher
       → Got (field width) part from width (256 ^ width) (number width (drop from part)) (from + width)
   unfolding field
   field-got room small =
-      record
-      { is = λ (at : ℕ).
-          rw (le-leb width (length (drop from part)) (rw (length-drop from part) room), drop-drop width from part, add-assoc at from width)
-      ; on = omega arith
-      ; near = omega arith
-      ; inside = omega arith
-      ; small = number-small width (drop from part) (below-drop 256 from part small)
+      record {
+        is = λ (at : ℕ).
+            rw (le-leb width (length (drop from part)) (rw (length-drop from part) room), drop-drop width from part, add-assoc at from width);
+        on = omega arith;
+        near = omega arith;
+        inside = omega arith;
+        small = number-small width (drop from part) (below-drop 256 from part small);
       }
 
   -- there is none
   pub field-ends : length part - from < width → Ends (field width) part from width
   unfolding field
   field-ends short =
-      record
-      { is = λ (at : ℕ).
-          let e : at + from + (length part - from) ≡ at + length part = omega arith in
-          rw (lt-leb width (length (drop from part)) (rw (length-drop from part) short), length-drop from part, e)
-      ; near = omega arith
+      record {
+        is = λ (at : ℕ).
+            let e : at + from + (length part - from) ≡ at + length part = omega arith in
+            rw (lt-leb width (length (drop from part)) (rw (length-drop from part) short), length-drop from part, e);
+        near = omega arith;
       }
 
 -- a larger bound
@@ -82,16 +82,20 @@ module _ {part : List ℕ} {from width value left : ℕ} where
       let one-more : width - (left - 1) ≡ suc (width - left) = omega (arith, p .low) in
       let here : from + left ≡ suc (from + (left - 1)) = omega arith in
       let at : from + (left - 1) < length part = omega (arith, p .low) in
-      record
-      { low = omega (arith, p .low)
-      ; is =
-          rw (one-more, number-more (width - left) (from + (left - 1)) part at, ← here, p .is)
+      record {
+        low = omega (arith, p .low);
+        is =
+            rw (one-more, number-more (width - left) (from + (left - 1)) part at, ← here, p .is);
       }
 
   pub passed-small : Passed part from width value left → 0 < left → width ≤ 4 → Below 256 part → value < 16777216
   passed-small p some few small =
-      omega (arith, p .is, number-small (width - left) (drop (from + left) part) (below-drop 256 (from + left) part small),
-        three-bytes (width - left) (omega (arith, p .low)))
+      omega (
+        arith,
+        p .is,
+        number-small (width - left) (drop (from + left) part) (below-drop 256 (from + left) part small),
+        three-bytes (width - left) (omega (arith, p .low)),
+      )
 
   -- all bytes passed: the whole number
   pub passed-all : Passed part from width value left → left ≤ 0 → value ≡ number width (drop from part)
@@ -111,13 +115,13 @@ pub field-value : {part : List ℕ} {from width bound v next : ℕ} → Got (fie
     → (v ≡ number width (drop from part)) × (next ≡ from + width)
 unfolding field
 field-value {part} {from} {width} {bound} {v} {next} g =
-    elim (decLe width (length (drop from part)))
-    [ yes h ↦
-        let e : got (number width (drop from part)) (0 + from + width) (drop width (drop from part)) ≡ got v (0 + next) (drop next part) =
-            rw (le-leb width (length (drop from part)) h) at (g .is 0) in
-        (sym (got-value e), let p : 0 + from + width ≡ 0 + next = got-next e in omega arith)
-    | no h ↦
-        let e : refused 9 (0 + from + length (drop from part)) ≡ got v (0 + next) (drop next part) =
-            rw (lt-leb width (length (drop from part)) (omega (arith, h))) at (g .is 0) in
-        absurd (refused-got e)
+    elim (decLe width (length (drop from part))) [
+      | yes h ↦
+          let e : got (number width (drop from part)) (0 + from + width) (drop width (drop from part)) ≡ got v (0 + next) (drop next part) =
+          rw (le-leb width (length (drop from part)) h) at (g .is 0) in
+          (sym (got-value e), let p : 0 + from + width ≡ 0 + next = got-next e in omega arith)
+      | no h ↦
+          let e : refused 9 (0 + from + length (drop from part)) ≡ got v (0 + next) (drop next part) =
+          rw (lt-leb width (length (drop from part)) (omega (arith, h))) at (g .is 0) in
+          absurd (refused-got e)
     ]

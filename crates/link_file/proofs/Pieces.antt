@@ -18,9 +18,9 @@ put-byte out at b = record { on = refl; is = refl }
 module _ {out : List ℕ} {at : ℕ} {xs : List ℕ} {next : ℕ} {out₁ : List ℕ} (p : Put out at xs next out₁) where
   pub put-then : {ys : List ℕ} {next₂ : ℕ} {out₂ : List ℕ} → Put out₁ next ys next₂ out₂ → Put out at (xs ++ ys) next₂ out₂
   put-then {ys} {next₂} {out₂} q =
-      record
-      { on = omega (arith, p .on, q .on, length-append xs ys)
-      ; is = q .is ∙ rw (p .is, p .on) (sym (sets-append xs ys out at))
+      record {
+        on = omega (arith, p .on, q .on, length-append xs ys);
+        is = q .is ∙ rw (p .is, p .on) (sym (sets-append xs ys out at));
       }
 
   -- the output is as long as it was, and the rest has its room

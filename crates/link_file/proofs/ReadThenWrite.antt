@@ -45,14 +45,15 @@ field-back : (w at : ℕ) (rest : List ℕ) {v next : ℕ} {more : List ℕ} →
     → (rest ≡ bytes w v ++ more) × Below 256 more
 unfolding field
 field-back w at rest {v} {next} {more} small e =
-    elim (decLe w (length rest))
-    [ yes h ↦
-        let is : got (number w rest) (at + w) (drop w rest) ≡ got v next more = rw (le-leb w (length rest) h) at e in
-        let value : number w rest ≡ v = got-value is in
-        let left : drop w rest ≡ more = got-rest is in
-        ( sym (take-append-drop w rest) ∙ rw (← left, ← value, bytes-number w rest small h)
-        , subst (Below 256) left (below-drop 256 w rest small))
-    | no h ↦ absurd (refused-got (rw (lt-leb w (length rest) (omega (arith, h))) at e))
+    elim (decLe w (length rest)) [
+      | yes h ↦
+          let is : got (number w rest) (at + w) (drop w rest) ≡ got v next more = rw (le-leb w (length rest) h) at e in
+          let value : number w rest ≡ v = got-value is in
+          let left : drop w rest ≡ more = got-rest is in (
+            sym (take-append-drop w rest) ∙ rw (← left, ← value, bytes-number w rest small h),
+            subst (Below 256) left (below-drop 256 w rest small),
+          )
+      | no h ↦ absurd (refused-got (rw (lt-leb w (length rest) (omega (arith, h))) at e))
     ]
 
 optional-back : (stands : Bool) (w absent at : ℕ) (rest : List ℕ) {v next : ℕ} {more : List ℕ} → Below 256 rest
@@ -72,10 +73,11 @@ nodes-back (suc k) at rest {ws} {next} {more} small e =
     let one = field-back 2 at rest small e₁ in
     let all = nodes-back k at₁ r₁ (one .1) e₂ in
     let list : w ∷ tl ≡ ws = got-value k₂ in
-    let left : r₂ ≡ more = got-rest k₂ in
-    ( one .0 ∙ rw (all .0, ← list, left) (sym (append-assoc (bytes 2 w) (nodes-bytes tl) more))
-    , subst (Below 256) left (all .1)
-    , ap length (sym list) ∙ ap suc (all .2))
+    let left : r₂ ≡ more = got-rest k₂ in (
+      one .0 ∙ rw (all .0, ← list, left) (sym (append-assoc (bytes 2 w) (nodes-bytes tl) more)),
+      subst (Below 256) left (all .1),
+      ap length (sym list) ∙ ap suc (all .2),
+    )
 
 -- the wanted list
 wanted-back : (stands : Bool) (n at : ℕ) (rest : List ℕ) {ws : List ℕ} {next : ℕ} {more : List ℕ} → Below 256 rest
@@ -98,9 +100,10 @@ header-made bits n o ws rest r₁ r₂ r₃ r₄ {t} {at} {next} {more} e₁ e�
     let is : content n o ws [] ≡ t = got-value e in
     let left : r₄ ≡ more = got-rest e in
     let origin : List ℕ = field-bytes (has 2 bits) 2 o in
-    let list : List ℕ = wanted-bytes (has 4 bits) ws in
-    ( rw (← is, ← left, ← same) (e₁ ∙ rw (e₂, e₃, e₄, append-assoc (bytes 2 n) (origin ++ list) r₄, append-assoc origin list r₄))
-    , subst (Below 256) left small)
+    let list : List ℕ = wanted-bytes (has 4 bits) ws in (
+      rw (← is, ← left, ← same) (e₁ ∙ rw (e₂, e₃, e₄, append-assoc (bytes 2 n) (origin ++ list) r₄, append-assoc origin list r₄)),
+      subst (Below 256) left small,
+    )
 
 record-made : (before : Option Arc) (bits t h l : ℕ) (rest r₁ r₂ r₃ r₄ : List ℕ) {a : Arc} {at next : ℕ} {more : List ℕ} → rest ≡ bits ∷ r₁
     → r₁ ≡ field-bytes (has 1 bits) 2 t ++ r₂ → r₂ ≡ field-bytes (has 2 bits) 2 h ++ r₃ → r₃ ≡ field-bytes (has 4 bits) 4 l ++ r₄ → Below 256 r₄
@@ -111,9 +114,10 @@ record-made before bits t h l rest r₁ r₂ r₃ r₄ {a} {at} {next} {more} e�
     let left : r₄ ≡ more = got-rest e in
     let x : List ℕ = field-bytes (has 1 bits) 2 t in
     let y : List ℕ = field-bytes (has 2 bits) 2 h in
-    let z : List ℕ = field-bytes (has 4 bits) 4 l in
-    ( rw (← is, ← left, ← same) (e₁ ∙ rw (e₂, e₃, e₄, append-assoc x (y ++ z) r₄, append-assoc y z r₄))
-    , subst (Below 256) left small)
+    let z : List ℕ = field-bytes (has 4 bits) 4 l in (
+      rw (← is, ← left, ← same) (e₁ ∙ rw (e₂, e₃, e₄, append-assoc x (y ++ z) r₄, append-assoc y z r₄)),
+      subst (Below 256) left small,
+    )
 
 -- the header
 pub header-back : (at : ℕ) (rest : List ℕ) {t : Content} {next : ℕ} {more : List ℕ} → Below 256 rest → read-header at rest ≡ got t next more

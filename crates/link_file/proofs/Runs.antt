@@ -38,7 +38,7 @@ records-full before at (b ∷ rest) h = refl
 
 pub records-more : (k : ℕ) (before : Option Arc) (at : ℕ) (rest : List ℕ) → 0 < length rest
     → read-records (suc k) before at rest
-      ≡ after (read-record before at rest) (λ (a : Arc) (next : ℕ) (tl : List ℕ). then a (read-records k (some a) next tl))
+    ≡ after (read-record before at rest) (λ (a : Arc) (next : ℕ) (tl : List ℕ). then a (read-records k (some a) next tl))
 unfolding read-records _>>=_
 records-more k before at [] h = absurd (omega arith)
 records-more k before at (b ∷ rest) h = refl
@@ -86,10 +86,10 @@ pub record Standing (file : List ℕ) (at count : ℕ) : Type 0 where
 pub standing-next : {file : List ℕ} {at count : ℕ} → Standing file at count → (before : Option Arc) (a : Arc) (next : ℕ) → count < most-arcs
     → Record-got before (drop at file) at a next → Standing file next (count + 1)
 standing-next {file} {at} {count} s before a next few r =
-    record
-    { inside = omega (arith, r .inside, length-drop at file, s .inside)
-    ; few = omega arith
-    ; short = omega (arith, r .near, s .short)
+    record {
+      inside = omega (arith, r .inside, length-drop at file, s .inside);
+      few = omega arith;
+      short = omega (arith, r .near, s .short);
     }
 
 -- a record's answer by its case, read at an offset of the file

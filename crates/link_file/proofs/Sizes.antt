@@ -26,15 +26,20 @@ length-fields bits a =
     let t : List ℕ = field-bytes (has 1 bits) 2 (a .tail) in
     let h : List ℕ = field-bytes (has 2 bits) 2 (a .head) in
     let l : List ℕ = field-bytes (has 4 bits) 4 (a .arc-length) in
-    rw (length-append t (h ++ l), length-append h l, length-field (has 1 bits) 2 (a .tail), length-field (has 2 bits) 2 (a .head),
-      length-field (has 4 bits) 4 (a .arc-length))
+    rw (
+      length-append t (h ++ l),
+      length-append h l,
+      length-field (has 1 bits) 2 (a .tail),
+      length-field (has 2 bits) 2 (a .head),
+      length-field (has 4 bits) 4 (a .arc-length),
+    )
 
 pub sized : (bits tail head long : ℕ) → tail ≡ cond (has 1 bits) 2 0 → head ≡ cond (has 2 bits) 2 0 → long ≡ cond (has 4 bits) 4 0
     → Record-sized bits (1 + (tail + (head + long)))
 sized bits tail head long t h l =
-    record
-    { is = λ (a : Arc). let e : length (fields-bytes bits a) ≡ tail + (head + long) = length-fields bits a ∙ rw (t, h, l) in omega arith
-    ; near = omega (arith, small tail 2 (has 1 bits) t, small head 2 (has 2 bits) h, small long 4 (has 4 bits) l)
+    record {
+      is = λ (a : Arc). let e : length (fields-bytes bits a) ≡ tail + (head + long) = length-fields bits a ∙ rw (t, h, l) in omega arith;
+      near = omega (arith, small tail 2 (has 1 bits) t, small head 2 (has 2 bits) h, small long 4 (has 4 bits) l);
     }
   where
     small : (x w : ℕ) (b : Bool) → x ≡ cond b w 0 → x ≤ w
@@ -76,9 +81,9 @@ module _ {ts hs ls : List ℕ} {size i : ℕ} {before : Option Arc} (s : Sizing 
   sizing-next equal h a e more sized =
       let rest : arcs-left ts hs ls i ≡ a ∷ arcs-left ts hs ls (i + 1) = left-more equal h ∙ rw e in
       let all : length (records-bytes before (arcs-left ts hs ls i)) ≡ more + length (records-bytes (some a) (arcs-left ts hs ls (i + 1))) =
-          ap (λ (l : List Arc). length (records-bytes before l)) rest
-          ∙ length-record before a (arcs-left ts hs ls (i + 1))
-          ∙ ap (λ (k : ℕ). k + length (records-bytes (some a) (arcs-left ts hs ls (i + 1)))) (sym (sized .is a)) in
+      ap (λ (l : List Arc). length (records-bytes before l)) rest
+      ∙ length-record before a (arcs-left ts hs ls (i + 1))
+      ∙ ap (λ (k : ℕ). k + length (records-bytes (some a) (arcs-left ts hs ls (i + 1)))) (sym (sized .is a)) in
       record { low = omega arith; near = omega (arith, s .near, sized .near); same = omega (arith, s .same) }
 
   pub sizing-done : length ts ≤ i → size ≡ length (records-bytes none (arcs-of ts hs ls))
@@ -112,15 +117,20 @@ module _ {ts hs ls output₀ : List ℕ} {start : ℕ} {output : List ℕ} {at i
   pub writing-next : {next : ℕ} {output′ : List ℕ} → Put output at (record-bytes before a) next output′
       → Writing ts hs ls output₀ start output′ next (some a) (i + 1)
   writing-next {next} {output′} put =
-      record
-      { low = omega arith
-      ; room =
-          omega (arith, w .room, put .on, ap length rest,
-            length-append (record-bytes before a) (records-bytes (some a) (arcs-left ts hs ls (i + 1))))
-      ; column =
-          rw (put .is, put .on)
-          (column-piece (record-bytes before a) (records-bytes (some a) (arcs-left ts hs ls (i + 1)))
-          (subst (λ (l : List ℕ). Column output₀ start (records-bytes none (arcs-of ts hs ls)) output at l) rest (w .column)))
+      record {
+        low = omega arith;
+        room =
+            omega (
+              arith,
+              w .room,
+              put .on,
+              ap length rest,
+              length-append (record-bytes before a) (records-bytes (some a) (arcs-left ts hs ls (i + 1))),
+            );
+        column =
+            rw (put .is, put .on)
+            (column-piece (record-bytes before a) (records-bytes (some a) (arcs-left ts hs ls (i + 1)))
+            (subst (λ (l : List ℕ). Column output₀ start (records-bytes none (arcs-of ts hs ls)) output at l) rest (w .column)));
       }
 
 pub writing-done : {ts hs ls output₀ : List ℕ} {start : ℕ} {output : List ℕ} {at i : ℕ} {before : Option Arc}

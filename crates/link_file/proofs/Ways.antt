@@ -74,11 +74,19 @@ module _ (before : Option Arc) (part : List ℕ) (at : ℕ) (bits : ℕ) (one : 
           pub got-record : h ≤ 65535 → bits ≡ record-bits before (arc t h l) → Record-got before part at (arc t h l) (at + f₃)
           unfolding read-record _>>=_ _>>_ after here refuse-if give
           got-record low same =
-              record
-              { is =
-                  rw (one, good, tail .is at, head .is at, long .is at, le-ltb 65535 h low, eq-eqb bits (record-bits before (arc t h l)) same,
-                    add-sub-cancel-left at f₃)
-              ; on = omega (arith, tail .on, head .on, long .on)
-              ; near = omega (arith, tail .near, head .near, long .near)
-              ; inside = omega (arith, long .inside)
+              record {
+                is =
+                    rw (
+                      one,
+                      good,
+                      tail .is at,
+                      head .is at,
+                      long .is at,
+                      le-ltb 65535 h low,
+                      eq-eqb bits (record-bits before (arc t h l)) same,
+                      add-sub-cancel-left at f₃,
+                    );
+                on = omega (arith, tail .on, head .on, long .on);
+                near = omega (arith, tail .near, head .near, long .near);
+                inside = omega (arith, long .inside);
               }

@@ -33,11 +33,11 @@ unfolding too-short
 roomy t h l w e =
     let a : (ltb t most-arcs || ltb h most-arcs) ≡ false = or-false-first (ltb t most-arcs || ltb h most-arcs) (ltb l most-arcs || ltb w most-wanted) e in
     let b : (ltb l most-arcs || ltb w most-wanted) ≡ false = or-false-second (ltb t most-arcs || ltb h most-arcs) (ltb l most-arcs || ltb w most-wanted) e in
-    record
-    { tails-room = ltb-false t most-arcs (or-false-first (ltb t most-arcs) (ltb h most-arcs) a)
-    ; heads-room = ltb-false h most-arcs (or-false-second (ltb t most-arcs) (ltb h most-arcs) a)
-    ; lengths-room = ltb-false l most-arcs (or-false-first (ltb l most-arcs) (ltb w most-wanted) b)
-    ; wanted-room = ltb-false w most-wanted (or-false-second (ltb l most-arcs) (ltb w most-wanted) b)
+    record {
+      tails-room = ltb-false t most-arcs (or-false-first (ltb t most-arcs) (ltb h most-arcs) a);
+      heads-room = ltb-false h most-arcs (or-false-second (ltb t most-arcs) (ltb h most-arcs) a);
+      lengths-room = ltb-false l most-arcs (or-false-first (ltb l most-arcs) (ltb w most-wanted) b);
+      wanted-room = ltb-false w most-wanted (or-false-second (ltb l most-arcs) (ltb w most-wanted) b);
     }
 
 -- a list stored from the start
@@ -117,21 +117,21 @@ module _ (file : List ℕ) (h : Header) (g : Header-got file h) where
       → Filled (list-got (records-from file (h .next))) tails heads lengths tails′ heads′ lengths′
       → wanted′ ≡ sets wanted 0 ws
       → Read-says file tails heads lengths wanted tails′ heads′ lengths′ wanted′
-        (record { number = 0; place = 0; n = h .n; origin = h .origin; arcs = k; wanted = h .wanted })
+      (record { number = 0; place = 0; n = h .n; origin = h .origin; arcs = k; wanted = h .wanted })
   unfolding read-answer content no-refusal refusal tails-of heads-of lengths-of
   all-read {k} {tails} {heads} {lengths} {wanted} all room counted filled wanted-is =
       let good : accepted (records-from file (h .next)) ≡ true = tally-accepted (records-from file (h .next)) counted in
       let few : length (list-got (records-from file (h .next))) ≤ most-arcs = few-records most-arcs none (h .next) (drop (h .next) file) in
       let is : content-of (reading file tails heads lengths wanted) ≡ content (h .n) (h .origin) ws (list-got (records-from file (h .next))) =
-          ap content-of (all ∙ with-records) ∙ content-read (records-from file (h .next)) good in
+      ap content-of (all ∙ with-records) ∙ content-read (records-from file (h .next)) good in
       let clean : refusal-of (reading file tails heads lengths wanted) ≡ no-refusal =
-          ap refusal-of (all ∙ with-records) ∙ nothing-refused (records-from file (h .next)) good in
-      record
-      { answer = rw (is, clean, tally-length (records-from file (h .next)) counted, g .size)
-      ; tails-are = filled .tails-are ∙ rw is (sets-over _ tails (rw length-map (omega (arith, room .tails-room))))
-      ; heads-are = filled .heads-are ∙ rw is (sets-over _ heads (rw length-map (omega (arith, room .heads-room))))
-      ; lengths-are = filled .lengths-are ∙ rw is (sets-over _ lengths (rw length-map (omega (arith, room .lengths-room))))
-      ; wanted-are = wanted-is ∙ rw is (sets-over ws wanted (omega (arith, room .wanted-room, g .size, g .few)))
+      ap refusal-of (all ∙ with-records) ∙ nothing-refused (records-from file (h .next)) good in
+      record {
+        answer = rw (is, clean, tally-length (records-from file (h .next)) counted, g .size);
+        tails-are = filled .tails-are ∙ rw is (sets-over _ tails (rw length-map (omega (arith, room .tails-room))));
+        heads-are = filled .heads-are ∙ rw is (sets-over _ heads (rw length-map (omega (arith, room .heads-room))));
+        lengths-are = filled .lengths-are ∙ rw is (sets-over _ lengths (rw length-map (omega (arith, room .lengths-room))));
+        wanted-are = wanted-is ∙ rw is (sets-over ws wanted (omega (arith, room .wanted-room, g .size, g .few)));
       }
 
 -- the answer to a refusal, with the buffers as they were

@@ -45,8 +45,12 @@ unfolding read-nodes _>>=_ after give nodes-bytes Below
 nodes-again [] at rest small = rw (add-zero at)
 nodes-again (w ∷ ws) at rest small =
     let sum : at + length (bytes 2 w) + length (nodes-bytes ws) ≡ at + length (bytes 2 w ++ nodes-bytes ws) = omega (arith, length-append (bytes 2 w) (nodes-bytes ws)) in
-    rw (append-assoc (bytes 2 w) (nodes-bytes ws) rest, field-again 2 w at (nodes-bytes ws ++ rest) (small 0),
-      nodes-again ws (at + length (bytes 2 w)) rest (λ (i : ℕ). small (suc i)), sum)
+    rw (
+      append-assoc (bytes 2 w) (nodes-bytes ws) rest,
+      field-again 2 w at (nodes-bytes ws ++ rest) (small 0),
+      nodes-again ws (at + length (bytes 2 w)) rest (λ (i : ℕ). small (suc i)),
+      sum,
+    )
 
 -- a list that is all nodes is the list of all nodes
 counts-up : (i : ℕ) (ws : List ℕ) → counts-from i ws ≡ true → ws ≡ count-up i (length ws)
@@ -70,9 +74,14 @@ unfolding read-wanted _>>=_ _>>_ after refuse-if give wanted-bytes
 wanted-again false n ws at rest said few small = rw (← all-nodes-are n ws (said refl), add-zero at)
 wanted-again true n ws at rest said few small =
     let sum : at + length (bytes 2 (length ws)) + length (nodes-bytes ws) ≡ at + length (bytes 2 (length ws) ++ nodes-bytes ws) =
-        omega (arith, length-append (bytes 2 (length ws)) (nodes-bytes ws)) in
-    rw (append-assoc (bytes 2 (length ws)) (nodes-bytes ws) rest, field-again 2 (length ws) at (nodes-bytes ws ++ rest) (omega arith),
-      le-ltb most-wanted (length ws) few, nodes-again ws (at + length (bytes 2 (length ws))) rest small, sum)
+    omega (arith, length-append (bytes 2 (length ws)) (nodes-bytes ws)) in
+    rw (
+      append-assoc (bytes 2 (length ws)) (nodes-bytes ws) rest,
+      field-again 2 (length ws) at (nodes-bytes ws ++ rest) (omega arith),
+      le-ltb most-wanted (length ws) few,
+      nodes-again ws (at + length (bytes 2 (length ws))) rest small,
+      sum,
+    )
 
 -- the canonical bit map of a record is allowed, and the fields that it leaves out are implied
 pub canonical-allowed : (before : Option Arc) (a : Arc) → forbidden before (record-bits before a) ≡ false
@@ -90,10 +99,10 @@ canonical-implied none a =
     record { tail-said = true-false (made .first-bit); head-said = true-false (made .second-bit); length-said = true-false (made .third-bit) }
 canonical-implied (some p) a =
     let made = made-of (not (eqb (a .tail) (p .tail))) (not (eqb (a .head) (p .head + 1))) (not (eqb (a .arc-length) (p .arc-length))) in
-    record
-    { tail-said = said (a .tail) (p .tail) (made .first-bit)
-    ; head-said = said (a .head) (p .head + 1) (made .second-bit)
-    ; length-said = said (a .arc-length) (p .arc-length) (made .third-bit)
+    record {
+      tail-said = said (a .tail) (p .tail) (made .first-bit);
+      head-said = said (a .head) (p .head + 1) (made .second-bit);
+      length-said = said (a .arc-length) (p .arc-length) (made .third-bit);
     }
 
 -- one record
@@ -107,11 +116,18 @@ record-again before a at rest small =
     let z : List ℕ = field-bytes (has 4 bits) 4 (a .arc-length) in
     let absent = canonical-implied before a in
     let sum : at + 1 + length x + length y + length z ≡ at + suc (length (x ++ (y ++ z))) = omega (arith, length-append x (y ++ z), length-append y z) in
-    rw (byte-again bits at ((x ++ (y ++ z)) ++ rest), canonical-allowed before a, append-assoc x (y ++ z) rest, append-assoc y z rest,
+    rw (
+      byte-again bits at ((x ++ (y ++ z)) ++ rest),
+      canonical-allowed before a,
+      append-assoc x (y ++ z) rest,
+      append-assoc y z rest,
       optional-again (has 1 bits) 2 (implied before .tail) (a .tail) (at + 1) (y ++ (z ++ rest)) (small .tail-fits) (absent .tail-said),
       optional-again (has 2 bits) 2 (implied before .head) (a .head) (at + 1 + length x) (z ++ rest) (small .head-fits) (absent .head-said),
       optional-again (has 4 bits) 4 (implied before .arc-length) (a .arc-length) (at + 1 + length x + length y) rest (small .length-fits) (absent .length-said),
-      le-ltb 65535 (a .head) (omega (arith, small .head-fits)), eq-eqb bits bits refl, sum)
+      le-ltb 65535 (a .head) (omega (arith, small .head-fits)),
+      eq-eqb bits bits refl,
+      sum,
+    )
 
 -- a record has at least its bit map
 some-bytes : (before : Option Arc) (a : Arc) (rest : List ℕ) → 0 < length (record-bytes before a ++ rest)
@@ -163,10 +179,18 @@ header-again n o ws at rest pos low small few fits =
     let z : List ℕ = wanted-bytes (has 4 bits) ws in
     let sum : at + 1 + length x + length y + length z ≡ at + suc (length (x ++ (y ++ z))) = omega (arith, length-append x (y ++ z), length-append y z) in
     let good : (eqb n 0 || ltb most-nodes n) ≡ false = rw (ne-eqb n 0 (omega arith), le-ltb most-nodes n low) in
-    rw (byte-again bits at ((x ++ (y ++ z)) ++ rest), header-allowed n o ws, append-assoc x (y ++ z) rest, append-assoc y z rest,
-      field-again 2 n (at + 1) (y ++ (z ++ rest)) (omega arith), good,
+    rw (
+      byte-again bits at ((x ++ (y ++ z)) ++ rest),
+      header-allowed n o ws,
+      append-assoc x (y ++ z) rest,
+      append-assoc y z rest,
+      field-again 2 n (at + 1) (y ++ (z ++ rest)) (omega arith),
+      good,
       optional-again (has 2 bits) 2 0 o (at + 1 + length x) (z ++ rest) small (origin-said n o ws),
-      wanted-again (has 4 bits) n ws (at + 1 + length x + length y) rest (list-said n o ws) few fits, eq-eqb bits bits refl, sum)
+      wanted-again (has 4 bits) n ws (at + 1 + length x + length y) rest (list-said n o ws) few fits,
+      eq-eqb bits bits refl,
+      sum,
+    )
 
 pub written-tables-read-back : Written-tables-read-back
 unfolding read-file read-content _>>=_ after give file-bytes content
@@ -174,5 +198,8 @@ written-tables-read-back t w =
     let head : List ℕ = header-bytes (t .n) (t .origin) (t .wanted) in
     let rest : List ℕ = records-bytes none (t .arcs) in
     let sum : 0 + length head + length rest ≡ length (head ++ rest) = omega (arith, length-append head rest) in
-    rw (header-again (t .n) (t .origin) (t .wanted) 0 rest (w .some) (w .nodes) (w .origin-fits) (w .wanted-few) (w .wanted-fit),
-      records-again most-arcs none (t .arcs) (0 + length head) (w .arcs-few) (w .arcs-fit), sum)
+    rw (
+      header-again (t .n) (t .origin) (t .wanted) 0 rest (w .some) (w .nodes) (w .origin-fits) (w .wanted-few) (w .wanted-fit),
+      records-again most-arcs none (t .arcs) (0 + length head) (w .arcs-few) (w .arcs-fit),
+      sum,
+    )

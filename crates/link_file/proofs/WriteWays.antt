@@ -24,11 +24,11 @@ pub equal-columns : (ts hs ls : List ℕ) → columns-bad ts hs ls ≡ false →
 unfolding columns-bad
 equal-columns ts hs ls e =
     let same : (eqb (length ts) (length hs) && eqb (length hs) (length ls)) ≡ true =
-        not-false _ (or-false-first (not (eqb (length ts) (length hs) && eqb (length hs) (length ls))) (ltb most-arcs (length ts)) e) in
-    record
-    { heads-are = eqb-true (length ts) (length hs) (and-true-first (eqb (length ts) (length hs)) (eqb (length hs) (length ls)) same)
-    ; lengths-are = eqb-true (length hs) (length ls) (and-true-second (eqb (length ts) (length hs)) (eqb (length hs) (length ls)) same)
-    ; few = ltb-false most-arcs (length ts) (or-false-second (not (eqb (length ts) (length hs) && eqb (length hs) (length ls))) (ltb most-arcs (length ts)) e)
+    not-false _ (or-false-first (not (eqb (length ts) (length hs) && eqb (length hs) (length ls))) (ltb most-arcs (length ts)) e) in
+    record {
+      heads-are = eqb-true (length ts) (length hs) (and-true-first (eqb (length ts) (length hs)) (eqb (length hs) (length ls)) same);
+      lengths-are = eqb-true (length hs) (length ls) (and-true-second (eqb (length ts) (length hs)) (eqb (length hs) (length ls)) same);
+      few = ltb-false most-arcs (length ts) (or-false-second (not (eqb (length ts) (length hs) && eqb (length hs) (length ls))) (ltb most-arcs (length ts)) e);
     }
 
 module _ (n o : ℕ) (ts hs ls ws out : List ℕ) where
@@ -70,8 +70,8 @@ module _ (n o : ℕ) (ts hs ls ws out : List ℕ) where
         unfolding put-bytes write-answer no-refusal refusal file-of file-bytes content
         all-written {at} {size} {out₁} {out₂} is room head records =
             let whole : Put out 0 (header-bytes n o ws ++ records-bytes none (arcs-of ts hs ls)) (at + length (records-bytes none (arcs-of ts hs ls))) out₂ =
-                put-then head (record { on = refl; is = records }) in
-            record
-            { answer = rw (accepts room, is)
-            ; output-is = rw (accepts room) (whole .is ∙ sets-over (header-bytes n o ws ++ records-bytes none (arcs-of ts hs ls)) out room)
+            put-then head (record { on = refl; is = records }) in
+            record {
+              answer = rw (accepts room, is);
+              output-is = rw (accepts room) (whole .is ∙ sets-over (header-bytes n o ws ++ records-bytes none (arcs-of ts hs ls)) out room);
             }

@@ -73,5 +73,5 @@ write-answer f size = record { number = f .number; place = f .place; length = si
 pub record Write-says (n origin : ℕ) (tails heads lengths wanted output output′ : List ℕ) (r : Written) : Type 0 where
   pub answer : r
       ≡ write-answer (writing n origin tails heads lengths wanted (length output))
-        (length (put-bytes (writing n origin tails heads lengths wanted (length output)) (file-of n origin tails heads lengths wanted)))
+      (length (put-bytes (writing n origin tails heads lengths wanted (length output)) (file-of n origin tails heads lengths wanted)))
   pub output-is : output′ ≡ over (put-bytes (writing n origin tails heads lengths wanted (length output)) (file-of n origin tails heads lengths wanted)) output

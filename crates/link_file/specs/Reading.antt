@@ -119,9 +119,9 @@ read-records zero before at [] = got [] at []
 read-records (suc k) before at [] = got [] at []
 read-records zero before at (b ∷ rest) = refused 2 most-arcs
 read-records (suc k) before at (b ∷ rest) = after (read-record before at (b ∷ rest)) λ a.
-  do
-    more ← read-records k (some a)
-    give (a ∷ more)
+    do
+      more ← read-records k (some a)
+      give (a ∷ more)
 
 -- the file
 unfoldable pub read-content : Reader Content

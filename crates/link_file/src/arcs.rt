@@ -8,7 +8,9 @@ ghost use Rattle.link_file.specs.Says.{arc-of, arc-before, arc-implied, 
 
 // The weights of a record's bits.
 pub const TAIL: u8 = 1;
+
 pub const HEAD: u8 = 2;
+
 pub const LENGTH: u8 = 4;
 
 // The highest head, which no implied head may pass.
@@ -80,8 +82,16 @@ pub fn implied(previous: Previous) -> Absent
     ensures { λ r. ⌜ (arc-implied r ≡ implied (arc-before previous)) × (r .tail < 65536) ⌝ }
 {
     match previous {
-        Previous::Nothing => Absent { tail: 0, head: 0, length: 0 },
-        Previous::Record(p) => Absent { tail: wide(p.tail), head: wide(p.head) + 1, length: p.length },
+        Previous::Nothing => Absent {
+            tail: 0,
+            head: 0,
+            length: 0,
+        },
+        Previous::Record(p) => Absent {
+            tail: wide(p.tail),
+            head: wide(p.head) + 1,
+            length: p.length,
+        },
     }
 }
 

@@ -8,6 +8,7 @@ ghost use Rattle.link_file.specs.Says.{Field-says, Put};
 
 // The bytes of a node's number, and of a length.
 pub const NODE: usize = 2;
+
 pub const LENGTH: usize = 4;
 
 // A field's answer: its value with the next offset, or the part ends inside it.

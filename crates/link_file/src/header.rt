@@ -1,9 +1,11 @@
 // Reading the header: the node count, the origin and the wanted list.
 use crate::arcs;
-use crate::fields;
 use crate::fields::Field;
+use crate::fields::NODE;
+use crate::fields::place;
+use crate::fields::read_field;
+use crate::fields::read_optional;
 use crate::grounds;
-
 ghost use mathlib.Core.Bool.{_&&_, _||_, not};
 ghost use mathlib.Core.Path.{_≡_};
 ghost use Prim.Native.Nat.{_+_, _*_, _≤_, _<_};
@@ -19,7 +21,9 @@ pub const MOST_WANTED: u32 = 1024;
 
 // The weights of a header's bits.
 pub const COUNT: u8 = 1;
+
 pub const ORIGIN: u8 = 2;
+
 pub const WANTED: u8 = 4;
 
 // What a header says; `listed`: the wanted nodes stand in the file, just before the first record, which is at `next`.
@@ -64,7 +68,7 @@ fn check_nodes(file: &[u8], from: usize, count: u32) -> NodesRead
     let mut ascending = true;
     let mut i: u32 = 0;
     while i < count {
-        let Field::Value(node, next) = fields::read_field(file, at, fields::NODE) else {
+        let Field::Value(node, next) = read_field(file, at, NODE) else {
             return NodesRead::Cut;
         };
         ascending = both(ascending, node == i);
@@ -82,14 +86,14 @@ fn read_wanted(file: &[u8], from: usize, listed: bool, n: u32) -> WantedRead
     if !listed {
         return WantedRead::Read(n, from, true);
     }
-    let Field::Value(count, nodes_at) = fields::read_field(file, from, fields::NODE) else {
-        return WantedRead::Refused(grounds::CUT, fields::place(file.len()));
+    let Field::Value(count, nodes_at) = read_field(file, from, NODE) else {
+        return WantedRead::Refused(grounds::CUT, place(file.len()));
     };
     if MOST_WANTED < count {
         return WantedRead::Refused(grounds::WANTED, MOST_WANTED);
     }
     let NodesRead::Read(next, ascending) = check_nodes(file, nodes_at, count) else {
-        return WantedRead::Refused(grounds::CUT, fields::place(file.len()));
+        return WantedRead::Refused(grounds::CUT, place(file.len()));
     };
     WantedRead::Read(count, next, both(count == n, ascending))
 }
@@ -125,25 +129,31 @@ pub fn read_header(file: &[u8]) -> HeaderRead
     if forbidden(bits) {
         return HeaderRead::Refused(grounds::BIT_MAP, 0);
     }
-    let Field::Value(n, origin_at) = fields::read_field(file, 1, fields::NODE) else {
-        return HeaderRead::Refused(grounds::CUT, fields::place(file.len()));
+    let Field::Value(n, from) = read_field(file, 1, NODE) else {
+        return HeaderRead::Refused(grounds::CUT, place(file.len()));
     };
     if bad_count(n) {
         return HeaderRead::Refused(grounds::NODES, 0);
     }
     let has_origin = arcs::stands(ORIGIN, bits);
-    let Field::Value(origin, wanted_at) = fields::read_optional(file, origin_at, fields::NODE, has_origin, 0) else {
-        return HeaderRead::Refused(grounds::CUT, fields::place(file.len()));
+    let Field::Value(origin, from) = read_optional(file, from, NODE, has_origin, 0) else {
+        return HeaderRead::Refused(grounds::CUT, place(file.len()));
     };
     let listed = arcs::stands(WANTED, bits);
-    match read_wanted(file, wanted_at, listed, n) {
+    match read_wanted(file, from, listed, n) {
         WantedRead::Refused(number, at) => HeaderRead::Refused(number, at),
         WantedRead::Read(wanted, next, all) => {
             if bits != arcs::bits_of(true, origin != 0, !all) {
                 return HeaderRead::Refused(grounds::NEEDLESS, 0);
             }
             let origin = origin as u16;
-            HeaderRead::Read(Header { n, origin, wanted, listed, next })
+            HeaderRead::Read(Header {
+                n,
+                origin,
+                wanted,
+                listed,
+                next,
+            })
         }
     }
 }
@@ -156,7 +166,7 @@ fn fill_nodes(file: &[u8], from: usize, count: u32, wanted: &mut [u16])
     let mut at = from;
     let mut i: u32 = 0;
     while i < count {
-        let Field::Value(node, next) = fields::read_field(file, at, fields::NODE) else {
+        let Field::Value(node, next) = read_field(file, at, NODE) else {
             return;
         };
         wanted[i as usize] = node as u16;

@@ -9,7 +9,6 @@ mod writer;
 
 use header::HeaderRead;
 use records::Counted;
-
 ghost use mathlib.Core.Bool.{not, _&&_, _||_};
 ghost use mathlib.Core.List.{[]};
 ghost use mathlib.Core.Path.{_≡_};
@@ -42,7 +41,14 @@ const MOST_WANTED: usize = header::MOST_WANTED as usize;
 fn not_read(number: u32, place: u32) -> TableRead
     ensures { λ r. ⌜ r ≡ read-answer (refusal number place) (content 0 0 [] []) ⌝ }
 {
-    TableRead { number, place, n: 0, origin: 0, arcs: 0, wanted: 0 }
+    TableRead {
+        number,
+        place,
+        n: 0,
+        origin: 0,
+        arcs: 0,
+        wanted: 0,
+    }
 }
 
 // 3: a lent buffer is too short.
@@ -63,7 +69,13 @@ fn short(tails: usize, heads: usize, lengths: usize, wanted: usize) -> bool
 
 // Reads a link file: the arcs go to the starts of the three columns, which are at least 6,000 long, the wanted nodes to the start of a buffer of
 // at least 1,024. A refusal leaves every buffer as it was: the whole file is validated before anything is filled.
-pub fn read_link_file(file: &[u8], tails: &mut [u16], heads: &mut [u16], lengths: &mut [u32], wanted: &mut [u16]) -> TableRead
+pub fn read_link_file(
+    file: &[u8],
+    tails: &mut [u16],
+    heads: &mut [u16],
+    lengths: &mut [u32],
+    wanted: &mut [u16],
+) -> TableRead
     ensures { λ r. ⌜ Read-says (now (file .entry)) (now (tails .entry)) (now (heads .entry)) (now (lengths .entry)) (now (wanted .entry)) (now (tails .exit)) (now (heads .exit)) (now (lengths .exit)) (now (wanted .exit)) r ⌝ }
 {
     if short(tails.len(), heads.len(), lengths.len(), wanted.len()) {
@@ -78,7 +90,14 @@ pub fn read_link_file(file: &[u8], tails: &mut [u16], heads: &mut [u16], lengths
                 Counted::Arcs(arcs) => {
                     header::fill_wanted(file, header, wanted);
                     records::fill_records(file, next, tails, heads, lengths);
-                    TableRead { number: 0, place: 0, n: header.n, origin: header.origin, arcs, wanted: header.wanted }
+                    TableRead {
+                        number: 0,
+                        place: 0,
+                        n: header.n,
+                        origin: header.origin,
+                        arcs,
+                        wanted: header.wanted,
+                    }
                 }
             }
         }
@@ -88,7 +107,11 @@ pub fn read_link_file(file: &[u8], tails: &mut [u16], heads: &mut [u16], lengths
 fn not_written(number: u32, place: u32) -> Written
     ensures { λ r. ⌜ r ≡ write-answer (refusal number place) 0 ⌝ }
 {
-    Written { number, place, length: 0 }
+    Written {
+        number,
+        place,
+        length: 0,
+    }
 }
 
 // 2: columns of unequal length, or too many arcs.
@@ -106,7 +129,15 @@ fn bad_columns(tails: usize, heads: usize, lengths: usize) -> bool
 
 // Writes a table as a link file at the start of the output and gives the file's length. A refusal leaves the output as it was. The elements of
 // the columns are not tested: what a planner would refuse is written, and read back, as it is.
-pub fn write_link_file(n: u32, origin: u16, tails: &[u16], heads: &[u16], lengths: &[u32], wanted: &[u16], output: &mut [u8]) -> Written
+pub fn write_link_file(
+    n: u32,
+    origin: u16,
+    tails: &[u16],
+    heads: &[u16],
+    lengths: &[u32],
+    wanted: &[u16],
+    output: &mut [u8],
+) -> Written
     ensures { λ r. ⌜ Write-says n origin (now (tails .entry)) (now (heads .entry)) (now (lengths .entry)) (now (wanted .entry)) (now (output .entry)) (now (output .exit)) r ⌝ }
 {
     if header::bad_count(n) {
@@ -119,12 +150,17 @@ pub fn write_link_file(n: u32, origin: u16, tails: &[u16], heads: &[u16], length
         return not_written(grounds::WANTED, header::MOST_WANTED);
     }
     let bits = writer::header_bits(n, origin, wanted);
-    let size = writer::header_size(bits, wanted.len()) + writer::records_size(tails, heads, lengths);
+    let size = writer::header_size(bits, wanted.len())
+        + writer::records_size(tails, heads, lengths);
     if output.len() < size {
         return not_written(grounds::ROOM, 0);
     }
     let at = writer::write_header(n, origin, wanted, bits, output);
     writer::write_records(tails, heads, lengths, at, output);
     let length = size as u32;
-    Written { number: 0, place: 0, length }
+    Written {
+        number: 0,
+        place: 0,
+        length,
+    }
 }

@@ -2,10 +2,12 @@
 use crate::arcs;
 use crate::arcs::Arc;
 use crate::arcs::Previous;
-use crate::fields;
 use crate::fields::Field;
+use crate::fields::LENGTH;
+use crate::fields::NODE;
+use crate::fields::place;
+use crate::fields::read_optional;
 use crate::grounds;
-
 ghost use mathlib.Core.Path.{_≡_};
 ghost use Prim.Native.Nat.{_≤_, _<_};
 ghost use lib.ListN.{length};
@@ -30,23 +32,28 @@ pub fn read_record(part: &[u8], at: usize, previous: Previous) -> RecordRead
     }
     let absent = arcs::implied(previous);
     let has_tail = arcs::stands(arcs::TAIL, bits);
-    let Field::Value(tail, head_at) = fields::read_optional(part, 1, fields::NODE, has_tail, absent.tail) else {
-        return RecordRead::Refused(grounds::CUT, fields::place(at + part.len()));
+    let Field::Value(tail, from) = read_optional(part, 1, NODE, has_tail, absent.tail) else {
+        return RecordRead::Refused(grounds::CUT, place(at + part.len()));
     };
     let has_head = arcs::stands(arcs::HEAD, bits);
-    let Field::Value(head, length_at) = fields::read_optional(part, head_at, fields::NODE, has_head, absent.head) else {
-        return RecordRead::Refused(grounds::CUT, fields::place(at + part.len()));
+    let Field::Value(head, from) = read_optional(part, from, NODE, has_head, absent.head) else {
+        return RecordRead::Refused(grounds::CUT, place(at + part.len()));
     };
     let has_length = arcs::stands(arcs::LENGTH, bits);
-    let Field::Value(length, end) = fields::read_optional(part, length_at, fields::LENGTH, has_length, absent.length) else {
-        return RecordRead::Refused(grounds::CUT, fields::place(at + part.len()));
+    let Field::Value(length, end) = read_optional(part, from, LENGTH, has_length, absent.length)
+    else {
+        return RecordRead::Refused(grounds::CUT, place(at + part.len()));
     };
     if arcs::LAST_HEAD < head {
         return RecordRead::Refused(grounds::HEAD, start);
     }
     let near = tail as u16;
     let far = head as u16;
-    let arc = Arc { tail: near, head: far, length };
+    let arc = Arc {
+        tail: near,
+        head: far,
+        length,
+    };
     if bits != arcs::record_bits(previous, arc) {
         return RecordRead::Refused(grounds::NEEDLESS, start);
     }
@@ -89,7 +96,13 @@ pub fn count_records(file: &[u8], start: usize) -> Counted
 }
 
 // The second pass: the records, all of them good, fill the columns from their starts.
-pub fn fill_records(file: &[u8], start: usize, tails: &mut [u16], heads: &mut [u16], lengths: &mut [u32])
+pub fn fill_records(
+    file: &[u8],
+    start: usize,
+    tails: &mut [u16],
+    heads: &mut [u16],
+    lengths: &mut [u32],
+)
     requires { ⌜ Fillable (now file) start (now tails) (now heads) (now lengths) ⌝ }
     ensures { λ _. ⌜ Filled (list-got (records-from (now (file .entry)) start)) (now (tails .entry)) (now (heads .entry)) (now (lengths .entry)) (now (tails .exit)) (now (heads .exit)) (now (lengths .exit)) ⌝ }
 {

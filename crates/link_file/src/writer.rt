@@ -4,7 +4,6 @@ use crate::arcs::Arc;
 use crate::arcs::Previous;
 use crate::fields;
 use crate::header;
-
 ghost use mathlib.Core.Bool.{not, _||_, _&&_, cond};
 ghost use mathlib.Core.Option.{none};
 ghost use mathlib.Core.Path.{_≡_};
@@ -36,7 +35,11 @@ fn arc_at(tails: &[u16], heads: &[u16], lengths: &[u32], i: usize) -> Arc
     requires { ⌜ (i < length (now tails)) × ((i < length (now heads)) × (i < length (now lengths))) ⌝ }
     ensures { λ r. ⌜ arc-of r ≡ arc (getD (now (tails .entry)) i 0) (getD (now (heads .entry)) i 0) (getD (now (lengths .entry)) i 0) ⌝ }
 {
-    Arc { tail: tails[i], head: heads[i], length: lengths[i] }
+    Arc {
+        tail: tails[i],
+        head: heads[i],
+        length: lengths[i],
+    }
 }
 
 // The size of all records.
@@ -64,9 +67,21 @@ fn write_record(output: &mut [u8], at: usize, previous: Previous, arc: Arc) -> u
     let bits = arcs::record_bits(previous, arc);
     output[at] = bits;
     let has_tail = arcs::stands(arcs::TAIL, bits);
-    let head_at = fields::put_optional(output, at + 1, fields::NODE, has_tail, arcs::wide(arc.tail));
+    let head_at = fields::put_optional(
+        output,
+        at + 1,
+        fields::NODE,
+        has_tail,
+        arcs::wide(arc.tail),
+    );
     let has_head = arcs::stands(arcs::HEAD, bits);
-    let length_at = fields::put_optional(output, head_at, fields::NODE, has_head, arcs::wide(arc.head));
+    let length_at = fields::put_optional(
+        output,
+        head_at,
+        fields::NODE,
+        has_head,
+        arcs::wide(arc.head),
+    );
     let has_length = arcs::stands(arcs::LENGTH, bits);
     fields::put_optional(output, length_at, fields::LENGTH, has_length, arc.length)
 }
@@ -157,7 +172,13 @@ pub fn write_header(n: u32, origin: u16, wanted: &[u16], bits: u8, output: &mut 
     output[0] = bits;
     let origin_at = fields::put_field(output, 1, fields::NODE, n);
     let has_origin = arcs::stands(header::ORIGIN, bits);
-    let wanted_at = fields::put_optional(output, origin_at, fields::NODE, has_origin, arcs::wide(origin));
+    let wanted_at = fields::put_optional(
+        output,
+        origin_at,
+        fields::NODE,
+        has_origin,
+        arcs::wide(origin),
+    );
     let listed = arcs::stands(header::WANTED, bits);
     write_wanted(output, wanted_at, listed, wanted)
 }

@@ -84,13 +84,13 @@ fill-records-requires c κs =
     let a = c .before .before .before .before .before .before .before .before in
     let h = a .before .before .before .before in
     let e = h .before .before .before in
-    record
-    { inside = headed h .inside
-    ; short = headed h .short
-    ; good = tally-accepted _ (counted a)
-    ; tails-room = room e .tails-room
-    ; heads-room = room e .heads-room
-    ; lengths-room = room e .lengths-room
+    record {
+      inside = headed h .inside;
+      short = headed h .short;
+      good = tally-accepted _ (counted a);
+      tails-room = room e .tails-room;
+      heads-room = room e .heads-room;
+      lengths-room = room e .lengths-room;
     }
 
 returns-2 : tie.Need-returns-2

@@ -52,8 +52,12 @@ size-is : (c : tie.After-records-size) → let k = c .before .before .before .be
 size-is c =
     let k = c .before .before .before .before in
     let s = k .before .before .before .before .before .before .before .before .before in
-    omega (arith, file-size (s .args .n) (s .args .origin) (ts s) (hs s) (ls s) (ws s) (out s), c .records-size .ensures .0,
-      c .before .header-size .ensures .is (s .args .n) (s .args .origin) (ws s) refl (c .before .before .header-bits .ensures))
+    omega (
+      arith,
+      file-size (s .args .n) (s .args .origin) (ts s) (hs s) (ls s) (ws s) (out s),
+      c .records-size .ensures .0,
+      c .before .header-size .ensures .is (s .args .n) (s .args .origin) (ws s) refl (c .before .before .header-bits .ensures),
+    )
 
 bad-count-requires : tie.Need-bad-count-requires
 bad-count-requires c κs = search needs
@@ -119,10 +123,10 @@ write-header-requires c κs =
     let r = c .before .before in
     let e = r .before .before .before in
     let s = e .before .before .before .before .before .before .before .before .before .before in
-    record
-    { canonical = r .before .before .header-bits .ensures
-    ; room = omega (arith, size-is r, c .before .if4 .left, file-size (s .args .n) (s .args .origin) (ts s) (hs s) (ls s) (ws s) (out s))
-    ; few = e .if3 .left
+    record {
+      canonical = r .before .before .header-bits .ensures;
+      room = omega (arith, size-is r, c .before .if4 .left, file-size (s .args .n) (s .args .origin) (ts s) (hs s) (ls s) (ws s) (out s));
+      few = e .if3 .left;
     }
 
 write-records-requires : tie.Need-write-records-requires
@@ -130,10 +134,17 @@ write-records-requires c κs =
     let h = c .before .before .before in
     let r = h .before .before .before in
     let k = r .before .before .before .before in
-    let s = k .before .before .before .before .before .before .before .before .before in
-    ( equal-columns _ _ _ (equal k)
-    , omega (arith, size-is r, h .before .before .if4 .left, h .write-header .ensures .on, put-kept (h .write-header .ensures),
-      file-size (s .args .n) (s .args .origin) (ts s) (hs s) (ls s) (ws s) (out s)))
+    let s = k .before .before .before .before .before .before .before .before .before in (
+      equal-columns _ _ _ (equal k),
+      omega (
+        arith,
+        size-is r,
+        h .before .before .if4 .left,
+        h .write-header .ensures .on,
+        put-kept (h .write-header .ensures),
+        file-size (s .args .n) (s .args .origin) (ts s) (hs s) (ls s) (ws s) (out s),
+      ),
+    )
 
 cast-length : tie.Need-cast-length
 cast-length c = search needs

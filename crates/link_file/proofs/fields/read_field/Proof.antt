@@ -30,7 +30,7 @@ sub-left : tie.Need-sub-left Inv-loop μ-loop
 sub-left c = search needs
 
 mul-value : tie.Need-mul-value Inv-loop μ-loop
-mul-value c = 
+mul-value c =
     let s = c .before .before .before in
     omega (arith, passed-small (c .before .loop .inv) (c .loop-test .taken) (s .before .pre .1) (column-below w8 _ (s .shared-slice-known .given)))
 
@@ -46,8 +46,12 @@ wide-requires c κs = search needs
 add-value : tie.Need-add-value Inv-loop μ-loop
 add-value c =
     let s = c .before .before .before .before .before in
-    omega (arith, c .wide .ensures, c .before .shared-slice-known2 .given (s .before .args .from + (c .before .before .before .loop .left - 1)),
-      passed-small (c .before .before .before .loop .inv) (c .before .before .loop-test .taken) (s .before .pre .1) (column-below w8 _ (s .shared-slice-known .given)))
+    omega (
+      arith,
+      c .wide .ensures,
+      c .before .shared-slice-known2 .given (s .before .args .from + (c .before .before .before .loop .left - 1)),
+      passed-small (c .before .before .before .loop .inv) (c .before .before .loop-test .taken) (s .before .pre .1) (column-below w8 _ (s .shared-slice-known .given)),
+    )
 
 loop-less : tie.Need-loop-less Inv-loop μ-loop
 loop-less c = omega arith

@@ -13,7 +13,7 @@ read-field-requires c κs = search needs
 
 returns : tie.Need-returns
 unfolding optional
-returns c = 
+returns c =
     let s = c .before .before .before in
     let a = s .args in
     rw (c .before .if1 .taken) λ (bound : ℕ) (h : 256 ^ a .width ≤ bound) (k : a .absent < bound).

@@ -39,8 +39,13 @@ same-length c = c .before .before .before .before .loop .inv .column .kept
 returns : tie.Need-returns Inv-loop μ-loop
 returns c =
     let l = c .before .before .before .before in
-    absurd (omega (arith, as-ends 65536 (c .enum-told .given .1) (c .before .before .read-field .ensures) .near, l .loop .inv .along .here,
-      c .before .before .before .loop-test .taken, l .before .before .before .pre .0))
+    absurd (omega (
+      arith,
+      as-ends 65536 (c .enum-told .given .1) (c .before .before .read-field .ensures) .near,
+      l .loop .inv .along .here,
+      c .before .before .before .loop-test .taken,
+      l .before .before .before .pre .0,
+    ))
 
 cast-wanted : tie.Need-cast-wanted Inv-loop μ-loop
 cast-wanted c = record { fits = node (c .before) .small }

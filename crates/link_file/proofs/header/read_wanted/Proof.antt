@@ -58,8 +58,13 @@ enum-told-2 c = search needs
 
 place-requires-2 : tie.Need-place-requires-2
 place-requires-2 c κs =
-    omega (arith, nodes-as-cut _ _ _ (c .enum-told2 .given .1) (c .before .before .check-nodes .ensures), counted (c .before .before .before .before .before) .near,
-      c .before .before .before .if2 .left, c .before .before .before .before .before .before .before .before .before .before .pre)
+    omega (
+      arith,
+      nodes-as-cut _ _ _ (c .enum-told2 .given .1) (c .before .before .check-nodes .ensures),
+      counted (c .before .before .before .before .before) .near,
+      c .before .before .before .if2 .left,
+      c .before .before .before .before .before .before .before .before .before .before .pre,
+    )
 
 returns-4 : tie.Need-returns-4
 unfolding Wanted-says

@@ -72,9 +72,9 @@ loop-again c =
     let l = c .before .before .before .before .before .before .before in
     let r = read (c .before) in
     let few : l .loop .count < most-arcs = omega arith in
-    record
-    { stands = standing-next (l .loop .inv .stands) _ _ _ few r
-    ; same = sym (tally-more _ _ _) ∙ ap (tally (l .loop .count)) (sym (run-more _ _ _ _ (c .before .before .before .before .before .before .loop-test .taken) few r)) ∙ l .loop .inv .same
+    record {
+      stands = standing-next (l .loop .inv .stands) _ _ _ few r;
+      same = sym (tally-more _ _ _) ∙ ap (tally (l .loop .count)) (sym (run-more _ _ _ _ (c .before .before .before .before .before .before .loop-test .taken) few r)) ∙ l .loop .inv .same;
     }
 
 enum-known-number : tie.Need-enum-known-number Inv-loop μ-loop

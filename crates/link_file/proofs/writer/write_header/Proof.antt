@@ -39,10 +39,11 @@ write-wanted-requires : tie.Need-write-wanted-requires
 write-wanted-requires c κs =
     let o = c .before .before .before .before in
     let p = o .before .before .before .before .before .before in
-    let s = p .before .before .before .before in
-    ( list-room-renamed (now (s .args .wanted)) (o .put-optional .result) _ (c .before .stands2 .ensures)
-    (wanted-room (now (s .args .output)) (s .args .n) (s .args .origin) (now (s .args .wanted)) (s .pre .canonical) (s .pre .room) (p .put-field .ensures) (origin-put o))
-    , s .pre .few)
+    let s = p .before .before .before .before in (
+      list-room-renamed (now (s .args .wanted)) (o .put-optional .result) _ (c .before .stands2 .ensures)
+          (wanted-room (now (s .args .output)) (s .args .n) (s .args .origin) (now (s .args .wanted)) (s .pre .canonical) (s .pre .room) (p .put-field .ensures) (origin-put o)),
+      s .pre .few,
+    )
 
 -- the whole header, put
 headed : (c : tie.After-slice-known4) → let p = c .before .before .before .before .before .before .before .before .before .before .before .before .before in

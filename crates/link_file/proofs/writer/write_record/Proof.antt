@@ -58,7 +58,7 @@ wide-requires c κs = search needs
 
 put-optional-requires : tie.Need-put-optional-requires
 unfolding arc-of arc
-put-optional-requires c κs = 
+put-optional-requires c κs =
     let k = c .before .before .before in
     piece-room 2 _ (c .before .before .stands .ensures) (c .wide .ensures .0) (room-tail (output k) (at k) (bits k) (this k) (room k))
 

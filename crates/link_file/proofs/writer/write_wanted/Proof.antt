@@ -21,8 +21,11 @@ put-field-requires : tie.Need-put-field-requires
 put-field-requires c κs =
     let s = c .before .before .before .before in
     let ws = now (s .args .wanted) in
-    omega (arith, length-bytes 2 (length ws),
-      room-first _ (s .args .at) (bytes 2 (length ws)) (nodes-bytes ws) (list-room ws (s .args .at) _ (not-false (s .args .stands) (c .before .if1 .left)) (s .pre .0)))
+    omega (
+      arith,
+      length-bytes 2 (length ws),
+      room-first _ (s .args .at) (bytes 2 (length ws)) (nodes-bytes ws) (list-room ws (s .args .at) _ (not-false (s .args .stands) (c .before .if1 .left)) (s .pre .0)),
+    )
 
 write-nodes-requires : tie.Need-write-nodes-requires
 write-nodes-requires c κs =
