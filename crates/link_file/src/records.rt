@@ -27,22 +27,23 @@ pub fn read_record(part: &[u8], at: usize, previous: Previous) -> RecordRead
 {
     let bits = part[0];
     let start = at as u32;
+    let file_length = at + part.len();
     if arcs::forbidden(previous, bits) {
         return RecordRead::Refused(grounds::BIT_MAP, start);
     }
     let absent = arcs::implied(previous);
     let has_tail = arcs::stands(arcs::TAIL, bits);
     let Field::Value(tail, from) = read_optional(part, 1, NODE, has_tail, absent.tail) else {
-        return RecordRead::Refused(grounds::CUT, place(at + part.len()));
+        return RecordRead::Refused(grounds::CUT, place(file_length));
     };
     let has_head = arcs::stands(arcs::HEAD, bits);
     let Field::Value(head, from) = read_optional(part, from, NODE, has_head, absent.head) else {
-        return RecordRead::Refused(grounds::CUT, place(at + part.len()));
+        return RecordRead::Refused(grounds::CUT, place(file_length));
     };
     let has_length = arcs::stands(arcs::LENGTH, bits);
     let Field::Value(length, end) = read_optional(part, from, LENGTH, has_length, absent.length)
     else {
-        return RecordRead::Refused(grounds::CUT, place(at + part.len()));
+        return RecordRead::Refused(grounds::CUT, place(file_length));
     };
     if arcs::LAST_HEAD < head {
         return RecordRead::Refused(grounds::HEAD, start);

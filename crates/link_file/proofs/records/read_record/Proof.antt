@@ -94,6 +94,9 @@ shared-slice-read-bits c = search needs
 cast-start : tie.Need-cast-start
 cast-start c = search needs
 
+add-file-length : tie.Need-add-file-length
+add-file-length c = search needs
+
 forbidden-requires : tie.Need-forbidden-requires
 forbidden-requires c κs = search needs
 
@@ -118,9 +121,6 @@ enum-known-tail c = search needs
 enum-told : tie.Need-enum-told
 enum-told c = search needs
 
-add-place : tie.Need-add-place
-add-place c = search needs
-
 place-requires : tie.Need-place-requires
 place-requires c κs = omega (arith, as-ends 65536 (c .enum-told .given .1) (tail-says (c .before .before)) .near)
 
@@ -141,9 +141,6 @@ enum-known-head c = search needs
 
 enum-told-2 : tie.Need-enum-told-2
 enum-told-2 c = search needs
-
-add-place-2 : tie.Need-add-place-2
-add-place-2 c = search needs
 
 place-requires-2 : tie.Need-place-requires-2
 place-requires-2 c κs =
@@ -170,12 +167,6 @@ enum-known-length c = search needs
 
 enum-told-3 : tie.Need-enum-told-3
 enum-told-3 c = search needs
-
-add-place-3 : tie.Need-add-place-3
-add-place-3 c =
-    let h = c .before .before .before .before .before in
-    let k = h .before .before .before .before .before .before .before .before .before .before in
-    omega (arith, k .before .before .before .before .good, low k)
 
 place-requires-3 : tie.Need-place-requires-3
 place-requires-3 c κs =
@@ -244,6 +235,7 @@ read-record-spec =
     (tie.spec
     shared-slice-read-bits
     cast-start
+    add-file-length
     forbidden-requires
     returns
     implied-requires
@@ -251,21 +243,18 @@ read-record-spec =
     read-optional-requires
     enum-known-tail
     enum-told
-    add-place
     place-requires
     returns-2
     stands-requires-2
     read-optional-requires-2
     enum-known-head
     enum-told-2
-    add-place-2
     place-requires-2
     returns-3
     stands-requires-3
     read-optional-requires-3
     enum-known-length
     enum-told-3
-    add-place-3
     place-requires-3
     returns-4
     returns-5
