@@ -4,17 +4,20 @@ use mathlib.Core.Bool.{Bool, true, false, not, _||_}
 use mathlib.Core.List.{List, [], _∷_, _++_, append-assoc}
 use mathlib.Core.Option.{Option, none, some}
 use mathlib.Core.Path.{_≡_, refl, ap, sym, _∙_, subst}
-use Prim.Native.Nat.{ℕ, zero, suc, _+_}
+use Prim.Native.Nat.{ℕ, zero, suc, _+_, _≤_}
 use native.Mathlib.Nat.{zero-add}
 use native.Mathlib.Decide.{decLe}
 use native.Mathlib.Omega.{arith}
 use lib.Dec.{eqb, ltb}
 use lib.ListN.{length, drop, take-append-drop}
-use borrow.Author.Tests.{le-leb, lt-leb, eqb-true, not-false}
+use borrow.Author.Tests.{le-leb, lt-leb, ltb-false, eqb-true, not-false}
 use Rattle.table.specs.Table.{Arc, arc, Below, most-nodes, most-arcs, most-wanted}
-use Rattle.link_file.specs.Format.{Content, content, bytes, has, field-bytes, nodes-bytes, wanted-bytes, header-bits, header-bytes, record-bits, fields-bytes, record-bytes, records-bytes, file-bytes}
-use Rattle.link_file.specs.Reading.{_>>_, _>>=_, Outcome, Reader, got, refused, after, give, here, refuse-if, number, field, optional, implied, forbidden, read-nodes, read-wanted, read-header, read-record, read-records, read-content, read-file}
+use Rattle.link_file.specs.Format.{Content, content, bytes, has, count-up, field-bytes, nodes-bytes, wanted-bytes, header-bits, header-bytes, record-bits, fields-bytes, record-bytes, records-bytes, file-bytes}
+use Rattle.link_file.specs.Reading.{_>>_, _>>=_, Outcome, Reader, got, refused, list-got, after, give, here, refuse-if, number, field, optional, implied, forbidden, read-nodes, read-wanted, read-header, read-record, read-records, read-content, read-file}
 use Rattle.link_file.specs.Promises.{Accepted-files-write-back}
+use Rattle.link_file.proofs.Booleans.{or-false-second}
+use Rattle.link_file.proofs.Nodes.{length-count-up}
+use Rattle.link_file.proofs.Whole.{few-records}
 use Rattle.link_file.proofs.Numbers.{bytes-number, below-drop}
 use Rattle.link_file.proofs.Parts.{got-value, got-rest, refused-got}
 
@@ -81,29 +84,45 @@ nodes-back (suc k) at rest {ws} {next} {more} small e =
 
 -- the wanted list
 wanted-back : (stands : Bool) (n at : ℕ) (rest : List ℕ) {ws : List ℕ} {next : ℕ} {more : List ℕ} → Below 256 rest
-    → read-wanted stands n at rest ≡ got ws next more → (rest ≡ wanted-bytes stands ws ++ more) × Below 256 more
+    → n ≤ most-nodes → read-wanted stands n at rest ≡ got ws next more
+    → (rest ≡ wanted-bytes stands ws ++ more) × (Below 256 more) × (length ws ≤ most-wanted)
 unfolding read-wanted _>>=_ _>>_ give wanted-bytes
-wanted-back false n at rest small e = (got-rest e, subst (Below 256) (got-rest e) small)
-wanted-back true n at rest {ws} {next} {more} small e =
+wanted-back false n at rest {ws} small low e =
+    let all : length (count-up 0 n) ≡ length ws = ap length (got-value e) in
+    (got-rest e, subst (Below 256) (got-rest e) small, omega (arith, length-count-up 0 n))
+wanted-back true n at rest {ws} {next} {more} small low e =
     then-got (field 2 at rest) _ e λ (count at₁ : ℕ) (r₁ : List ℕ) e₁ k₁.
     passed (ltb most-wanted count) 5 most-wanted at₁ r₁ _ k₁ λ ok k₂.
     let one = field-back 2 at rest small e₁ in
     let all = nodes-back count at₁ r₁ (one .1) k₂ in
-    (one .0 ∙ rw (all .0, all .2) (sym (append-assoc (bytes 2 count) (nodes-bytes ws) more)), all .1)
+    ( one .0 ∙ rw (all .0, all .2) (sym (append-assoc (bytes 2 count) (nodes-bytes ws) more))
+    , all .1
+    , omega (arith, all .2, ltb-false most-wanted count ok))
+
+-- What a header that was got is: its bytes stand first in what was read, and its counts are good.
+pub record Header-back (rest more : List ℕ) (t : Content) : Type 0 where
+  pub bytes-are : rest ≡ header-bytes (t .n) (t .origin) (t .wanted) ++ more
+  pub small : Below 256 more
+  pub fine : (eqb (t .n) 0 || ltb most-nodes (t .n)) ≡ false
+  pub few : length (t .wanted) ≤ most-wanted
 
 -- the pieces of a header, and of a record, put together
 header-made : (bits n o : ℕ) (ws rest r₁ r₂ r₃ r₄ : List ℕ) {t : Content} {at next : ℕ} {more : List ℕ} → rest ≡ bits ∷ r₁ → r₁ ≡ bytes 2 n ++ r₂
     → r₂ ≡ field-bytes (has 2 bits) 2 o ++ r₃ → r₃ ≡ wanted-bytes (has 4 bits) ws ++ r₄ → Below 256 r₄ → bits ≡ header-bits n o ws
-    → got (content n o ws []) at r₄ ≡ got t next more → (rest ≡ header-bytes (t .n) (t .origin) (t .wanted) ++ more) × Below 256 more
+    → (eqb n 0 || ltb most-nodes n) ≡ false → length ws ≤ most-wanted → got (content n o ws []) at r₄ ≡ got t next more → Header-back rest more t
 unfolding header-bytes content
-header-made bits n o ws rest r₁ r₂ r₃ r₄ {t} {at} {next} {more} e₁ e₂ e₃ e₄ small same e =
+header-made bits n o ws rest r₁ r₂ r₃ r₄ {t} {at} {next} {more} e₁ e₂ e₃ e₄ small same fine few e =
     let is : content n o ws [] ≡ t = got-value e in
     let left : r₄ ≡ more = got-rest e in
     let origin : List ℕ = field-bytes (has 2 bits) 2 o in
-    let list : List ℕ = wanted-bytes (has 4 bits) ws in (
-      rw (← is, ← left, ← same) (e₁ ∙ rw (e₂, e₃, e₄, append-assoc (bytes 2 n) (origin ++ list) r₄, append-assoc origin list r₄)),
-      subst (Below 256) left small,
-    )
+    let list : List ℕ = wanted-bytes (has 4 bits) ws in
+    record
+    { bytes-are =
+        rw (← is, ← left, ← same) (e₁ ∙ rw (e₂, e₃, e₄, append-assoc (bytes 2 n) (origin ++ list) r₄, append-assoc origin list r₄))
+    ; small = subst (Below 256) left small
+    ; fine = rw (← is) fine
+    ; few = rw (← is) few
+    }
 
 record-made : (before : Option Arc) (bits t h l : ℕ) (rest r₁ r₂ r₃ r₄ : List ℕ) {a : Arc} {at next : ℕ} {more : List ℕ} → rest ≡ bits ∷ r₁
     → r₁ ≡ field-bytes (has 1 bits) 2 t ++ r₂ → r₂ ≡ field-bytes (has 2 bits) 2 h ++ r₃ → r₃ ≡ field-bytes (has 4 bits) 4 l ++ r₄ → Below 256 r₄
@@ -121,7 +140,7 @@ record-made before bits t h l rest r₁ r₂ r₃ r₄ {a} {at} {next} {more} e�
 
 -- the header
 pub header-back : (at : ℕ) (rest : List ℕ) {t : Content} {next : ℕ} {more : List ℕ} → Below 256 rest → read-header at rest ≡ got t next more
-    → (rest ≡ header-bytes (t .n) (t .origin) (t .wanted) ++ more) × Below 256 more
+    → Header-back rest more t
 unfolding read-header _>>=_ _>>_ here after give
 header-back at rest {t} {next} {more} small e =
     byte-first at rest _ small e λ (bits : ℕ) (r₁ : List ℕ) e₁ s₁ k₁.
@@ -133,8 +152,8 @@ header-back at rest {t} {next} {more} small e =
     passed (not (eqb bits (header-bits n o ws))) 12 at at₄ r₄ _ k₆ λ ok₃ k₇.
     let f₂ = field-back 2 (at + 1) r₁ s₁ e₂ in
     let f₃ = optional-back (has 2 bits) 2 0 at₂ r₂ (f₂ .1) e₃ in
-    let f₄ = wanted-back (has 4 bits) n at₃ r₃ (f₃ .1) e₄ in
-    header-made bits n o ws rest r₁ r₂ r₃ r₄ e₁ (f₂ .0) (f₃ .0) (f₄ .0) (f₄ .1) (eqb-true bits (header-bits n o ws) (not-false _ ok₃)) k₇
+    let f₄ = wanted-back (has 4 bits) n at₃ r₃ (f₃ .1) (ltb-false most-nodes n (or-false-second (eqb n 0) (ltb most-nodes n) ok₂)) e₄ in
+    header-made bits n o ws rest r₁ r₂ r₃ r₄ e₁ (f₂ .0) (f₃ .0) (f₄ .0) (f₄ .1) (eqb-true bits (header-bits n o ws) (not-false _ ok₃)) ok₂ (f₄ .2) k₇
 
 -- one record
 pub record-back : (before : Option Arc) (at : ℕ) (rest : List ℕ) {a : Arc} {next : ℕ} {more : List ℕ} → Below 256 rest
@@ -168,12 +187,28 @@ records-back (suc k) before at (b ∷ rest) {arcs} small e =
     let list : a ∷ tl ≡ arcs = got-value k₂ in
     one .0 ∙ rw (all, ← list)
 
-pub accepted-files-write-back : Accepted-files-write-back
-unfolding read-file read-content _>>=_ give file-bytes content
-accepted-files-write-back file t next rest small e =
+-- What an accepted file is: the bytes of its content, whose counts are good.
+pub record File-back (file : List ℕ) (t : Content) : Type 0 where
+  pub bytes-are : file-bytes t ≡ file
+  pub fine : (eqb (t .n) 0 || ltb most-nodes (t .n)) ≡ false
+  pub wanted-few : length (t .wanted) ≤ most-wanted
+  pub arcs-few : length (t .arcs) ≤ most-arcs
+
+pub file-back : (file : List ℕ) {t : Content} {next : ℕ} {rest : List ℕ} → Below 256 file → read-file file ≡ got t next rest → File-back file t
+unfolding read-file read-content _>>=_ give file-bytes content list-got
+file-back file {t} small e =
     then-got (read-header 0 file) _ e λ (h : Content) (at₁ : ℕ) (r₁ : List ℕ) e₁ k₁.
     then-got (read-records most-arcs none at₁ r₁) _ k₁ λ (arcs : List Arc) (at₂ : ℕ) (r₂ : List ℕ) e₂ k₂.
     let head = header-back 0 file small e₁ in
-    let all : r₁ ≡ records-bytes none arcs = records-back most-arcs none at₁ r₁ (head .1) e₂ in
+    let all : r₁ ≡ records-bytes none arcs = records-back most-arcs none at₁ r₁ (head .small) e₂ in
     let is : content (h .n) (h .origin) (h .wanted) arcs ≡ t = got-value k₂ in
-    rw (← is) (sym (head .0 ∙ rw all))
+    let few : length arcs ≤ most-arcs = rw e₂ at (few-records most-arcs none at₁ r₁) in
+    record
+    { bytes-are = rw (← is) (sym (head .bytes-are ∙ rw all))
+    ; fine = rw (← is) (head .fine)
+    ; wanted-few = rw (← is) (head .few)
+    ; arcs-few = rw (← is) few
+    }
+
+pub accepted-files-write-back : Accepted-files-write-back
+accepted-files-write-back file t next rest small e = file-back file small e .bytes-are

@@ -73,7 +73,7 @@ unfolding list-got after _>>=_
 one-more k few (got a next tl) = one-then k a (read-records k (some a) next tl) (few a next tl)
 one-more k few (refused n p) = omega arith
 
-few-records : (k : ℕ) (before : Option Arc) (at : ℕ) (rest : List ℕ) → length (list-got (read-records k before at rest)) ≤ k
+pub few-records : (k : ℕ) (before : Option Arc) (at : ℕ) (rest : List ℕ) → length (list-got (read-records k before at rest)) ≤ k
 unfolding read-records list-got
 few-records zero before at [] = omega arith
 few-records zero before at (b ∷ rest) = omega arith

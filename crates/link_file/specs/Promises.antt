@@ -5,10 +5,13 @@ use mathlib.Core.Option.{Option, none, some}
 use mathlib.Core.Path.{_≡_}
 use Prim.Native.Nat.{ℕ, _+_, _≤_, _<_}
 use lib.Dec.{eqb}
-use lib.ListN.{length}
+use lib.ListN.{length, take}
 use Rattle.table.specs.Table.{Arc, Below, most-nodes, most-arcs, most-wanted}
 use Rattle.link_file.specs.Format.{Content, has, all-nodes, header-bits, record-bits, file-bytes}
 use Rattle.link_file.specs.Reading.{got, forbidden, implied, read-file}
+use Rattle.link_file.specs.Entries.{over, too-short, Read-says, Write-says}
+use Rattle.link_file.specs.declared.TableRead.{TableRead}
+use Rattle.link_file.specs.declared.Written.{Written}
 
 -- Every file that the reader accepts is what the writer makes of what was read.
 abbrev pub Accepted-files-write-back : Type 0
@@ -63,3 +66,32 @@ abbrev pub Needless-header-is-not-canonical : Type 0
 Needless-header-is-not-canonical =
     (bits n o : ℕ) (ws : List ℕ) → bits ≤ 7 → has 1 bits ≡ true → (has 2 bits ≡ false → o ≡ 0) → (has 4 bits ≡ false → all-nodes n ws ≡ true)
     → needless-header bits n o ws ≡ not (eqb bits (header-bits n o ws))
+
+-- Both round trips once more, of the two entries: what their contracts say of their answers and buffers. `o < 65536` and `Below` are what the
+-- arguments' types say.
+
+-- What the reader leaves where it has read a table: the answer, and the table's columns at the starts of the buffers.
+pub record Table-there (n origin : ℕ) (tails heads lengths wanted : List ℕ) (ts hs ls ws ts′ hs′ ls′ ws′ : List ℕ) (r : TableRead) : Type 0 where
+  pub answer : r ≡ record { number = 0; place = 0; n = n; origin = origin; arcs = length tails; wanted = length wanted }
+  pub tails-are : ts′ ≡ over tails ts
+  pub heads-are : hs′ ≡ over heads hs
+  pub lengths-are : ls′ ≡ over lengths ls
+  pub wanted-are : ws′ ≡ over wanted ws
+
+-- Write a table, without a refusal; read the bytes that were put, with buffers that are long enough: the table is there.
+abbrev pub Write-then-read : Type 0
+Write-then-read =
+    (n o : ℕ) (tails heads lengths wanted out out′ : List ℕ) (w : Written)
+    → o < 65536 → Below 65536 tails → Below 65536 heads → Below 4294967296 lengths → Below 65536 wanted
+    → Write-says n o tails heads lengths wanted out out′ w → w .number ≡ 0
+    → (ts hs ls ws ts′ hs′ ls′ ws′ : List ℕ) (r : TableRead) → too-short (length ts) (length hs) (length ls) (length ws) ≡ false
+    → Read-says (take (w .length) out′) ts hs ls ws ts′ hs′ ls′ ws′ r
+    → Table-there n o tails heads lengths wanted ts hs ls ws ts′ hs′ ls′ ws′ r
+
+-- Read a file, without a refusal; write what was read, into an output with room: the file is there.
+abbrev pub Read-then-write : Type 0
+Read-then-write =
+    (file ts hs ls ws ts′ hs′ ls′ ws′ : List ℕ) (r : TableRead) → Below 256 file → Read-says file ts hs ls ws ts′ hs′ ls′ ws′ r → r .number ≡ 0
+    → (out out′ : List ℕ) (w : Written) → length file ≤ length out
+    → Write-says (r .n) (r .origin) (take (r .arcs) ts′) (take (r .arcs) hs′) (take (r .arcs) ls′) (take (r .wanted) ws′) out out′ w
+    → (w ≡ record { number = 0; place = 0; length = length file }) × (out′ ≡ over file out)
