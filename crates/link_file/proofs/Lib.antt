@@ -16,3 +16,4 @@ pub mod HeaderBytes
 pub mod WriteWays
 pub mod ReadThenWrite
 pub mod WriteThenRead
+pub mod EntryTrips
