@@ -261,3 +261,72 @@ write-then-read n o tails heads lengths wanted out out′ w so st sh sl sw says 
     let equal = equal-columns tails heads lengths (u .equal) in
     table-there n o tails heads lengths wanted (take (w .length) out′) ts hs ls ws ts′ hs′ ls′ ws′ r (equal .heads-are) (equal .lengths-are)
     (reading-roomy (take (w .length) out′) ts hs ls ws room ∙ ap read-file bytes-are ∙ read-of n o tails heads lengths wanted (length out) so st sh sl sw u) reads
+
+-- ---- read, then write
+
+length-tails : (arcs : List Arc) → length (tails-of arcs) ≡ length arcs
+unfolding tails-of
+length-tails arcs = length-map arcs (λ (a : Arc). a .tail)
+
+length-heads : (arcs : List Arc) → length (heads-of arcs) ≡ length arcs
+unfolding heads-of
+length-heads arcs = length-map arcs (λ (a : Arc). a .head)
+
+length-lengths : (arcs : List Arc) → length (lengths-of arcs) ≡ length arcs
+unfolding lengths-of
+length-lengths arcs = length-map arcs (λ (a : Arc). a .arc-length)
+
+-- the columns of arcs are equal, and what the writer makes of them is the file of the arcs
+columns-equal : (arcs : List Arc) → length arcs ≤ most-arcs → columns-bad (tails-of arcs) (heads-of arcs) (lengths-of arcs) ≡ false
+unfolding columns-bad
+columns-equal arcs few =
+    rw (length-tails arcs, length-heads arcs, length-lengths arcs, eq-eqb (length arcs) (length arcs) refl, le-ltb most-arcs (length arcs) few)
+
+file-of-content : (t : Content)
+    → file-of (t .n) (t .origin) (tails-of (t .arcs)) (heads-of (t .arcs)) (lengths-of (t .arcs)) (t .wanted) ≡ file-bytes t
+unfolding file-of content
+file-of-content t = rw (arcs-back (t .arcs))
+
+written-back : (file : List ℕ) (t : Content) → File-back file t → (out out′ : List ℕ) (w : Written) → length file ≤ length out
+    → Write-says (t .n) (t .origin) (tails-of (t .arcs)) (heads-of (t .arcs)) (lengths-of (t .arcs)) (t .wanted) out out′ w
+    → (w ≡ record { number = 0; place = 0; length = length file }) × (out′ ≡ over file out)
+written-back file t back out out′ w room says =
+    let is : file-of (t .n) (t .origin) (tails-of (t .arcs)) (heads-of (t .arcs)) (lengths-of (t .arcs)) (t .wanted) ≡ file =
+        file-of-content t ∙ back .bytes-are in
+    let there =
+        file-there (t .n) (t .origin) (tails-of (t .arcs)) (heads-of (t .arcs)) (lengths-of (t .arcs)) (t .wanted) out out′ w says
+        (record
+        { fine = back .fine
+        ; equal = columns-equal (t .arcs) (back .arcs-few)
+        ; few = le-ltb most-wanted (length (t .wanted)) (back .wanted-few)
+        ; fits = rw is (le-ltb (length out) (length file) room)
+        }) in
+    (there .answer ∙ rw is, there .output-is ∙ rw is)
+
+column-of : (arcs : List Arc) (column buffer buffer′ : List ℕ) (k : ℕ) → length column ≡ length arcs → length arcs ≡ k → buffer′ ≡ over column buffer
+    → take k buffer′ ≡ column
+column-of arcs column buffer buffer′ k size count is = ap (take k) is ∙ start-of column buffer k (size ∙ count)
+
+-- what the reader leaves where it accepted, as arguments of the writer
+written-of-read : (file ts hs ls ws ts′ hs′ ls′ ws′ out out′ : List ℕ) (r : TableRead) (w : Written) (t : Content) (at : ℕ) (rest : List ℕ)
+    → reading file ts hs ls ws ≡ got t at rest → Read-says file ts hs ls ws ts′ hs′ ls′ ws′ r
+    → Write-says (r .n) (r .origin) (take (r .arcs) ts′) (take (r .arcs) hs′) (take (r .arcs) ls′) (take (r .wanted) ws′) out out′ w
+    → Write-says (t .n) (t .origin) (tails-of (t .arcs)) (heads-of (t .arcs)) (lengths-of (t .arcs)) (t .wanted) out out′ w
+unfolding read-answer content-of
+written-of-read file ts hs ls ws ts′ hs′ ls′ ws′ out out′ r w t at rest e says writes =
+    let arcs-are : length (t .arcs) ≡ r .arcs = sym (ap (λ (x : TableRead). x .arcs) (says .answer) ∙ rw e) in
+    let wanted-are : length (t .wanted) ≡ r .wanted = sym (ap (λ (x : TableRead). x .wanted) (says .answer) ∙ rw e) in
+    let n-is : r .n ≡ t .n = ap (λ (x : TableRead). x .n) (says .answer) ∙ rw e in
+    let origin-is : r .origin ≡ t .origin = ap (λ (x : TableRead). x .origin) (says .answer) ∙ rw e in
+    let tails-are : take (r .arcs) ts′ ≡ tails-of (t .arcs) = column-of (t .arcs) (tails-of (t .arcs)) ts ts′ (r .arcs) (length-tails (t .arcs)) arcs-are (says .tails-are ∙ rw e) in
+    let heads-are : take (r .arcs) hs′ ≡ heads-of (t .arcs) = column-of (t .arcs) (heads-of (t .arcs)) hs hs′ (r .arcs) (length-heads (t .arcs)) arcs-are (says .heads-are ∙ rw e) in
+    let lengths-are : take (r .arcs) ls′ ≡ lengths-of (t .arcs) = column-of (t .arcs) (lengths-of (t .arcs)) ls ls′ (r .arcs) (length-lengths (t .arcs)) arcs-are (says .lengths-are ∙ rw e) in
+    let list-is : take (r .wanted) ws′ ≡ t .wanted = ap (take (r .wanted)) (says .wanted-are ∙ rw e) ∙ start-of (t .wanted) ws (r .wanted) wanted-are in
+    rw (tails-are, heads-are, lengths-are, list-is, n-is, origin-is) at writes
+
+pub read-then-write : Read-then-write
+unfolding read-answer
+read-then-write file ts hs ls ws ts′ hs′ ls′ ws′ r small says zero-number out out′ w room writes =
+    let g = got-of (reading file ts hs ls ws) (numbered-reading file ts hs ls ws) (sym (ap (λ (x : TableRead). x .number) (says .answer)) ∙ zero-number) in
+    written-back file (g .0) (file-back file small (file-of-reading file ts hs ls ws (g .3))) out out′ w room
+    (written-of-read file ts hs ls ws ts′ hs′ ls′ ws′ out out′ r w (g .0) (g .1) (g .2) (g .3) says writes)
