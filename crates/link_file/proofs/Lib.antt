@@ -17,3 +17,4 @@ pub mod WriteWays
 pub mod ReadThenWrite
 pub mod WriteThenRead
 pub mod EntryTrips
+pub mod Rows

@@ -3,3 +3,4 @@ pub mod Reading
 pub mod Says
 pub mod Entries
 pub mod Promises
+pub mod Rows

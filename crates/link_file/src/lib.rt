@@ -20,6 +20,7 @@ ghost use Rattle.link_file.specs.Entries.{too-short, read-answer, Read-s
 
 // What reading a link file answers: the refusal's number and place, both 0 where there is none, and the node count, the origin and how many
 // arcs and wanted nodes there are, all 0 in a refusal.
+#[repr(C)]
 pub struct TableRead {
     pub number: u32,
     pub place: u32,
@@ -30,6 +31,7 @@ pub struct TableRead {
 }
 
 // What writing a link file answers: the refusal's number and place, both 0 where there is none, and the file's length, 0 in a refusal.
+#[repr(C)]
 pub struct Written {
     pub number: u32,
     pub place: u32,
