@@ -1,24 +1,23 @@
 -- Both round trips of the two entries, from those of the format. Assumes nothing.
-use mathlib.Core.Bool.{Bool, true, false, not, cond, _&&_, _||_}
-use mathlib.Core.List.{List, [], _∷_, _++_, map}
+use mathlib.Core.Bool.{Bool, true, false, cond, _||_}
+use mathlib.Core.List.{List, [], _∷_}
 use mathlib.Core.Option.{Option, none, some}
-use mathlib.Core.Path.{_≡_, refl, ap, sym, _∙_, subst}
-use Prim.Native.Nat.{ℕ, zero, suc, _+_, _≤_, _<_}
+use mathlib.Core.Path.{_≡_, refl, ap, sym, _∙_}
+use Prim.Native.Nat.{ℕ, zero, suc, _≤_, _<_}
 use native.Mathlib.Omega.{arith}
 use borrow.Author.Tests.{le-ltb, ltb-false, eqb-false, eq-eqb}
 use lib.Dec.{eqb, ltb, leb}
 use lib.ListN.{length, take, drop, length-map}
 use lib.Seq.{take-at}
-use Rattle.table.specs.Grounds.{Refusal, refusal, no-refusal, columns-bad}
+use Rattle.table.specs.Grounds.{refusal, no-refusal, columns-bad}
 use Rattle.table.specs.Table.{Arc, arc, arcs-of, Below, most-nodes, most-arcs, most-wanted}
 use Rattle.link_file.specs.Format.{Content, content, tails-of, heads-of, lengths-of, file-bytes}
-use Rattle.link_file.specs.Reading.{Outcome, Reader, got, refused, accepted, after, _>>=_, _>>_, give, here, refuse-if, field, optional, implied, forbidden, read-nodes, read-wanted, read-header, read-record, read-records, read-content, read-file}
-use Rattle.link_file.specs.Says.{Equal-columns}
+use Rattle.link_file.specs.Reading.{_>>_, _>>=_, Outcome, Reader, got, refused, after, give, here, refuse-if, field, optional, implied, read-nodes, read-wanted, read-header, read-record, read-records, read-content, read-file}
 use Rattle.link_file.specs.Entries.{over, too-short, reading, refusal-of, content-of, read-answer, Read-says, file-of, writing, put-bytes, write-answer, Write-says}
-use Rattle.link_file.specs.Promises.{Small-arc, Small-arcs, Writable, Table-there, Write-then-read, Read-then-write}
+use Rattle.link_file.specs.Promises.{Small-arcs, Writable, Table-there, Write-then-read, Read-then-write}
 use Rattle.link_file.specs.declared.TableRead.{TableRead}
 use Rattle.link_file.specs.declared.Written.{Written}
-use Rattle.link_file.proofs.Booleans.{true-false, or-false-first, or-false-second}
+use Rattle.link_file.proofs.Booleans.{or-false-first, or-false-second}
 use Rattle.link_file.proofs.Parts.{refused-got}
 use Rattle.link_file.proofs.ReadThenWrite.{File-back, file-back}
 use Rattle.link_file.proofs.Whole.{reading-roomy}
@@ -158,9 +157,10 @@ unfolding arcs-of Small-arcs Below arc
 small-arcs [] hs ls a b c = tt
 small-arcs (t ∷ ts) [] ls a b c = tt
 small-arcs (t ∷ ts) (h ∷ hs) [] a b c = tt
-small-arcs (t ∷ ts) (h ∷ hs) (l ∷ ls) a b c =
-    ( record { tail-fits = a 0; head-fits = b 0; length-fits = c 0 }
-    , small-arcs ts hs ls (λ (i : ℕ). a (suc i)) (λ (i : ℕ). b (suc i)) (λ (i : ℕ). c (suc i)))
+small-arcs (t ∷ ts) (h ∷ hs) (l ∷ ls) a b c = (
+  record { tail-fits = a 0; head-fits = b 0; length-fits = c 0 },
+  small-arcs ts hs ls (λ (i : ℕ). a (suc i)) (λ (i : ℕ). b (suc i)) (λ (i : ℕ). c (suc i)),
+)
 
 -- a list at the start of a buffer
 start-of : (xs buffer : List ℕ) (k : ℕ) → length xs ≡ k → take k (over xs buffer) ≡ xs
@@ -209,9 +209,12 @@ file-there n o ts hs ls ws out out′ w says u =
 
 -- ---- write, then read
 
-arcs-count : (ts hs ls : List ℕ) → length ts ≡ length hs → length hs ≡ length ls → length (arcs-of ts hs ls) ≡ length ts
+length-tails : (arcs : List Arc) → length (tails-of arcs) ≡ length arcs
 unfolding tails-of
-arcs-count ts hs ls e f = sym (length-map (arcs-of ts hs ls) (λ (a : Arc). a .tail)) ∙ ap length (tails-back ts hs ls e f)
+length-tails arcs = length-map arcs (λ (a : Arc). a .tail)
+
+arcs-count : (ts hs ls : List ℕ) → length ts ≡ length hs → length hs ≡ length ls → length (arcs-of ts hs ls) ≡ length ts
+arcs-count ts hs ls e f = sym (length-tails (arcs-of ts hs ls)) ∙ ap length (tails-back ts hs ls e f)
 
 writable : (n o : ℕ) (ts hs ls ws : List ℕ) (room : ℕ) → o < 65536 → Below 65536 ts → Below 65536 hs → Below 4294967296 ls → Below 65536 ws
     → Unrefused n o ts hs ls ws room → Writable (content n o ws (arcs-of ts hs ls))
@@ -219,14 +222,14 @@ unfolding content
 writable n o ts hs ls ws room so st sh sl sw u =
     let equal = equal-columns ts hs ls (u .equal) in
     let nonzero : n ≡ 0 → ⊥ = eqb-false n 0 (or-false-first (eqb n 0) (ltb most-nodes n) (u .fine)) in
-    record
-    { some = omega (arith, nonzero)
-    ; nodes = ltb-false most-nodes n (or-false-second (eqb n 0) (ltb most-nodes n) (u .fine))
-    ; origin-fits = so
-    ; wanted-few = ltb-false most-wanted (length ws) (u .few)
-    ; wanted-fit = sw
-    ; arcs-few = omega (arith, equal .few, arcs-count ts hs ls (equal .heads-are) (equal .lengths-are))
-    ; arcs-fit = small-arcs ts hs ls st sh sl
+    record {
+      some = omega (arith, nonzero);
+      nodes = ltb-false most-nodes n (or-false-second (eqb n 0) (ltb most-nodes n) (u .fine));
+      origin-fits = so;
+      wanted-few = ltb-false most-wanted (length ws) (u .few);
+      wanted-fit = sw;
+      arcs-few = omega (arith, equal .few, arcs-count ts hs ls (equal .heads-are) (equal .lengths-are));
+      arcs-fit = small-arcs ts hs ls st sh sl;
     }
 
 read-of : (n o : ℕ) (ts hs ls ws : List ℕ) (room : ℕ) → o < 65536 → Below 65536 ts → Below 65536 hs → Below 4294967296 ls → Below 65536 ws
@@ -242,12 +245,12 @@ table-there : (n o : ℕ) (tails heads lengths wanted file ts hs ls ws ts′ hs�
     → Read-says file ts hs ls ws ts′ hs′ ls′ ws′ r → Table-there n o tails heads lengths wanted ts hs ls ws ts′ hs′ ls′ ws′ r
 unfolding read-answer refusal-of content-of content no-refusal refusal
 table-there n o tails heads lengths wanted file ts hs ls ws ts′ hs′ ls′ ws′ r eh el e says =
-    record
-    { answer = says .answer ∙ rw (e, arcs-count tails heads lengths eh el)
-    ; tails-are = says .tails-are ∙ rw (e, tails-back tails heads lengths eh el)
-    ; heads-are = says .heads-are ∙ rw (e, heads-back tails heads lengths eh el)
-    ; lengths-are = says .lengths-are ∙ rw (e, lengths-back tails heads lengths eh el)
-    ; wanted-are = says .wanted-are ∙ rw e
+    record {
+      answer = says .answer ∙ rw (e, arcs-count tails heads lengths eh el);
+      tails-are = says .tails-are ∙ rw (e, tails-back tails heads lengths eh el);
+      heads-are = says .heads-are ∙ rw (e, heads-back tails heads lengths eh el);
+      lengths-are = says .lengths-are ∙ rw (e, lengths-back tails heads lengths eh el);
+      wanted-are = says .wanted-are ∙ rw e;
     }
 
 pub write-then-read : Write-then-read
@@ -257,16 +260,12 @@ write-then-read n o tails heads lengths wanted out out′ w so st sh sl sw says 
     let there = file-there n o tails heads lengths wanted out out′ w says u in
     let file : List ℕ = file-of n o tails heads lengths wanted in
     let bytes-are : take (w .length) out′ ≡ file =
-        ap (take (w .length)) (there .output-is) ∙ start-of file out (w .length) (sym (ap (λ (x : Written). x .length) (there .answer))) in
+    ap (take (w .length)) (there .output-is) ∙ start-of file out (w .length) (sym (ap (λ (x : Written). x .length) (there .answer))) in
     let equal = equal-columns tails heads lengths (u .equal) in
     table-there n o tails heads lengths wanted (take (w .length) out′) ts hs ls ws ts′ hs′ ls′ ws′ r (equal .heads-are) (equal .lengths-are)
     (reading-roomy (take (w .length) out′) ts hs ls ws room ∙ ap read-file bytes-are ∙ read-of n o tails heads lengths wanted (length out) so st sh sl sw u) reads
 
 -- ---- read, then write
-
-length-tails : (arcs : List Arc) → length (tails-of arcs) ≡ length arcs
-unfolding tails-of
-length-tails arcs = length-map arcs (λ (a : Arc). a .tail)
 
 length-heads : (arcs : List Arc) → length (heads-of arcs) ≡ length arcs
 unfolding heads-of
@@ -292,15 +291,15 @@ written-back : (file : List ℕ) (t : Content) → File-back file t → (out out
     → (w ≡ record { number = 0; place = 0; length = length file }) × (out′ ≡ over file out)
 written-back file t back out out′ w room says =
     let is : file-of (t .n) (t .origin) (tails-of (t .arcs)) (heads-of (t .arcs)) (lengths-of (t .arcs)) (t .wanted) ≡ file =
-        file-of-content t ∙ back .bytes-are in
+    file-of-content t ∙ back .bytes-are in
     let there =
-        file-there (t .n) (t .origin) (tails-of (t .arcs)) (heads-of (t .arcs)) (lengths-of (t .arcs)) (t .wanted) out out′ w says
-        (record
-        { fine = back .fine
-        ; equal = columns-equal (t .arcs) (back .arcs-few)
-        ; few = le-ltb most-wanted (length (t .wanted)) (back .wanted-few)
-        ; fits = rw is (le-ltb (length out) (length file) room)
-        }) in
+    file-there (t .n) (t .origin) (tails-of (t .arcs)) (heads-of (t .arcs)) (lengths-of (t .arcs)) (t .wanted) out out′ w says
+    (record {
+      fine = back .fine;
+      equal = columns-equal (t .arcs) (back .arcs-few);
+      few = le-ltb most-wanted (length (t .wanted)) (back .wanted-few);
+      fits = rw is (le-ltb (length out) (length file) room);
+    }) in
     (there .answer ∙ rw is, there .output-is ∙ rw is)
 
 column-of : (arcs : List Arc) (column buffer buffer′ : List ℕ) (k : ℕ) → length column ≡ length arcs → length arcs ≡ k → buffer′ ≡ over column buffer

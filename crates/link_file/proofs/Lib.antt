@@ -2,7 +2,7 @@ pub mod Booleans
 pub mod Numbers
 pub mod Parts
 pub mod BitMaps
-pub mod Ways
+pub mod RecordWays
 pub mod Runs
 pub mod Columns
 pub mod Filling

@@ -1,9 +1,9 @@
 -- A field at an offset of a part of the file: what the code's loop over its bytes comes to, and what the reader says there. Assumes nothing.
-use mathlib.Core.Bool.{false}
+use mathlib.Core.Bool.{Bool, false}
 use mathlib.Core.Path.{_≡_, refl, sym}
-use mathlib.Core.List.{List}
+use mathlib.Core.List.{List, [], _∷_}
 use Prim.Native.Nat.{ℕ, suc, _+_, _-_, _*_, _^_, _≤_, _<_}
-use native.Mathlib.Nat.{add-assoc}
+use native.Mathlib.Nat.{zero-add, add-assoc}
 use native.Mathlib.Decide.{decLe}
 use native.Mathlib.Omega.{arith}
 use lib.ListN.{length, drop, getD, length-drop}
@@ -125,3 +125,29 @@ field-value {part} {from} {width} {bound} {v} {next} g =
           rw (lt-leb width (length (drop from part)) (omega (arith, h))) at (g .is 0) in
           absurd (refused-got e)
     ]
+
+-- a field's answer by its case
+pub as-got : {r : Field} {m : Reader ℕ} {part : List ℕ} {from width bound v next : ℕ} → r ≡ Value v next
+    → Field-says r m part from width bound → Got m part from width bound v next
+unfolding Field-says
+as-got e says = rw e at says
+
+pub as-ends : (bound : ℕ) {r : Field} {m : Reader ℕ} {part : List ℕ} {from width : ℕ} → r ≡ Cut
+    → Field-says r m part from width bound → Ends m part from width
+unfolding Field-says
+as-ends bound e says = rw e at says
+
+-- an optional field's answer, where the code's names for its bit and for what its absence says are the format's
+pub renamed : (r : Field) {s s′ : Bool} {a a′ : ℕ} (part : List ℕ) (from width bound : ℕ) → s ≡ s′ → a ≡ a′
+    → Field-says r (optional s width a) part from width bound → Field-says r (optional s′ width a′) part from width bound
+renamed r part from width bound p q says = rw (p, q) at says
+
+-- a bound that every value of an optional field is below
+abbrev pub loose : (width absent : ℕ) → ℕ
+loose w a = 256 ^ w + a + 1
+
+-- the bit map is the part's first byte
+pub first-byte : (part : List ℕ) (at : ℕ) → 0 < length part → field 1 at part ≡ got (getD part 0 0) (at + 1) (drop 1 part)
+unfolding field number
+first-byte [] at h = absurd (omega arith)
+first-byte (b ∷ bs) at h = rw (le-leb 1 (length (b ∷ bs)) h, zero-add b)

@@ -94,10 +94,11 @@ wanted-back true n at rest {ws} {next} {more} small low e =
     then-got (field 2 at rest) _ e λ (count at₁ : ℕ) (r₁ : List ℕ) e₁ k₁.
     passed (ltb most-wanted count) 5 most-wanted at₁ r₁ _ k₁ λ ok k₂.
     let one = field-back 2 at rest small e₁ in
-    let all = nodes-back count at₁ r₁ (one .1) k₂ in
-    ( one .0 ∙ rw (all .0, all .2) (sym (append-assoc (bytes 2 count) (nodes-bytes ws) more))
-    , all .1
-    , omega (arith, all .2, ltb-false most-wanted count ok))
+    let all = nodes-back count at₁ r₁ (one .1) k₂ in (
+      one .0 ∙ rw (all .0, all .2) (sym (append-assoc (bytes 2 count) (nodes-bytes ws) more)),
+      all .1,
+      omega (arith, all .2, ltb-false most-wanted count ok),
+    )
 
 -- What a header that was got is: its bytes stand first in what was read, and its counts are good.
 pub record Header-back (rest more : List ℕ) (t : Content) : Type 0 where
@@ -116,12 +117,12 @@ header-made bits n o ws rest r₁ r₂ r₃ r₄ {t} {at} {next} {more} e₁ e�
     let left : r₄ ≡ more = got-rest e in
     let origin : List ℕ = field-bytes (has 2 bits) 2 o in
     let list : List ℕ = wanted-bytes (has 4 bits) ws in
-    record
-    { bytes-are =
-        rw (← is, ← left, ← same) (e₁ ∙ rw (e₂, e₃, e₄, append-assoc (bytes 2 n) (origin ++ list) r₄, append-assoc origin list r₄))
-    ; small = subst (Below 256) left small
-    ; fine = rw (← is) fine
-    ; few = rw (← is) few
+    record {
+      bytes-are =
+          rw (← is, ← left, ← same) (e₁ ∙ rw (e₂, e₃, e₄, append-assoc (bytes 2 n) (origin ++ list) r₄, append-assoc origin list r₄));
+      small = subst (Below 256) left small;
+      fine = rw (← is) fine;
+      few = rw (← is) few;
     }
 
 record-made : (before : Option Arc) (bits t h l : ℕ) (rest r₁ r₂ r₃ r₄ : List ℕ) {a : Arc} {at next : ℕ} {more : List ℕ} → rest ≡ bits ∷ r₁
@@ -203,11 +204,11 @@ file-back file {t} small e =
     let all : r₁ ≡ records-bytes none arcs = records-back most-arcs none at₁ r₁ (head .small) e₂ in
     let is : content (h .n) (h .origin) (h .wanted) arcs ≡ t = got-value k₂ in
     let few : length arcs ≤ most-arcs = rw e₂ at (few-records most-arcs none at₁ r₁) in
-    record
-    { bytes-are = rw (← is) (sym (head .bytes-are ∙ rw all))
-    ; fine = rw (← is) (head .fine)
-    ; wanted-few = rw (← is) (head .few)
-    ; arcs-few = rw (← is) few
+    record {
+      bytes-are = rw (← is) (sym (head .bytes-are ∙ rw all));
+      fine = rw (← is) (head .fine);
+      wanted-few = rw (← is) (head .few);
+      arcs-few = rw (← is) few;
     }
 
 pub accepted-files-write-back : Accepted-files-write-back

@@ -15,6 +15,10 @@ use lib.Dec.{eqb}
 use lib.ListN.{length}
 use Rattle.table.specs.Table.{Arc}
 
+-- the highest head that 16 bits hold
+abbrev pub last-head : ℕ
+last-head = 65535
+
 -- what a link file holds
 pub record Content : Type 0 where
   pub n : ℕ

@@ -10,7 +10,7 @@ use Prim.Native.Nat.{ℕ, zero, suc, _+_, _*_}
 use lib.Dec.{eqb, ltb, leb}
 use lib.ListN.{length, drop}
 use Rattle.table.specs.Table.{Arc, arc, most-nodes, most-arcs, most-wanted}
-use Rattle.link_file.specs.Format.{Content, content, has, count-up, header-bits, record-bits}
+use Rattle.link_file.specs.Format.{Content, content, last-head, has, count-up, header-bits, record-bits}
 
 pub data Outcome (A : Type 0) : Type 0 where
   got : (value : A) → (next : ℕ) → (rest : List ℕ) → Outcome A
@@ -79,6 +79,7 @@ read-wanted true n = do
   refuse-if (ltb most-wanted count) 5 most-wanted
   read-nodes count
 
+-- The header: 10 in its bit map, 9 in a field, 1 after the node count, 5 after the wanted count, 12 at its end. Its content has no arcs yet.
 unfoldable pub read-header : Reader Content
 read-header = do
   start ← here
@@ -101,6 +102,7 @@ unfoldable pub forbidden : (before : Option Arc) → (bits : ℕ) → Bool
 forbidden none bits = not (eqb bits 7)
 forbidden (some p) bits = ltb 7 bits
 
+-- A record: 10 in its bit map, 9 in a field, and at its end, all fields read, 11 and then 12. An implied head is the only one that can pass the last.
 unfoldable pub read-record : (before : Option Arc) → Reader Arc
 read-record before = do
   start ← here
@@ -109,7 +111,7 @@ read-record before = do
   tail ← optional (has 1 bits) 2 (implied before .tail)
   head ← optional (has 2 bits) 2 (implied before .head)
   long ← optional (has 4 bits) 4 (implied before .arc-length)
-  refuse-if (ltb 65535 head) 11 start
+  refuse-if (ltb last-head head) 11 start
   refuse-if (not (eqb bits (record-bits before (arc tail head long)))) 12 start
   give (arc tail head long)
 

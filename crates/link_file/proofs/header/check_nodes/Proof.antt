@@ -4,8 +4,7 @@ use native.Mathlib.Omega.{arith}
 use borrow.Author.Needs.{needs}
 use Rattle.link_file.specs.Says.{Nodes-says, Got}
 use Rattle.link_file.specs.Reading.{field}
-use Rattle.link_file.proofs.Parts.{field-value}
-use Rattle.link_file.proofs.Ways.{as-got, as-ends}
+use Rattle.link_file.proofs.Parts.{field-value, as-got, as-ends}
 use Rattle.link_file.proofs.Nodes.{Checking, checking-begins, checking-next, checking-done}
 use Rattle.link_file.proofs.header.check_nodes.Statement.{statement}
 use Rattle.link_file.proofs.header.check_nodes.Tie as tie

@@ -1,45 +1,17 @@
 -- The ways out of reading a record, one law for each `return` of the code, in the code's order. Assumes nothing.
-use mathlib.Core.Bool.{Bool, true, false}
-use mathlib.Core.List.{List, [], _∷_}
+use mathlib.Core.Bool.{true, false}
+use mathlib.Core.List.{List}
 use mathlib.Core.Option.{Option}
 use mathlib.Core.Path.{_≡_}
-use Prim.Native.Nat.{ℕ, _+_, _^_, _≤_, _<_}
-use native.Mathlib.Nat.{zero-add, add-sub-cancel-left}
+use Prim.Native.Nat.{ℕ, _+_, _≤_, _<_}
+use native.Mathlib.Nat.{add-sub-cancel-left}
 use native.Mathlib.Omega.{arith}
-use lib.ListN.{length, drop, getD}
-use borrow.Author.Tests.{le-leb, lt-ltb, le-ltb, eq-eqb, ne-eqb}
+use lib.ListN.{length, drop}
+use borrow.Author.Tests.{lt-ltb, le-ltb, eq-eqb, ne-eqb}
 use Rattle.table.specs.Table.{Arc, arc}
 use Rattle.link_file.specs.Format.{has, record-bits}
-use Rattle.link_file.specs.Reading.{_>>_, _>>=_, Reader, got, refused, after, give, here, refuse-if, number, field, optional, implied, forbidden, read-record}
-use Rattle.link_file.specs.Says.{Got, Ends, Field-says, Record-got}
-use Rattle.link_file.specs.declared.fields.Field.{Field}
-use Rattle.link_file.specs.declared.fields.Field.the-variants.{Value, Cut}
-
--- a field's answer by its case
-pub as-got : {r : Field} {m : Reader ℕ} {part : List ℕ} {from width bound v next : ℕ} → r ≡ Value v next
-    → Field-says r m part from width bound → Got m part from width bound v next
-unfolding Field-says
-as-got e says = rw e at says
-
-pub as-ends : (bound : ℕ) {r : Field} {m : Reader ℕ} {part : List ℕ} {from width : ℕ} → r ≡ Cut
-    → Field-says r m part from width bound → Ends m part from width
-unfolding Field-says
-as-ends bound e says = rw e at says
-
--- an optional field's answer, where the code's names for its bit and for what its absence says are the format's
-pub renamed : (r : Field) {s s′ : Bool} {a a′ : ℕ} (part : List ℕ) (from width bound : ℕ) → s ≡ s′ → a ≡ a′
-    → Field-says r (optional s width a) part from width bound → Field-says r (optional s′ width a′) part from width bound
-renamed r part from width bound p q says = rw (p, q) at says
-
--- a bound that every value of an optional field is below
-abbrev pub loose : (width absent : ℕ) → ℕ
-loose w a = 256 ^ w + a + 1
-
--- the bit map is the part's first byte
-pub first-byte : (part : List ℕ) (at : ℕ) → 0 < length part → field 1 at part ≡ got (getD part 0 0) (at + 1) (drop 1 part)
-unfolding field number
-first-byte [] at h = absurd (omega arith)
-first-byte (b ∷ bs) at h = rw (le-leb 1 (length (b ∷ bs)) h, zero-add b)
+use Rattle.link_file.specs.Reading.{_>>_, _>>=_, got, refused, after, give, here, refuse-if, field, optional, implied, forbidden, read-record}
+use Rattle.link_file.specs.Says.{Got, Ends, Record-got}
 
 module _ (before : Option Arc) (part : List ℕ) (at : ℕ) (bits : ℕ) (one : field 1 at part ≡ got bits (at + 1) (drop 1 part)) where
   pub refused-bits : forbidden before bits ≡ true → read-record before at part ≡ refused 10 at
