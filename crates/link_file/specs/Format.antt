@@ -83,7 +83,8 @@ header-bytes n o ws =
     let bits = header-bits n o ws in
     bits ∷ (bytes 2 n ++ (field-bytes (has 2 bits) 2 o ++ wanted-bytes (has 4 bits) ws))
 
--- the canonical bit map of an arc's record, given the arc of the record before it, and the record's bytes
+-- the canonical bit map of an arc's record, given the arc of the record before it, and the record's bytes. After a head of 65535 the head always
+-- stands, since no head is 65536
 unfoldable pub record-bits : (before : Option Arc) → Arc → ℕ
 record-bits none a = bit-map true true true
 record-bits (some p) a =

@@ -16,6 +16,7 @@ pub const LENGTH: u8 = 4;
 // The highest head, which no implied head may pass.
 pub const LAST_HEAD: u32 = 65535;
 
+// An arc of the table.
 pub struct Arc {
     pub tail: u16,
     pub head: u16,

@@ -2,7 +2,11 @@
 use crate::arcs;
 use crate::arcs::Arc;
 use crate::arcs::Previous;
+use crate::arcs::wide;
 use crate::fields;
+use crate::fields::NODE;
+use crate::fields::put_field;
+use crate::fields::put_optional;
 use crate::header;
 ghost use mathlib.Core.Bool.{not, _||_, _&&_, cond};
 ghost use mathlib.Core.Option.{none};
@@ -25,8 +29,8 @@ fn field_size(stands: bool, width: usize) -> usize
 fn record_size(bits: u8) -> usize
     ensures { λ r. ⌜ Record-sized bits r ⌝ }
 {
-    let tail = field_size(arcs::stands(arcs::TAIL, bits), fields::NODE);
-    let head = field_size(arcs::stands(arcs::HEAD, bits), fields::NODE);
+    let tail = field_size(arcs::stands(arcs::TAIL, bits), NODE);
+    let head = field_size(arcs::stands(arcs::HEAD, bits), NODE);
     let length = field_size(arcs::stands(arcs::LENGTH, bits), fields::LENGTH);
     1 + (tail + (head + length))
 }
@@ -67,23 +71,11 @@ fn write_record(output: &mut [u8], at: usize, previous: Previous, arc: Arc) -> u
     let bits = arcs::record_bits(previous, arc);
     output[at] = bits;
     let has_tail = arcs::stands(arcs::TAIL, bits);
-    let head_at = fields::put_optional(
-        output,
-        at + 1,
-        fields::NODE,
-        has_tail,
-        arcs::wide(arc.tail),
-    );
+    let head_at = put_optional(output, at + 1, NODE, has_tail, wide(arc.tail));
     let has_head = arcs::stands(arcs::HEAD, bits);
-    let length_at = fields::put_optional(
-        output,
-        head_at,
-        fields::NODE,
-        has_head,
-        arcs::wide(arc.head),
-    );
+    let length_at = put_optional(output, head_at, NODE, has_head, wide(arc.head));
     let has_length = arcs::stands(arcs::LENGTH, bits);
-    fields::put_optional(output, length_at, fields::LENGTH, has_length, arc.length)
+    put_optional(output, length_at, fields::LENGTH, has_length, arc.length)
 }
 
 // Puts all records.
@@ -112,7 +104,7 @@ fn is_all(n: u32, wanted: &[u16]) -> bool
     }
     let mut i: u32 = 0;
     while i < n {
-        if arcs::wide(wanted[i as usize]) != i {
+        if wide(wanted[i as usize]) != i {
             return false;
         }
         i += 1;
@@ -133,7 +125,7 @@ pub fn header_size(bits: u8, wanted: usize) -> usize
     requires { ⌜ wanted ≤ most-wanted ⌝ }
     ensures { λ r. ⌜ Header-sized bits wanted r ⌝ }
 {
-    let origin = field_size(arcs::stands(header::ORIGIN, bits), fields::NODE);
+    let origin = field_size(arcs::stands(header::ORIGIN, bits), NODE);
     let list = field_size(arcs::stands(header::WANTED, bits), 2 + 2 * wanted);
     3 + (origin + list)
 }
@@ -146,7 +138,7 @@ fn write_nodes(wanted: &[u16], start: usize, output: &mut [u8]) -> usize
     let mut at = start;
     let mut i = 0;
     while i < wanted.len() {
-        at = fields::put_field(output, at, fields::NODE, arcs::wide(wanted[i]));
+        at = put_field(output, at, NODE, wide(wanted[i]));
         i += 1;
     }
     at
@@ -160,7 +152,7 @@ fn write_wanted(output: &mut [u8], at: usize, stands: bool, wanted: &[u16]) -> u
     if !stands {
         return at;
     }
-    let nodes_at = fields::put_field(output, at, fields::NODE, wanted.len() as u32);
+    let nodes_at = put_field(output, at, NODE, wanted.len() as u32);
     write_nodes(wanted, nodes_at, output)
 }
 
@@ -170,15 +162,9 @@ pub fn write_header(n: u32, origin: u16, wanted: &[u16], bits: u8, output: &mut 
     ensures { λ r. ⌜ Put (now (output .entry)) 0 (header-bytes n origin (now (wanted .entry))) r (now (output .exit)) ⌝ }
 {
     output[0] = bits;
-    let origin_at = fields::put_field(output, 1, fields::NODE, n);
+    let origin_at = put_field(output, 1, NODE, n);
     let has_origin = arcs::stands(header::ORIGIN, bits);
-    let wanted_at = fields::put_optional(
-        output,
-        origin_at,
-        fields::NODE,
-        has_origin,
-        arcs::wide(origin),
-    );
+    let wanted_at = put_optional(output, origin_at, NODE, has_origin, wide(origin));
     let listed = arcs::stands(header::WANTED, bits);
     write_wanted(output, wanted_at, listed, wanted)
 }
