@@ -2,7 +2,7 @@
 use mathlib.Core.Bool.{Bool, true, false, cond, _||_}
 use mathlib.Core.List.{List, [], _∷_}
 use mathlib.Core.Option.{Option, none, some}
-use mathlib.Core.Path.{_≡_, refl, ap, sym, _∙_}
+use mathlib.Core.Path.{_≡_, refl, ap, sym, _∙_, subst}
 use Prim.Native.Nat.{ℕ, zero, suc, _≤_, _<_}
 use native.Mathlib.Omega.{arith}
 use borrow.Author.Tests.{le-ltb, ltb-false, eqb-false, eq-eqb}
@@ -14,7 +14,7 @@ use Rattle.table.specs.Table.{Arc, arc, arcs-of, Below, most-nodes, most-arcs, 
 use Rattle.link_file.specs.Format.{Content, content, tails-of, heads-of, lengths-of, file-bytes}
 use Rattle.link_file.specs.Reading.{_>>_, _>>=_, Outcome, Reader, got, refused, after, give, here, refuse-if, field, optional, implied, read-nodes, read-wanted, read-header, read-record, read-records, read-content, read-file}
 use Rattle.link_file.specs.Entries.{over, too-short, reading, refusal-of, content-of, read-answer, Read-says, file-of, writing, put-bytes, write-answer, Write-says}
-use Rattle.link_file.specs.Promises.{Small-arcs, Writable, Table-there, Write-then-read, Read-then-write}
+use Rattle.link_file.specs.Promises.{Small-arcs, Writable, Table-there, Counts-fit, Write-then-read, Read-then-write, Answers-fit}
 use Rattle.link_file.specs.declared.TableRead.{TableRead}
 use Rattle.link_file.specs.declared.Written.{Written}
 use Rattle.link_file.proofs.Booleans.{or-false-first, or-false-second}
@@ -329,3 +329,22 @@ read-then-write file ts hs ls ws ts′ hs′ ls′ ws′ r small says zero-numbe
     let g = got-of (reading file ts hs ls ws) (numbered-reading file ts hs ls ws) (sym (ap (λ (x : TableRead). x .number) (says .answer)) ∙ zero-number) in
     written-back file (g .0) (file-back file small (file-of-reading file ts hs ls ws (g .3))) out out′ w room
     (written-of-read file ts hs ls ws ts′ hs′ ls′ ws′ out out′ r w (g .0) (g .1) (g .2) (g .3) says writes)
+
+-- ---- what the reader answers is in range
+
+counts-fit : (file : List ℕ) (o : Outcome Content) → Below 256 file → ((t : Content) (at : ℕ) (rest : List ℕ) → o ≡ got t at rest → read-file file ≡ got t at rest)
+    → Counts-fit (read-answer (refusal-of o) (content-of o))
+unfolding read-answer content-of content
+counts-fit file (got t at rest) small read =
+    let back = file-back file small (read t at rest refl) in
+    record {
+      nodes = ltb-false most-nodes (t .n) (or-false-second (eqb (t .n) 0) (ltb most-nodes (t .n)) (back .fine));
+      arcs-few = back .arcs-few;
+      wanted-few = back .wanted-few;
+    }
+counts-fit file (refused k p) small read = record { nodes = omega arith; arcs-few = omega arith; wanted-few = omega arith }
+
+pub answers-fit : Answers-fit
+answers-fit file ts hs ls ws ts′ hs′ ls′ ws′ r small says =
+    subst Counts-fit (sym (says .answer))
+    (counts-fit file (reading file ts hs ls ws) small (λ (t : Content) (at : ℕ) (rest : List ℕ) (e : reading file ts hs ls ws ≡ got t at rest). file-of-reading file ts hs ls ws e))

@@ -95,3 +95,12 @@ Read-then-write =
     → (out out′ : List ℕ) (w : Written) → length file ≤ length out
     → Write-says (r .n) (r .origin) (take (r .arcs) ts′) (take (r .arcs) hs′) (take (r .arcs) ls′) (take (r .wanted) ws′) out out′ w
     → (w ≡ record { number = 0; place = 0; length = length file }) × (out′ ≡ over file out)
+
+-- What the reader answers is in range, in a refusal too: so a caller may take the starts of its buffers by the counts.
+pub record Counts-fit (r : TableRead) : Type 0 where
+  pub nodes : r .n ≤ most-nodes
+  pub arcs-few : r .arcs ≤ most-arcs
+  pub wanted-few : r .wanted ≤ most-wanted
+
+abbrev pub Answers-fit : Type 0
+Answers-fit = (file ts hs ls ws ts′ hs′ ls′ ws′ : List ℕ) (r : TableRead) → Below 256 file → Read-says file ts hs ls ws ts′ hs′ ls′ ws′ r → Counts-fit r
