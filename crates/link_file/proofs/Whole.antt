@@ -135,10 +135,10 @@ module _ (file : List ℕ) (h : Header) (g : Header-got file h) where
       }
 
 -- the answer to a refusal, with the buffers as they were
-pub none-read : {file tails heads lengths wanted : List ℕ} {n p : ℕ} {r : TableRead} → reading file tails heads lengths wanted ≡ refused n p
+pub none-read : (file : List ℕ) {tails heads lengths wanted : List ℕ} {n p : ℕ} {r : TableRead} → reading file tails heads lengths wanted ≡ refused n p
     → r ≡ read-answer (refusal n p) (content 0 0 [] []) → Read-says file tails heads lengths wanted tails heads lengths wanted r
 unfolding refusal-of content-of content tails-of heads-of lengths-of over
-none-read e answer = record { answer = answer ∙ rw e; tails-are = rw e; heads-are = rw e; lengths-are = rw e; wanted-are = rw e }
+none-read file e answer = record { answer = answer ∙ rw e; tails-are = rw e; heads-are = rw e; lengths-are = rw e; wanted-are = rw e }
 
 -- the buffers come first
 pub reading-short : (file tails heads lengths wanted : List ℕ) → too-short (length tails) (length heads) (length lengths) (length wanted) ≡ true

@@ -41,13 +41,17 @@ unfoldable pub read-answer : Refusal → Content → TableRead
 read-answer f t =
     record { number = f .number; place = f .place; n = t .n; origin = t .origin; arcs = length (t .arcs); wanted = length (t .wanted) }
 
--- what the reader does: its answer, and the buffers at the end
-pub record Read-says (file tails heads lengths wanted tails′ heads′ lengths′ wanted′ : List ℕ) (r : TableRead) : Type 0 where
-  pub answer : r ≡ read-answer (refusal-of (reading file tails heads lengths wanted)) (content-of (reading file tails heads lengths wanted))
-  pub tails-are : tails′ ≡ over (tails-of (content-of (reading file tails heads lengths wanted) .arcs)) tails
-  pub heads-are : heads′ ≡ over (heads-of (content-of (reading file tails heads lengths wanted) .arcs)) heads
-  pub lengths-are : lengths′ ≡ over (lengths-of (content-of (reading file tails heads lengths wanted) .arcs)) lengths
-  pub wanted-are : wanted′ ≡ over (content-of (reading file tails heads lengths wanted) .wanted) wanted
+-- what the reader answers and leaves in its buffers, given what reading gave
+pub record Left-by-reading (o : Outcome Content) (tails heads lengths wanted tails′ heads′ lengths′ wanted′ : List ℕ) (r : TableRead) : Type 0 where
+  pub answer : r ≡ read-answer (refusal-of o) (content-of o)
+  pub tails-are : tails′ ≡ over (tails-of (content-of o .arcs)) tails
+  pub heads-are : heads′ ≡ over (heads-of (content-of o .arcs)) heads
+  pub lengths-are : lengths′ ≡ over (lengths-of (content-of o .arcs)) lengths
+  pub wanted-are : wanted′ ≡ over (content-of o .wanted) wanted
+
+-- what the reader does
+abbrev pub Read-says : (file tails heads lengths wanted tails′ heads′ lengths′ wanted′ : List ℕ) → TableRead → Type 0
+Read-says file ts hs ls ws ts′ hs′ ls′ ws′ r = Left-by-reading (reading file ts hs ls ws) ts hs ls ws ts′ hs′ ls′ ws′ r
 
 -- the file that the writer makes of its arguments
 unfoldable pub file-of : (n origin : ℕ) → (tails heads lengths wanted : List ℕ) → List ℕ
@@ -69,9 +73,12 @@ put-bytes f file = cond (eqb (f .number) 0) file []
 unfoldable pub write-answer : Refusal → (size : ℕ) → Written
 write-answer f size = record { number = f .number; place = f .place; length = size }
 
--- what the writer does: its answer, and the output at the end
-pub record Write-says (n origin : ℕ) (tails heads lengths wanted output output′ : List ℕ) (r : Written) : Type 0 where
-  pub answer : r
-      ≡ write-answer (writing n origin tails heads lengths wanted (length output))
-      (length (put-bytes (writing n origin tails heads lengths wanted (length output)) (file-of n origin tails heads lengths wanted)))
-  pub output-is : output′ ≡ over (put-bytes (writing n origin tails heads lengths wanted (length output)) (file-of n origin tails heads lengths wanted)) output
+-- what the writer answers and leaves in the output, given its ground and the file
+pub record Left-by-writing (f : Refusal) (file output output′ : List ℕ) (r : Written) : Type 0 where
+  pub answer : r ≡ write-answer f (length (put-bytes f file))
+  pub output-is : output′ ≡ over (put-bytes f file) output
+
+-- what the writer does
+abbrev pub Write-says : (n origin : ℕ) → (tails heads lengths wanted output output′ : List ℕ) → Written → Type 0
+Write-says n o ts hs ls ws output output′ r =
+    Left-by-writing (writing n o ts hs ls ws (length output)) (file-of n o ts hs ls ws) output output′ r

@@ -48,7 +48,7 @@ not-read-requires : tie.Need-not-read-requires
 not-read-requires c κs = search needs
 
 returns : tie.Need-returns
-returns c = none-read (reading-short _ _ _ _ _ (sym (c .before .before .short .ensures) ∙ c .before .if1 .taken)) (c .not-read .ensures)
+returns c = none-read _ (reading-short _ _ _ _ _ (sym (c .before .before .short .ensures) ∙ c .before .if1 .taken)) (c .not-read .ensures)
 
 read-header-requires : tie.Need-read-header-requires
 read-header-requires c κs = search needs
@@ -97,13 +97,13 @@ returns-2 : tie.Need-returns-2
 unfolding Header-says
 returns-2 c =
     let e = c .before .before .before .before .before in
-    none-read (all e ∙ header-refuses (file e) (rw (c .before .before .number .given .1) at (c .before .before .before .before .read-header .ensures))) (c .not-read2 .ensures)
+    none-read (file e) (all e ∙ header-refuses (file e) (rw (c .before .before .number .given .1) at (c .before .before .before .before .read-header .ensures))) (c .not-read2 .ensures)
 
 returns-3 : tie.Need-returns-3
 returns-3 c =
     let h = c .before .before .before .before .before .before in
     let e = h .before .before .before in
-    none-read (all e ∙ records-refuse (file e) _ (headed h) (sym (c .before .before .before .before .count-records .ensures) ∙ c .before .before .number2 .given .1)) (c .not-read3 .ensures)
+    none-read (file e) (all e ∙ records-refuse (file e) _ (headed h) (sym (c .before .before .before .before .count-records .ensures) ∙ c .before .before .number2 .given .1)) (c .not-read3 .ensures)
 
 same-length : tie.Need-same-length
 same-length c = search needs
