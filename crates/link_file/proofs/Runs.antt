@@ -1,0 +1,103 @@
+-- Running through the records of a file: what is left to read at an offset, before and after one record. Assumes nothing.
+use mathlib.Core.List.{List, [], _∷_}
+use mathlib.Core.Option.{Option, some}
+use mathlib.Core.Path.{_≡_, refl, _∙_}
+use Prim.Native.Nat.{ℕ, zero, suc, _+_, _-_, _*_, _≤_, _<_}
+use native.Mathlib.Nat.{le-of-eq}
+use native.Mathlib.Omega.{arith}
+use lib.ListN.{length, take, drop, length-drop, drop-of-length-le}
+use lib.Seq.{take-all, drop-drop}
+use Rattle.table.specs.Table.{Arc, most-arcs}
+use Rattle.link_file.specs.Reading.{_>>=_, Outcome, got, refused, after, give, read-record, read-records}
+use Rattle.link_file.specs.Says.{Record-got, Record-says, arc-of, tally}
+use Rattle.link_file.specs.declared.arcs.Arc as Code
+use Rattle.link_file.specs.declared.records.RecordRead.{RecordRead}
+use Rattle.link_file.specs.declared.records.RecordRead.the-variants.{Record, Refused}
+
+-- the part of a file from an offset on
+pub part-is : (file : List ℕ) (at : ℕ) → take (length file - at) (drop at file) ≡ drop at file
+part-is file at = take-all (length file - at) (drop at file) (le-of-eq (length-drop at file))
+
+-- what is left to read at an offset, after so many records
+abbrev pub remaining : (file : List ℕ) → (at count : ℕ) → (before : Option Arc) → Outcome (List Arc)
+remaining file at count before = read-records (most-arcs - count) before at (drop at file)
+
+-- one arc in front of the rest
+abbrev pub then : Arc → Outcome (List Arc) → Outcome (List Arc)
+then a rest = after rest (λ (more : List Arc). give (a ∷ more))
+
+pub records-none : (k : ℕ) (before : Option Arc) (at : ℕ) → read-records k before at [] ≡ got [] at []
+unfolding read-records
+records-none zero before at = refl
+records-none (suc k) before at = refl
+
+records-full : (before : Option Arc) (at : ℕ) (rest : List ℕ) → 0 < length rest → read-records 0 before at rest ≡ refused 2 most-arcs
+unfolding read-records
+records-full before at [] h = absurd (omega arith)
+records-full before at (b ∷ rest) h = refl
+
+pub records-more : (k : ℕ) (before : Option Arc) (at : ℕ) (rest : List ℕ) → 0 < length rest
+    → read-records (suc k) before at rest
+    ≡ after (read-record before at rest) (λ (a : Arc) (next : ℕ) (tl : List ℕ). then a (read-records k (some a) next tl))
+unfolding read-records _>>=_
+records-more k before at [] h = absurd (omega arith)
+records-more k before at (b ∷ rest) h = refl
+
+module _ (file : List ℕ) (at count : ℕ) (before : Option Arc) where
+  pub run-none : length file ≤ at → remaining file at count before ≡ got [] at []
+  run-none end = rw (drop-of-length-le file end) (records-none (most-arcs - count) before at)
+
+  module _ (more : at < length file) where
+    left : 0 < length (drop at file)
+    left = rw (length-drop at file) (omega arith)
+
+    pub run-full : count ≡ most-arcs → remaining file at count before ≡ refused 2 most-arcs
+    run-full full =
+        let none-left : most-arcs - count ≡ 0 = omega arith in
+        rw none-left (records-full before at (drop at file) left)
+
+    module _ (few : count < most-arcs) where
+      one-less : most-arcs - count ≡ suc (most-arcs - (count + 1))
+      one-less = omega arith
+
+      pub run-refused : {n p : ℕ} → read-record before at (drop at file) ≡ refused n p → remaining file at count before ≡ refused n p
+      unfolding after
+      run-refused e = rw one-less (records-more (most-arcs - (count + 1)) before at (drop at file) left ∙ rw e)
+
+      pub run-more : {a : Arc} {next : ℕ} → Record-got before (drop at file) at a next
+          → remaining file at count before ≡ then a (remaining file next (count + 1) (some a))
+      unfolding after
+      run-more {a} {next} r =
+          let there : at + (next - at) ≡ next = omega (arith, r .on) in
+          rw one-less (records-more (most-arcs - (count + 1)) before at (drop at file) left ∙ rw (r .is, drop-drop (next - at) at file, there))
+
+-- the count of one record more
+pub tally-more : (k : ℕ) (a : Arc) (o : Outcome (List Arc)) → tally k (then a o) ≡ tally (k + 1) o
+unfolding after give tally
+tally-more k a (got more next rest) = let e : k + suc (length more) ≡ k + 1 + length more = omega arith in rw e
+tally-more k a (refused n p) = refl
+
+-- Where both passes stand: inside the file, after at most 6,000 records of at most 9 bytes behind a header of at most 2,055.
+pub record Standing (file : List ℕ) (at count : ℕ) : Type 0 where
+  pub inside : at ≤ length file
+  pub few : count ≤ most-arcs
+  pub short : at ≤ 2055 + 9 * count
+
+pub standing-next : {file : List ℕ} {at count : ℕ} → Standing file at count → (before : Option Arc) (a : Arc) (next : ℕ) → count < most-arcs
+    → Record-got before (drop at file) at a next → Standing file next (count + 1)
+standing-next {file} {at} {count} s before a next few r =
+    record {
+      inside = omega (arith, r .inside, length-drop at file, s .inside);
+      few = omega arith;
+      short = omega (arith, r .near, s .short);
+    }
+
+-- a record's answer by its case, read at an offset of the file
+module _ (file : List ℕ) (at : ℕ) (before : Option Arc) (r : RecordRead) (says : Record-says r before (take (length file - at) (drop at file)) at) where
+  pub answer-record : {a : Code.Arc} {next : ℕ} → r ≡ Record a next → Record-got before (drop at file) at (arc-of a) next
+  unfolding Record-says
+  answer-record e = rw (e, part-is file at) at says
+
+  pub answer-refused : {n p : ℕ} → r ≡ Refused n p → read-record before at (drop at file) ≡ refused n p
+  unfolding Record-says
+  answer-refused e = rw (e, part-is file at) at says

@@ -1,0 +1,76 @@
+-- The ways out of writing a file, one law for each `return` of the writer's entry, in the code's order. Assumes nothing.
+use mathlib.Core.Bool.{true, false, not, _&&_, _||_}
+use mathlib.Core.List.{List, _++_}
+use mathlib.Core.Option.{none}
+use mathlib.Core.Path.{_≡_, refl, _∙_}
+use Prim.Native.Nat.{ℕ, _+_, _≤_, _<_}
+use borrow.Author.Tests.{lt-ltb, le-ltb, ltb-false, eqb-true, not-false}
+use lib.Dec.{eqb, ltb}
+use lib.ListN.{length, length-append}
+use lib.Seq.{sets}
+use Rattle.table.specs.Grounds.{refusal, no-refusal, columns-bad}
+use Rattle.table.specs.Table.{arcs-of, most-nodes, most-arcs, most-wanted}
+use Rattle.link_file.specs.Format.{content, header-bytes, records-bytes, file-bytes}
+use Rattle.link_file.specs.Says.{Put, Equal-columns}
+use Rattle.link_file.specs.Entries.{over, file-of, writing, put-bytes, write-answer, Write-says}
+use Rattle.link_file.specs.declared.Written.{Written}
+use Rattle.link_file.proofs.Booleans.{or-false-first, or-false-second, and-true-first, and-true-second}
+use Rattle.link_file.proofs.Pieces.{put-then}
+use Rattle.link_file.proofs.Whole.{sets-over}
+
+-- columns that ground 2 does not refuse
+pub equal-columns : (ts hs ls : List ℕ) → columns-bad ts hs ls ≡ false → Equal-columns ts hs ls
+unfolding columns-bad
+equal-columns ts hs ls e =
+    let same : (eqb (length ts) (length hs) && eqb (length hs) (length ls)) ≡ true =
+    not-false _ (or-false-first (not (eqb (length ts) (length hs) && eqb (length hs) (length ls))) (ltb most-arcs (length ts)) e) in
+    record {
+      heads-are = eqb-true (length ts) (length hs) (and-true-first (eqb (length ts) (length hs)) (eqb (length hs) (length ls)) same);
+      lengths-are = eqb-true (length hs) (length ls) (and-true-second (eqb (length ts) (length hs)) (eqb (length hs) (length ls)) same);
+      few = ltb-false most-arcs (length ts) (or-false-second (not (eqb (length ts) (length hs) && eqb (length hs) (length ls))) (ltb most-arcs (length ts)) e);
+    }
+
+module _ (n o : ℕ) (ts hs ls ws out : List ℕ) where
+  pub file-size : length (file-of n o ts hs ls ws) ≡ length (header-bytes n o ws) + length (records-bytes none (arcs-of ts hs ls))
+  unfolding file-of file-bytes content
+  file-size = length-append (header-bytes n o ws) (records-bytes none (arcs-of ts hs ls))
+
+  pub none-written : (k p : ℕ) {r : Written} → eqb k 0 ≡ false → writing n o ts hs ls ws (length out) ≡ refusal k p
+      → r ≡ write-answer (refusal k p) 0 → Write-says n o ts hs ls ws out out r
+  unfolding put-bytes over refusal
+  none-written k p some e answer = record { answer = answer ∙ rw (e, some); output-is = rw (e, some) }
+
+  pub refuses-count : (eqb n 0 || ltb most-nodes n) ≡ true → writing n o ts hs ls ws (length out) ≡ refusal 1 0
+  unfolding writing
+  refuses-count bad = rw bad
+
+  module _ (fine : (eqb n 0 || ltb most-nodes n) ≡ false) where
+    pub refuses-columns : columns-bad ts hs ls ≡ true → writing n o ts hs ls ws (length out) ≡ refusal 2 0
+    unfolding writing
+    refuses-columns bad = rw (fine, bad)
+
+    module _ (equal : columns-bad ts hs ls ≡ false) where
+      pub refuses-wanted : most-wanted < length ws → writing n o ts hs ls ws (length out) ≡ refusal 5 most-wanted
+      unfolding writing
+      refuses-wanted many = rw (fine, equal, lt-ltb most-wanted (length ws) many)
+
+      module _ (few : length ws ≤ most-wanted) where
+        pub refuses-room : length out < length (file-of n o ts hs ls ws) → writing n o ts hs ls ws (length out) ≡ refusal 13 0
+        unfolding writing
+        refuses-room short = rw (fine, equal, le-ltb most-wanted (length ws) few, lt-ltb (length out) (length (file-of n o ts hs ls ws)) short)
+
+        accepts : length (file-of n o ts hs ls ws) ≤ length out → writing n o ts hs ls ws (length out) ≡ no-refusal
+        unfolding writing
+        accepts room = rw (fine, equal, le-ltb most-wanted (length ws) few, le-ltb (length out) (length (file-of n o ts hs ls ws)) room)
+
+        pub all-written : {at size : ℕ} {out₁ out₂ : List ℕ} → size ≡ length (file-of n o ts hs ls ws) → length (file-of n o ts hs ls ws) ≤ length out
+            → Put out 0 (header-bytes n o ws) at out₁ → out₂ ≡ sets out₁ at (records-bytes none (arcs-of ts hs ls))
+            → Write-says n o ts hs ls ws out out₂ (record { number = 0; place = 0; length = size })
+        unfolding put-bytes write-answer no-refusal refusal file-of file-bytes content
+        all-written {at} {size} {out₁} {out₂} is room head records =
+            let whole : Put out 0 (header-bytes n o ws ++ records-bytes none (arcs-of ts hs ls)) (at + length (records-bytes none (arcs-of ts hs ls))) out₂ =
+            put-then head (record { on = refl; is = records }) in
+            record {
+              answer = rw (accepts room, is);
+              output-is = rw (accepts room) (whole .is ∙ sets-over (header-bytes n o ws ++ records-bytes none (arcs-of ts hs ls)) out room);
+            }

@@ -1,0 +1,76 @@
+-- `header::check_nodes` meets its contract: the loop's invariant is `Checking`. Assumes nothing.
+use Prim.Native.Nat.{_-_}
+use native.Mathlib.Omega.{arith}
+use borrow.Author.Needs.{needs}
+use Rattle.link_file.specs.Says.{Nodes-says, Got}
+use Rattle.link_file.specs.Reading.{field}
+use Rattle.link_file.proofs.Parts.{field-value, as-got, as-ends}
+use Rattle.link_file.proofs.Nodes.{Checking, checking-begins, checking-next, checking-done}
+use Rattle.link_file.proofs.header.check_nodes.Statement.{statement}
+use Rattle.link_file.proofs.header.check_nodes.Tie as tie
+
+abbrev Inv-loop : tie.InvT-loop
+Inv-loop file from count at₀ ascending₀ i₀ at ascending i = Checking file from count at ascending i
+
+abbrev μ-loop : tie.MeasureT-loop
+μ-loop file from count at₀ ascending₀ i₀ at ascending i = count - i
+
+-- the node that was read
+node : (c : tie.After-node Inv-loop μ-loop) → let l = c .before .before .before .before in
+    Got (field 2) (l .before .before .args .file .now) (l .loop .at) 2 65536 (c .node .given .0 .0) (c .node .given .0 .1 .0)
+node c = as-got (c .node .given .1) (c .before .before .read-field .ensures)
+
+loop-holds : tie.Need-loop-holds Inv-loop μ-loop
+loop-holds c = checking-begins _ _ _ (c .before .pre .0)
+
+read-field-requires : tie.Need-read-field-requires Inv-loop μ-loop
+read-field-requires c κs = (c .before .loop .inv .along .inside, omega arith)
+
+enum-known-node : tie.Need-enum-known-node Inv-loop μ-loop
+enum-known-node c = search needs
+
+enum-told : tie.Need-enum-told Inv-loop μ-loop
+enum-told c = search needs
+
+returns : tie.Need-returns Inv-loop μ-loop
+unfolding Nodes-says
+returns c =
+    let l = c .before .before .before .before in
+    omega (arith, as-ends 65536 (c .enum-told .given .1) (c .before .before .read-field .ensures) .near, l .loop .inv .along .here, c .before .before .before .loop-test .taken)
+
+both-requires : tie.Need-both-requires Inv-loop μ-loop
+both-requires c κs = search needs
+
+add-i : tie.Need-add-i Inv-loop μ-loop
+add-i c = omega arith
+
+loop-less : tie.Need-loop-less Inv-loop μ-loop
+loop-less c = omega arith
+
+loop-again : tie.Need-loop-again Inv-loop μ-loop
+loop-again c =
+    let l = c .before .before .before .before .before .before in
+    let g = node (c .before .before) in
+    let v = field-value g in
+    rw (c .both .ensures, v .0) (checking-next (l .loop .inv) (c .before .before .before .before .before .loop-test .taken) (v .1) (g .inside))
+
+returns-2 : tie.Need-returns-2 Inv-loop μ-loop
+unfolding Nodes-says
+returns-2 c = checking-done (c .before .loop .inv) (c .loop-test .left)
+
+pub check-nodes-spec : {M : Type 1} → statement M
+check-nodes-spec =
+    tie.close
+    (tie.spec
+    Inv-loop
+    μ-loop
+    loop-holds
+    read-field-requires
+    enum-known-node
+    enum-told
+    returns
+    both-requires
+    add-i
+    loop-less
+    loop-again
+    returns-2)

@@ -1,0 +1,100 @@
+-- `header::fill_nodes` meets its contract: the nodes are there, and the loop's invariant is `Filling-nodes`. Assumes nothing.
+use Prim.Native.Nat.{_-_}
+use native.Mathlib.Omega.{arith}
+use borrow.Author.Needs.{needs}
+use Rattle.link_file.specs.Says.{Got}
+use Rattle.link_file.specs.Reading.{field}
+use Rattle.link_file.proofs.Parts.{field-value, as-got, as-ends}
+use Rattle.link_file.proofs.Nodes.{Filling-nodes, nodes-begin, nodes-next, nodes-done}
+use Rattle.link_file.proofs.header.fill_nodes.Statement.{statement}
+use Rattle.link_file.proofs.header.fill_nodes.Tie as tie
+
+abbrev Inv-loop : tie.InvT-loop
+Inv-loop file from count wanted₀ at₀ i₀ wanted at i = Filling-nodes file from count wanted₀ wanted at i
+
+abbrev μ-loop : tie.MeasureT-loop
+μ-loop file from count wanted₀ at₀ i₀ wanted at i = count - i
+
+-- the node that was read
+node : (c : tie.After-node Inv-loop μ-loop) → let l = c .before .before .before .before in
+    Got (field 2) (l .before .before .before .args .file .now) (l .loop .at) 2 65536 (c .node .given .0 .0) (c .node .given .0 .1 .0)
+node c = as-got (c .node .given .1) (c .before .before .read-field .ensures)
+
+loop-holds : tie.Need-loop-holds Inv-loop μ-loop
+loop-holds c = nodes-begin _ _ _ _ (omega arith)
+
+read-field-requires : tie.Need-read-field-requires Inv-loop μ-loop
+read-field-requires c κs = (c .before .loop .inv .along .inside, omega arith)
+
+enum-known-node : tie.Need-enum-known-node Inv-loop μ-loop
+enum-known-node c = search needs
+
+enum-told : tie.Need-enum-told Inv-loop μ-loop
+enum-told c = search needs
+
+same-length : tie.Need-same-length Inv-loop μ-loop
+same-length c = c .before .before .before .before .loop .inv .column .kept
+
+returns : tie.Need-returns Inv-loop μ-loop
+returns c =
+    let l = c .before .before .before .before in
+    absurd (omega (
+      arith,
+      as-ends 65536 (c .enum-told .given .1) (c .before .before .read-field .ensures) .near,
+      l .loop .inv .along .here,
+      c .before .before .before .loop-test .taken,
+      l .before .before .before .pre .0,
+    ))
+
+cast-wanted : tie.Need-cast-wanted Inv-loop μ-loop
+cast-wanted c = record { fits = node (c .before) .small }
+
+cast-wanted-2 : tie.Need-cast-wanted-2 Inv-loop μ-loop
+cast-wanted-2 c = omega arith
+
+mul-wanted : tie.Need-mul-wanted Inv-loop μ-loop
+mul-wanted c = omega arith
+
+slice-write-wanted : tie.Need-slice-write-wanted Inv-loop μ-loop
+slice-write-wanted c = omega (arith, c .before .before .before .before .before .loop .inv .column .kept, c .before .before .before .before .before .before .before .before .pre)
+
+add-i : tie.Need-add-i Inv-loop μ-loop
+add-i c = omega arith
+
+loop-less : tie.Need-loop-less Inv-loop μ-loop
+loop-less c = omega arith
+
+loop-again : tie.Need-loop-again Inv-loop μ-loop
+loop-again c =
+    let l = c .before .before .before .before .before in
+    let g = node (c .before) in
+    let v = field-value g in
+    rw (v .0) (nodes-next (l .loop .inv) (c .before .before .before .before .loop-test .taken) (v .1) (g .inside))
+
+same-length-2 : tie.Need-same-length-2 Inv-loop μ-loop
+same-length-2 c = c .before .loop .inv .column .kept
+
+returns-2 : tie.Need-returns-2 Inv-loop μ-loop
+returns-2 c = nodes-done (c .before .loop .inv) (c .loop-test .left)
+
+pub fill-nodes-spec : {M : Type 1} → statement M
+fill-nodes-spec =
+    tie.close
+    (tie.spec
+    Inv-loop
+    μ-loop
+    loop-holds
+    read-field-requires
+    enum-known-node
+    enum-told
+    same-length
+    returns
+    cast-wanted
+    cast-wanted-2
+    mul-wanted
+    slice-write-wanted
+    add-i
+    loop-less
+    loop-again
+    same-length-2
+    returns-2)

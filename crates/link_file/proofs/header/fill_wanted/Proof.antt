@@ -1,0 +1,52 @@
+-- `header::fill_wanted` meets its contract: the nodes that stand just before the first record, or all nodes. Assumes nothing.
+use borrow.Author.Needs.{needs}
+use mathlib.Core.Path.{_∙_}
+use native.Mathlib.Omega.{arith}
+use Rattle.link_file.specs.Says.{wanted-in}
+use Rattle.link_file.proofs.header.fill_wanted.Statement.{statement}
+use Rattle.link_file.proofs.header.fill_wanted.Tie as tie
+
+cast-from : tie.Need-cast-from
+cast-from c = search needs
+
+mul-from : tie.Need-mul-from
+mul-from c = search needs
+
+sub-from : tie.Need-sub-from
+sub-from c = c .before .before .before .before .pre .0 .room (c .before .if1 .taken)
+
+fill-nodes-requires : tie.Need-fill-nodes-requires
+fill-nodes-requires c κs =
+    let s = c .before .before .before .before .before in
+    (omega (arith, s .pre .0 .room (c .before .before .if1 .taken), s .pre .0 .inside), (s .pre .0 .few, s .pre .1))
+
+same-length : tie.Need-same-length
+same-length c = search needs
+
+returns : tie.Need-returns
+unfolding wanted-in
+returns c = c .before .before .fill-nodes .ensures ∙ rw (c .before .before .before .before .before .if1 .taken)
+
+fill-all-requires : tie.Need-fill-all-requires
+fill-all-requires c κs = search needs
+
+same-length-2 : tie.Need-same-length-2
+same-length-2 c = search needs
+
+returns-2 : tie.Need-returns-2
+unfolding wanted-in
+returns-2 c = c .before .before .fill-all .ensures ∙ rw (c .before .before .before .before .if1 .left)
+
+pub fill-wanted-spec : {M : Type 1} → statement M
+fill-wanted-spec =
+    tie.close
+    (tie.spec
+    cast-from
+    mul-from
+    sub-from
+    fill-nodes-requires
+    same-length
+    returns
+    fill-all-requires
+    same-length-2
+    returns-2)

@@ -1,0 +1,53 @@
+-- `writer::header_size` meets its contract: the sum of the sizes of the fields that stand. Assumes nothing.
+use borrow.Author.Needs.{needs}
+use mathlib.Core.Bool.{Bool, cond}
+use mathlib.Core.Path.{ap, _∙_}
+use Prim.Native.Nat.{_+_, _*_}
+use Rattle.link_file.proofs.HeaderBytes.{header-sized}
+use Rattle.link_file.proofs.writer.header_size.Statement.{statement}
+use Rattle.link_file.proofs.writer.header_size.Tie as tie
+
+stands-requires : tie.Need-stands-requires
+stands-requires c κs = search needs
+
+field-size-requires : tie.Need-field-size-requires
+field-size-requires c κs = search needs
+
+stands-requires-2 : tie.Need-stands-requires-2
+stands-requires-2 c κs = search needs
+
+mul-field-size : tie.Need-mul-field-size
+mul-field-size c = search needs
+
+add-field-size : tie.Need-add-field-size
+add-field-size c = search needs
+
+field-size-requires-2 : tie.Need-field-size-requires-2
+field-size-requires-2 c κs = search needs
+
+add-result : tie.Need-add-result
+add-result c = search needs
+
+add-result-2 : tie.Need-add-result-2
+add-result-2 c = search needs
+
+returns : tie.Need-returns
+returns c =
+    header-sized _ _ _ _
+    (c .before .before .field-size .ensures .0 ∙ ap (λ (b : Bool). cond b 2 0) (c .before .before .before .stands .ensures)) (c .before .before .field-size .ensures .1)
+    (c .field-size2 .ensures .0 ∙ ap (λ (b : Bool). cond b (2 + 2 * c .before .before .before .before .args .wanted) 0) (c .before .stands2 .ensures)) (c .field-size2 .ensures .1)
+    (c .before .before .before .before .pre)
+
+pub header-size-spec : {M : Type 1} → statement M
+header-size-spec =
+    tie.close
+    (tie.spec
+    stands-requires
+    field-size-requires
+    stands-requires-2
+    mul-field-size
+    add-field-size
+    field-size-requires-2
+    add-result
+    add-result-2
+    returns)

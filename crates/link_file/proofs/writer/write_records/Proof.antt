@@ -1,0 +1,60 @@
+-- `writer::write_records` meets its contract: the loop's invariant is `Writing`. Assumes nothing.
+use Prim.Native.Nat.{_-_}
+use native.Mathlib.Omega.{arith}
+use lib.ListN.{length}
+use Rattle.link_file.specs.Says.{arc-before}
+use Rattle.link_file.proofs.Sizes.{Writing, writing-begins, writing-next, record-room, writing-done}
+use Rattle.link_file.proofs.writer.write_records.Statement.{statement}
+use Rattle.link_file.proofs.writer.write_records.Tie as tie
+
+abbrev Inv-loop : tie.InvT-loop
+Inv-loop tails heads lengths start output₀ at₀ previous₀ i₀ output at previous i = Writing tails heads lengths output₀ start output at (arc-before previous) i
+
+abbrev μ-loop : tie.MeasureT-loop
+μ-loop tails heads lengths start output₀ at₀ previous₀ i₀ output at previous i = length tails - i
+
+loop-holds : tie.Need-loop-holds Inv-loop μ-loop
+unfolding arc-before
+loop-holds c = writing-begins _ _ _ _ _ (c .before .before .before .before .pre .1)
+
+arc-at-requires : tie.Need-arc-at-requires Inv-loop μ-loop
+arc-at-requires c κs = omega arith
+
+write-record-requires : tie.Need-write-record-requires Inv-loop μ-loop
+write-record-requires c κs =
+    let l = c .before .before .before in
+    record-room (l .loop .inv) (l .before .before .before .before .before .pre .0) (c .before .before .loop-test .taken) _ (c .before .arc-at .ensures)
+
+add-i : tie.Need-add-i Inv-loop μ-loop
+add-i c = omega arith
+
+loop-less : tie.Need-loop-less Inv-loop μ-loop
+loop-less c = omega arith
+
+loop-again : tie.Need-loop-again Inv-loop μ-loop
+unfolding arc-before
+loop-again c =
+    let l = c .before .before .before .before .before .before in
+    writing-next (l .loop .inv) (l .before .before .before .before .before .pre .0) (c .before .before .before .before .before .loop-test .taken) _
+    (c .before .before .before .before .arc-at .ensures) (c .before .before .write-record .ensures)
+
+same-length : tie.Need-same-length Inv-loop μ-loop
+same-length c = c .before .loop .inv .column .kept
+
+returns : tie.Need-returns Inv-loop μ-loop
+returns c = writing-done (c .before .loop .inv) (c .loop-test .left)
+
+pub write-records-spec : {M : Type 1} → statement M
+write-records-spec =
+    tie.close
+    (tie.spec
+    Inv-loop
+    μ-loop
+    loop-holds
+    arc-at-requires
+    write-record-requires
+    add-i
+    loop-less
+    loop-again
+    same-length
+    returns)

@@ -1,0 +1,45 @@
+-- The files of document 01 and of its table of grounds, as rows of one result. Assumes nothing: this is a statement.
+use mathlib.Core.List.{List, [], _∷_}
+use mathlib.Core.Path.{_≡_}
+use Prim.Native.Nat.{ℕ}
+use Rattle.table.specs.Table.{arc}
+use Rattle.link_file.specs.Format.{Content, content, file-bytes}
+use Rattle.link_file.specs.Reading.{got, refused, read-file}
+
+-- 01's input of `routes`: 05 0400 0100 0300; 07 0000 0100 02000000; 04 05000000; 07 0100 0200 03000000; 05 0200 01000000; 07 0100 0300 09000000
+abbrev pub example-file : List ℕ
+example-file =
+    5 ∷ 4 ∷ 0 ∷ 1 ∷ 0 ∷ 3 ∷ 0
+    ∷ 7 ∷ 0 ∷ 0 ∷ 1 ∷ 0 ∷ 2 ∷ 0 ∷ 0 ∷ 0
+    ∷ 4 ∷ 5 ∷ 0 ∷ 0 ∷ 0
+    ∷ 7 ∷ 1 ∷ 0 ∷ 2 ∷ 0 ∷ 3 ∷ 0 ∷ 0 ∷ 0
+    ∷ 5 ∷ 2 ∷ 0 ∷ 1 ∷ 0 ∷ 0 ∷ 0
+    ∷ 7 ∷ 1 ∷ 0 ∷ 3 ∷ 0 ∷ 9 ∷ 0 ∷ 0 ∷ 0 ∷ []
+
+-- its table: four nodes, origin 0, node 3 wanted, five arcs
+abbrev pub example-table : Content
+example-table = content 4 0 (3 ∷ []) (arc 0 1 2 ∷ arc 0 2 5 ∷ arc 1 2 3 ∷ arc 2 3 1 ∷ arc 1 3 9 ∷ [])
+
+pub record Rows : Type 0 where
+  pub example-read : read-file example-file ≡ got example-table 46 []
+  pub example-written : file-bytes example-table ≡ example-file
+  -- 9: an empty file; byte 01 alone; a record cut inside its length
+  pub empty : read-file [] ≡ refused 9 0
+  pub cut : read-file (1 ∷ []) ≡ refused 9 1
+  pub cut-record : read-file (1 ∷ 1 ∷ 0 ∷ 7 ∷ 0 ∷ 0 ∷ 0 ∷ 0 ∷ 5 ∷ 0 ∷ []) ≡ refused 9 10
+  -- 10: no node count; a forbidden bit, before the fields are looked at; a first record without its length
+  pub no-count : read-file (2 ∷ []) ≡ refused 10 0
+  pub forbidden-bit : read-file (8 ∷ []) ≡ refused 10 0
+  pub first-incomplete : read-file (1 ∷ 1 ∷ 0 ∷ 3 ∷ []) ≡ refused 10 3
+  -- 1: no nodes; 5: 1,025 wanted nodes, also where the file ends there
+  pub no-nodes : read-file (1 ∷ 0 ∷ 0 ∷ []) ≡ refused 1 0
+  pub many-wanted : read-file (5 ∷ 1 ∷ 0 ∷ 1 ∷ 4 ∷ []) ≡ refused 5 1024
+  -- 11: an implied head after 65535, also where the tail is needless; a head that is written there is not
+  pub head-too-high : read-file (1 ∷ 1 ∷ 0 ∷ 7 ∷ 1 ∷ 0 ∷ 255 ∷ 255 ∷ 1 ∷ 0 ∷ 0 ∷ 0 ∷ 1 ∷ 1 ∷ 0 ∷ []) ≡ refused 11 12
+  pub head-written : read-file (1 ∷ 1 ∷ 0 ∷ 7 ∷ 1 ∷ 0 ∷ 255 ∷ 255 ∷ 1 ∷ 0 ∷ 0 ∷ 0 ∷ 2 ∷ 0 ∷ 0 ∷ [])
+      ≡ got (content 1 0 (0 ∷ []) (arc 1 65535 1 ∷ arc 1 0 1 ∷ [])) 15 []
+  -- 12: origin 0 written out; all nodes written out; a tail that the record before says. The empty wanted list is no such field
+  pub origin-needless : read-file (3 ∷ 1 ∷ 0 ∷ 0 ∷ 0 ∷ []) ≡ refused 12 0
+  pub wanted-needless : read-file (5 ∷ 2 ∷ 0 ∷ 2 ∷ 0 ∷ 0 ∷ 0 ∷ 1 ∷ 0 ∷ []) ≡ refused 12 0
+  pub tail-needless : read-file (1 ∷ 1 ∷ 0 ∷ 7 ∷ 1 ∷ 0 ∷ 2 ∷ 0 ∷ 1 ∷ 0 ∷ 0 ∷ 0 ∷ 1 ∷ 1 ∷ 0 ∷ []) ≡ refused 12 12
+  pub wanted-empty : read-file (5 ∷ 2 ∷ 0 ∷ 0 ∷ 0 ∷ []) ≡ got (content 2 0 [] []) 5 []

@@ -1,0 +1,202 @@
+// Reading the header: the node count, the origin and the wanted list.
+use crate::arcs;
+use crate::fields::Field;
+use crate::fields::NODE;
+use crate::fields::place;
+use crate::fields::read_field;
+use crate::fields::read_optional;
+use crate::grounds;
+ghost use mathlib.Core.Bool.{_&&_, _||_, not};
+ghost use mathlib.Core.Path.{_≡_};
+ghost use Prim.Native.Nat.{_+_, _*_, _≤_, _<_};
+ghost use lib.Dec.{eqb, ltb};
+ghost use lib.ListN.{length, drop};
+ghost use lib.Seq.{sets};
+ghost use Rattle.table.specs.Table.{most-nodes, most-wanted};
+ghost use Rattle.link_file.specs.Format.{has, count-up};
+ghost use Rattle.link_file.specs.Says.{nodes-in, wanted-in, Nodes-says, Wanted-says, Header-got, Header-says};
+
+// The most wanted nodes.
+pub const MOST_WANTED: u32 = 1024;
+
+// The weights of a header's bits.
+pub const COUNT: u8 = 1;
+
+pub const ORIGIN: u8 = 2;
+
+pub const WANTED: u8 = 4;
+
+// What a header says; `listed`: the wanted nodes stand in the file, just before the first record, which is at `next`.
+pub struct Header {
+    pub n: u32,
+    pub origin: u16,
+    pub wanted: u32,
+    pub listed: bool,
+    pub next: usize,
+}
+
+// A header's answer, or the refusal's number and place.
+pub enum HeaderRead {
+    Read(Header),
+    Refused(u32, u32),
+}
+
+// The wanted list's answer: how many nodes it has, the next offset and whether it is all nodes ascending; or the refusal.
+pub enum WantedRead {
+    Read(u32, usize, bool),
+    Refused(u32, u32),
+}
+
+// The answer of a run of nodes: the next offset and whether they count up from 0; or the file ends inside it.
+pub enum NodesRead {
+    Read(usize, bool),
+    Cut,
+}
+
+fn both(a: bool, b: bool) -> bool
+    ensures { λ r. ⌜ r ≡ (a && b) ⌝ }
+{
+    if a { b } else { false }
+}
+
+// Every one of so many nodes is read, and compared with its index.
+fn check_nodes(file: &[u8], from: usize, count: u32) -> NodesRead
+    requires { ⌜ (from ≤ length (now file)) × (count ≤ most-wanted) ⌝ }
+    ensures { λ r. ⌜ Nodes-says r (now (file .entry)) from count ⌝ }
+{
+    let mut at = from;
+    let mut ascending = true;
+    let mut i: u32 = 0;
+    while i < count {
+        let Field::Value(node, next) = read_field(file, at, NODE) else {
+            return NodesRead::Cut;
+        };
+        ascending = both(ascending, node == i);
+        at = next;
+        i += 1;
+    }
+    NodesRead::Read(at, ascending)
+}
+
+// The wanted list of n nodes.
+fn read_wanted(file: &[u8], from: usize, listed: bool, n: u32) -> WantedRead
+    requires { ⌜ (from ≤ length (now file)) × ((from ≤ 5) × (n ≤ most-nodes)) ⌝ }
+    ensures { λ r. ⌜ Wanted-says r (now (file .entry)) from listed n ⌝ }
+{
+    if !listed {
+        return WantedRead::Read(n, from, true);
+    }
+    let Field::Value(count, nodes_at) = read_field(file, from, NODE) else {
+        return WantedRead::Refused(grounds::CUT, place(file.len()));
+    };
+    if MOST_WANTED < count {
+        return WantedRead::Refused(grounds::WANTED, MOST_WANTED);
+    }
+    let NodesRead::Read(next, ascending) = check_nodes(file, nodes_at, count) else {
+        return WantedRead::Refused(grounds::CUT, place(file.len()));
+    };
+    WantedRead::Read(count, next, both(count == n, ascending))
+}
+
+// The bit maps that a header may not have: bits 3 to 7, or no node count.
+fn forbidden(bits: u8) -> bool
+    ensures { λ r. ⌜ r ≡ (ltb 7 bits || not (has 1 bits)) ⌝ }
+{
+    match bits {
+        0..=7 => !arcs::stands(COUNT, bits),
+        8..=255 => true,
+    }
+}
+
+// 1: no nodes, or too many.
+pub fn bad_count(n: u32) -> bool
+    ensures { λ r. ⌜ r ≡ (eqb n 0 || ltb most-nodes n) ⌝ }
+{
+    if n == 0 {
+        return true;
+    }
+    table::MOST_NODES < n
+}
+
+// The header at the start of a file.
+pub fn read_header(file: &[u8]) -> HeaderRead
+    ensures { λ r. ⌜ Header-says r (now (file .entry)) ⌝ }
+{
+    if file.len() == 0 {
+        return HeaderRead::Refused(grounds::CUT, 0);
+    }
+    let bits = file[0];
+    if forbidden(bits) {
+        return HeaderRead::Refused(grounds::BIT_MAP, 0);
+    }
+    let Field::Value(n, from) = read_field(file, 1, NODE) else {
+        return HeaderRead::Refused(grounds::CUT, place(file.len()));
+    };
+    if bad_count(n) {
+        return HeaderRead::Refused(grounds::NODES, 0);
+    }
+    let has_origin = arcs::stands(ORIGIN, bits);
+    let Field::Value(origin, from) = read_optional(file, from, NODE, has_origin, 0) else {
+        return HeaderRead::Refused(grounds::CUT, place(file.len()));
+    };
+    let listed = arcs::stands(WANTED, bits);
+    match read_wanted(file, from, listed, n) {
+        WantedRead::Refused(number, at) => HeaderRead::Refused(number, at),
+        WantedRead::Read(wanted, next, all) => {
+            if bits != arcs::bits_of(true, origin != 0, !all) {
+                return HeaderRead::Refused(grounds::NEEDLESS, 0);
+            }
+            let origin = origin as u16;
+            HeaderRead::Read(Header {
+                n,
+                origin,
+                wanted,
+                listed,
+                next,
+            })
+        }
+    }
+}
+
+// The wanted nodes of a header that was read, at the start of a buffer.
+fn fill_nodes(file: &[u8], from: usize, count: u32, wanted: &mut [u16])
+    requires { ⌜ (from + 2 * count ≤ length (now file)) × ((count ≤ most-wanted) × (most-wanted ≤ length (now wanted))) ⌝ }
+    ensures { λ _. ⌜ now (wanted .exit) ≡ sets (now (wanted .entry)) 0 (nodes-in count (drop from (now (file .entry)))) ⌝ }
+{
+    let mut at = from;
+    let mut i: u32 = 0;
+    while i < count {
+        let Field::Value(node, next) = read_field(file, at, NODE) else {
+            return;
+        };
+        wanted[i as usize] = node as u16;
+        at = next;
+        i += 1;
+    }
+}
+
+// All n nodes, ascending, at the start of a buffer.
+fn fill_all(n: u32, wanted: &mut [u16])
+    requires { ⌜ (n ≤ most-nodes) × (most-wanted ≤ length (now wanted)) ⌝ }
+    ensures { λ _. ⌜ now (wanted .exit) ≡ sets (now (wanted .entry)) 0 (count-up 0 n) ⌝ }
+{
+    let mut i: u32 = 0;
+    while i < n {
+        wanted[i as usize] = i as u16;
+        i += 1;
+    }
+}
+
+// The wanted list of a header that was read, at the start of a buffer.
+pub fn fill_wanted(file: &[u8], header: Header, wanted: &mut [u16])
+    requires { ⌜ Header-got (now file) header × (most-wanted ≤ length (now wanted)) ⌝ }
+    ensures { λ _. ⌜ now (wanted .exit) ≡ sets (now (wanted .entry)) 0 (wanted-in (now (file .entry)) (header .listed) (header .n) (header .wanted) (header .next)) ⌝ }
+{
+    let count = header.wanted;
+    if header.listed {
+        let from = header.next - 2 * (count as usize);
+        fill_nodes(file, from, count, wanted);
+        return;
+    }
+    fill_all(header.n, wanted);
+}

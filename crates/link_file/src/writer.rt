@@ -1,0 +1,170 @@
+// Writing a table as a link file: the size of each part, and its bytes.
+use crate::arcs;
+use crate::arcs::Arc;
+use crate::arcs::Previous;
+use crate::arcs::wide;
+use crate::fields;
+use crate::fields::NODE;
+use crate::fields::put_field;
+use crate::fields::put_optional;
+use crate::header;
+ghost use mathlib.Core.Bool.{not, _||_, _&&_, cond};
+ghost use mathlib.Core.Option.{none};
+ghost use mathlib.Core.Path.{_≡_};
+ghost use Prim.Native.Nat.{ℕ, _+_, _≤_, _<_};
+ghost use lib.Dec.{eqb, ltb};
+ghost use lib.ListN.{length, getD};
+ghost use lib.Seq.{sets};
+ghost use Rattle.table.specs.Table.{arc, arcs-of, most-arcs, most-nodes, most-wanted};
+ghost use Rattle.link_file.specs.Format.{all-nodes, header-bits, header-bytes, nodes-bytes, wanted-bytes, record-bytes, records-bytes};
+ghost use Rattle.link_file.specs.Says.{arc-of, arc-before, Put, Record-sized, Equal-columns, Header-sized, Header-asks};
+
+fn field_size(stands: bool, width: usize) -> usize
+    ensures { λ r. ⌜ (r ≡ cond stands width 0) × (r ≤ width) ⌝ }
+{
+    if stands { width } else { 0 }
+}
+
+// The size of a record with this bit map.
+fn record_size(bits: u8) -> usize
+    ensures { λ r. ⌜ Record-sized bits r ⌝ }
+{
+    let tail = field_size(arcs::stands(arcs::TAIL, bits), NODE);
+    let head = field_size(arcs::stands(arcs::HEAD, bits), NODE);
+    let length = field_size(arcs::stands(arcs::LENGTH, bits), fields::LENGTH);
+    1 + (tail + (head + length))
+}
+
+fn arc_at(tails: &[u16], heads: &[u16], lengths: &[u32], i: usize) -> Arc
+    requires { ⌜ (i < length (now tails)) × ((i < length (now heads)) × (i < length (now lengths))) ⌝ }
+    ensures { λ r. ⌜ arc-of r ≡ arc (getD (now (tails .entry)) i 0) (getD (now (heads .entry)) i 0) (getD (now (lengths .entry)) i 0) ⌝ }
+{
+    Arc {
+        tail: tails[i],
+        head: heads[i],
+        length: lengths[i],
+    }
+}
+
+// The size of all records.
+pub fn records_size(tails: &[u16], heads: &[u16], lengths: &[u32]) -> usize
+    requires { ⌜ Equal-columns (now tails) (now heads) (now lengths) ⌝ }
+    ensures { λ r. ⌜ (r ≡ length (records-bytes none (arcs-of (now (tails .entry)) (now (heads .entry)) (now (lengths .entry))))) × (r ≤ 54000) ⌝ }
+{
+    let mut size: usize = 0;
+    let mut previous = Previous::Nothing;
+    let mut i = 0;
+    while i < tails.len() {
+        let arc = arc_at(tails, heads, lengths, i);
+        size += record_size(arcs::record_bits(previous, arc));
+        previous = Previous::Record(arc);
+        i += 1;
+    }
+    size
+}
+
+// Puts one record.
+fn write_record(output: &mut [u8], at: usize, previous: Previous, arc: Arc) -> usize
+    requires { ⌜ at + length (record-bytes (arc-before previous) (arc-of arc)) ≤ length (now output) ⌝ }
+    ensures { λ r. ⌜ Put (now (output .entry)) at (record-bytes (arc-before previous) (arc-of arc)) r (now (output .exit)) ⌝ }
+{
+    let bits = arcs::record_bits(previous, arc);
+    output[at] = bits;
+    let has_tail = arcs::stands(arcs::TAIL, bits);
+    let head_at = put_optional(output, at + 1, NODE, has_tail, wide(arc.tail));
+    let has_head = arcs::stands(arcs::HEAD, bits);
+    let length_at = put_optional(output, head_at, NODE, has_head, wide(arc.head));
+    let has_length = arcs::stands(arcs::LENGTH, bits);
+    put_optional(output, length_at, fields::LENGTH, has_length, arc.length)
+}
+
+// Puts all records.
+pub fn write_records(tails: &[u16], heads: &[u16], lengths: &[u32], start: usize, output: &mut [u8])
+    requires { ⌜ Equal-columns (now tails) (now heads) (now lengths) × (start + length (records-bytes none (arcs-of (now tails) (now heads) (now lengths))) ≤ length (now output)) ⌝ }
+    ensures { λ _. ⌜ now (output .exit) ≡ sets (now (output .entry)) start (records-bytes none (arcs-of (now (tails .entry)) (now (heads .entry)) (now (lengths .entry)))) ⌝ }
+{
+    let mut at = start;
+    let mut previous = Previous::Nothing;
+    let mut i = 0;
+    while i < tails.len() {
+        let arc = arc_at(tails, heads, lengths, i);
+        at = write_record(output, at, previous, arc);
+        previous = Previous::Record(arc);
+        i += 1;
+    }
+}
+
+// Whether a wanted list is all n nodes, ascending.
+fn is_all(n: u32, wanted: &[u16]) -> bool
+    requires { ⌜ n ≤ most-nodes ⌝ }
+    ensures { λ r. ⌜ r ≡ all-nodes n (now (wanted .entry)) ⌝ }
+{
+    if wanted.len() != n as usize {
+        return false;
+    }
+    let mut i: u32 = 0;
+    while i < n {
+        if wide(wanted[i as usize]) != i {
+            return false;
+        }
+        i += 1;
+    }
+    true
+}
+
+// The canonical bit map of a header.
+pub fn header_bits(n: u32, origin: u16, wanted: &[u16]) -> u8
+    requires { ⌜ n ≤ most-nodes ⌝ }
+    ensures { λ r. ⌜ r ≡ header-bits n origin (now (wanted .entry)) ⌝ }
+{
+    arcs::bits_of(true, origin != 0, !is_all(n, wanted))
+}
+
+// The size of a header with this bit map and so many wanted nodes.
+pub fn header_size(bits: u8, wanted: usize) -> usize
+    requires { ⌜ wanted ≤ most-wanted ⌝ }
+    ensures { λ r. ⌜ Header-sized bits wanted r ⌝ }
+{
+    let origin = field_size(arcs::stands(header::ORIGIN, bits), NODE);
+    let list = field_size(arcs::stands(header::WANTED, bits), 2 + 2 * wanted);
+    3 + (origin + list)
+}
+
+// Puts the wanted nodes.
+fn write_nodes(wanted: &[u16], start: usize, output: &mut [u8]) -> usize
+    requires { ⌜ start + length (nodes-bytes (now wanted)) ≤ length (now output) ⌝ }
+    ensures { λ r. ⌜ Put (now (output .entry)) start (nodes-bytes (now (wanted .entry))) r (now (output .exit)) ⌝ }
+{
+    let mut at = start;
+    let mut i = 0;
+    while i < wanted.len() {
+        at = put_field(output, at, NODE, wide(wanted[i]));
+        i += 1;
+    }
+    at
+}
+
+// Puts the wanted list where it stands: its count and its nodes.
+fn write_wanted(output: &mut [u8], at: usize, stands: bool, wanted: &[u16]) -> usize
+    requires { ⌜ (at + length (wanted-bytes stands (now wanted)) ≤ length (now output)) × (length (now wanted) ≤ most-wanted) ⌝ }
+    ensures { λ r. ⌜ Put (now (output .entry)) at (wanted-bytes stands (now (wanted .entry))) r (now (output .exit)) ⌝ }
+{
+    if !stands {
+        return at;
+    }
+    let nodes_at = put_field(output, at, NODE, wanted.len() as u32);
+    write_nodes(wanted, nodes_at, output)
+}
+
+// Puts the header, whose canonical bit map is given.
+pub fn write_header(n: u32, origin: u16, wanted: &[u16], bits: u8, output: &mut [u8]) -> usize
+    requires { ⌜ Header-asks n origin (now wanted) bits (now output) ⌝ }
+    ensures { λ r. ⌜ Put (now (output .entry)) 0 (header-bytes n origin (now (wanted .entry))) r (now (output .exit)) ⌝ }
+{
+    output[0] = bits;
+    let origin_at = put_field(output, 1, NODE, n);
+    let has_origin = arcs::stands(header::ORIGIN, bits);
+    let wanted_at = put_optional(output, origin_at, NODE, has_origin, wide(origin));
+    let listed = arcs::stands(header::WANTED, bits);
+    write_wanted(output, wanted_at, listed, wanted)
+}
