@@ -3,3 +3,4 @@ pub mod Entries
 pub mod Marks
 pub mod Handing
 pub mod Planning
+pub mod Promised

@@ -1,2 +1,3 @@
 pub mod Plan
 pub mod Lent
+pub mod Promise
