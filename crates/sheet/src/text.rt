@@ -1,0 +1,47 @@
+// Putting texts and numbers one after the other at the start of a buffer.
+ghost use mathlib.Core.Path.{_≡_};
+ghost use mathlib.Core.List.{List, _++_};
+ghost use Prim.Native.Nat.{ℕ, _+_, _≤_};
+ghost use lib.ListN.{length};
+ghost use Rattle.sheet.specs.Text.{decimal, Begins};
+
+// What every line has room in: a number takes at most 20 bytes, and a path at most 1,024 numbers, each after a space.
+pub const LINE_ROOM: usize = 32768;
+
+// The most digits a number has.
+pub const MOST_DIGITS: usize = 20;
+
+// Puts a text behind what the buffer begins with, and answers how long that is then.
+pub fn put(text: &[u8], at: usize, out: &mut [u8]) -> usize
+    requires { ⌜ at + length (now text) ≤ length (now out) ⌝ }
+    ensures begins { λ r. ⌜ ((with before : List ℕ) → Begins with before (now (out .entry)) at → Begins (with ++ now (text .entry)) before (now (out .exit)) r) ⌝ }
+    ensures long { λ r. ⌜ (r ≡ at + length (now (text .entry))) × (length (now (out .exit)) ≡ length (now (out .entry))) ⌝ }
+{
+    let mut i = 0;
+    while i < text.len() {
+        out[at + i] = text[i];
+        i += 1;
+    }
+    at + text.len()
+}
+
+// Puts a number in decimal.
+pub fn put_number(n: u64, at: usize, out: &mut [u8]) -> usize
+    requires { ⌜ at + 20 ≤ length (now out) ⌝ }
+    ensures begins { λ r. ⌜ ((with before : List ℕ) → Begins with before (now (out .entry)) at → Begins (with ++ decimal n) before (now (out .exit)) r) ⌝ }
+    ensures long { λ r. ⌜ (r ≤ at + 20) × (length (now (out .exit)) ≡ length (now (out .entry))) ⌝ }
+{
+    let mut digits = [0u8; MOST_DIGITS];
+    let k = io::decimal(n, &mut digits);
+    put(&digits[..k], at, out)
+}
+
+// Puts a text and then a number.
+pub fn put_field(name: &[u8], n: u64, at: usize, out: &mut [u8]) -> usize
+    requires { ⌜ at + (length (now name) + 20) ≤ length (now out) ⌝ }
+    ensures begins { λ r. ⌜ ((with before : List ℕ) → Begins with before (now (out .entry)) at → Begins (with ++ now (name .entry) ++ decimal n) before (now (out .exit)) r) ⌝ }
+    ensures long { λ r. ⌜ (r ≤ at + (length (now (name .entry)) + 20)) × (length (now (out .exit)) ≡ length (now (out .entry))) ⌝ }
+{
+    let next = put(name, at, out);
+    put_number(n, next, out)
+}
