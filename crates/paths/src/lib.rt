@@ -11,6 +11,7 @@ ghost use Rattle.table.specs.Table.{no-arc};
 ghost use Rattle.paths.specs.Listing.{tree-in, node-before, leads-back, path, nodes-of, early-ground, listing, Lists};
 
 // The refusal's number, 0 where there is none; its place, always 0; and how many nodes are listed, 0 on a refusal.
+#[repr(C)]
 pub struct Listed {
     pub number: u32,
     pub place: u32,

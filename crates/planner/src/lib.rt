@@ -17,6 +17,7 @@ mod grounds;
 mod hand_over;
 
 // Number and place of a refusal, number 0 where there is none; nodes reached, horizon and the counts of the run.
+#[repr(C)]
 pub struct Planned {
     pub number: u32,
     pub place: u32,

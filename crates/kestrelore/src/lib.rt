@@ -1,0 +1,86 @@
+// The library for firmware: the four entry points under C names, nothing else. include/kestrelore.h declares them; each has the contract of the function
+// that it hands on to.
+ghost use mathlib.Core.Path.{_≡_};
+ghost use lib.ListN.{length};
+ghost use Rattle.planner.specs.Plan.{answered, plan};
+ghost use Rattle.paths.specs.Listing.{tree-in, listing, Lists};
+ghost use Rattle.link_file.specs.Entries.{Read-says, Write-says};
+use link_file::TableRead;
+use link_file::Written;
+use paths::Listed;
+use planner::Planned;
+
+// Plans the routes of a link table.
+#[no_mangle]
+pub extern "C" fn kestrelore_plan_routes(
+    n: u32,
+    origin: u16,
+    tails: &[u16],
+    heads: &[u16],
+    lengths: &[u32],
+    wanted: &[u16],
+    distances: &mut [u64],
+    prices: &mut [u64],
+    tree: &mut [u16],
+    marks: &mut [u8],
+) -> Planned
+    ensures { λ r. ⌜ answered r (now (distances .exit)) (now (prices .exit)) (now (tree .exit)) (now (marks .exit)) ≡ plan n origin (now (tails .entry)) (now (heads .entry)) (now (lengths .entry)) (now (wanted .entry)) (now (distances .entry)) (now (prices .entry)) (now (tree .entry)) (now (marks .entry)) ⌝ }
+{
+    planner::plan_routes(
+        n,
+        origin,
+        tails,
+        heads,
+        lengths,
+        wanted,
+        distances,
+        prices,
+        tree,
+        marks,
+    )
+}
+
+// Lists the nodes of a path.
+#[no_mangle]
+pub extern "C" fn kestrelore_list_path(
+    origin: u16,
+    node: u16,
+    tails: &[u16],
+    heads: &[u16],
+    tree: &[u16],
+    output: &mut [u16],
+) -> Listed
+    ensures { λ r. ⌜ Lists (listing origin node (tree-in (now (tails .entry)) (now (heads .entry)) (now (tree .entry))) (length (now (output .entry)))) r (now (output .entry)) (now (output .exit)) ⌝ }
+{
+    paths::list_path(origin, node, tails, heads, tree, output)
+}
+
+// Reads a link file.
+#[no_mangle]
+pub extern "C" fn kestrelore_read_link_file(
+    file: &[u8],
+    tails: &mut [u16],
+    heads: &mut [u16],
+    lengths: &mut [u32],
+    wanted: &mut [u16],
+) -> TableRead
+    ensures { λ r. ⌜ Read-says (now (file .entry)) (now (tails .entry)) (now (heads .entry)) (now (lengths .entry)) (now (wanted .entry)) (now (tails .exit)) (now (heads .exit)) (now (lengths .exit)) (now (wanted .exit)) r ⌝ }
+{
+    link_file::read_link_file(file, tails, heads, lengths, wanted)
+}
+
+// Writes a link file.
+#[no_mangle]
+pub extern "C" fn kestrelore_write_link_file(
+    n: u32,
+    origin: u16,
+    tails: &[u16],
+    heads: &[u16],
+    lengths: &[u32],
+    wanted: &[u16],
+    output: &mut [u8],
+) -> Written
+    ensures { λ r. ⌜ Write-says n origin (now (tails .entry)) (now (heads .entry)) (now (lengths .entry)) (now (wanted .entry)) (now (output .entry)) (now (output .exit)) r ⌝ }
+{
+    link_file::write_link_file(n, origin, tails, heads, lengths, wanted, output)
+}
