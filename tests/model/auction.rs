@@ -12,6 +12,8 @@ pub struct Auction<'a> {
     outgoing: Vec<Vec<usize>>,
     path: Vec<usize>,
     deleted: Vec<bool>,
+    /// Every wanted node has been reached.
+    stopped: bool,
     pub prices: Vec<u64>,
     pub bounds: Vec<Option<u64>>,
     pub kept: Vec<Option<usize>>,
@@ -37,6 +39,7 @@ impl<'a> Auction<'a> {
             outgoing,
             path: vec![origin],
             deleted: vec![false; n],
+            stopped: false,
             prices: vec![0; n],
             bounds,
             kept: vec![None; n],
@@ -53,15 +56,11 @@ impl<'a> Auction<'a> {
         if self.model.has(Wrong::FirstStopForgotten) {
             self.iteration();
         }
-        while !self.every_wanted_reached() && !self.at_wrong_cap() && self.iteration() {}
+        while !self.stopped && !self.at_wrong_cap() && self.iteration() {}
     }
 
     pub fn iterations(&self) -> u64 {
         self.contractions + self.extensions + self.deletions
-    }
-
-    fn every_wanted_reached(&self) -> bool {
-        self.table.wanted.iter().all(|&node| self.reached[node as usize])
     }
 
     fn at_wrong_cap(&self) -> bool {
@@ -83,6 +82,7 @@ impl<'a> Auction<'a> {
                 self.offer(arc, self.bounds[node].unwrap() + self.length(arc));
             }
         }
+        self.stopped = self.table.wanted.iter().all(|&wanted| self.reached[wanted as usize]);
     }
 
     /// Keeps the arc into its unreached head if it is better than the one kept so far.

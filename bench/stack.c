@@ -1,0 +1,22 @@
+/* How much stack a call needs: it runs on a thread whose stack was painted before. */
+#include <pthread.h>
+#include <stddef.h>
+#include <stdint.h>
+#include <string.h>
+
+enum { SIZE = 4 << 20, PAINT = 0xA5 };
+
+static uint8_t stack[SIZE] __attribute__((aligned(4096)));
+
+/* The bytes of the painted stack that were used, or 0 if the thread could not be started. */
+size_t stack_used(void *(*work)(void *), void *argument)
+{
+    pthread_attr_t attributes;
+    pthread_t thread;
+    size_t untouched = 0;
+    memset(stack, PAINT, SIZE);
+    if (pthread_attr_init(&attributes) != 0 || pthread_attr_setstack(&attributes, stack, SIZE) != 0) return 0;
+    if (pthread_create(&thread, &attributes, work, argument) != 0 || pthread_join(thread, NULL) != 0) return 0;
+    while (untouched < SIZE && stack[untouched] == PAINT) untouched++;
+    return SIZE - untouched;
+}
