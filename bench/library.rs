@@ -88,7 +88,13 @@ extern "C" {
     fn boost_distance(made: *mut c_void, node: usize) -> u64;
     fn boost_free(made: *mut c_void);
 
+    fn thread_time() -> u64;
     pub fn stack_used(work: extern "C" fn(*mut c_void) -> *mut c_void, argument: *mut c_void) -> usize;
+}
+
+/// Processor time of this thread in nanoseconds, so that other programs on the machine weigh little.
+pub fn nanoseconds() -> u64 {
+    unsafe { thread_time() }
 }
 
 // Each call lends whole slices, by their own pointers and lengths, for the time of the call.

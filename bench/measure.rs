@@ -2,12 +2,11 @@
 
 use crate::auction::{self, Plan};
 use crate::dijkstra;
-use crate::library::{self, Peer};
+use crate::library::{self, nanoseconds, Peer};
 use crate::tables::Table;
 use std::ffi::c_void;
 use std::hint::black_box;
 use std::ptr::null_mut;
-use std::time::{Duration, Instant};
 
 /// Nanoseconds of one call of each, and the auction's iterations.
 pub struct Times {
@@ -24,10 +23,10 @@ fn finish<T>(answer: T) {
     black_box(answer);
 }
 
-const REPETITIONS: usize = 9;
+const REPETITIONS: usize = 15;
 
-/// One repetition calls often enough to last about this long.
-const REPETITION: Duration = Duration::from_millis(4);
+/// One repetition calls often enough to last about this many nanoseconds.
+const REPETITION: u64 = 3_000_000;
 
 fn median(mut times: Vec<f64>) -> f64 {
     times.sort_by(f64::total_cmp);
@@ -36,24 +35,24 @@ fn median(mut times: Vec<f64>) -> f64 {
 
 /// Nanoseconds for each call: the median of the repetitions, which take turns.
 fn medians<const K: usize>(mut calls: [&mut dyn FnMut(); K]) -> [f64; K] {
-    let rounds: Vec<u32> = calls.iter_mut().map(|call| rounds_of(&mut **call)).collect();
+    let rounds: Vec<u64> = calls.iter_mut().map(|call| rounds_of(&mut **call)).collect();
     let mut times: [Vec<f64>; K] = std::array::from_fn(|_| Vec::new());
     for _ in 0..REPETITIONS {
         for (index, call) in calls.iter_mut().enumerate() {
-            let start = Instant::now();
+            let start = nanoseconds();
             (0..rounds[index]).for_each(|_| call());
-            times[index].push(start.elapsed().as_nanos() as f64 / rounds[index] as f64);
+            times[index].push((nanoseconds() - start) as f64 / rounds[index] as f64);
         }
     }
     times.map(median)
 }
 
 /// How many calls fill a repetition; the call also warms up.
-fn rounds_of(call: &mut dyn FnMut()) -> u32 {
+fn rounds_of(call: &mut dyn FnMut()) -> u64 {
     call();
-    let start = Instant::now();
+    let start = nanoseconds();
     call();
-    (REPETITION.as_nanos() / start.elapsed().as_nanos().max(1)).clamp(1, 10_000) as u32
+    (REPETITION / (nanoseconds() - start).max(1)).clamp(1, 10_000)
 }
 
 /// Measures one table for all nodes (no target) or one node wanted, after checking that all five agree.

@@ -60,7 +60,7 @@ pub fn page(machine: &Machine, rows: &[Row], stack: &Stack, plot: &str) -> Strin
     add("Five planners work on the same tables in one process, by turns: the library through its C interface; ");
     add("the same auction in ordinary Rust (linked out-arc lists, arrays, nothing allocated while it runs); ");
     add("Dijkstra's algorithm in Rust with the standard library's binary heap; LEMON's `Dijkstra` on a `SmartDigraph`; ");
-    add("Boost's `dijkstra_shortest_paths` on an `adjacency_list`. Each time is the median of nine repetitions. ");
+    add("Boost's `dijkstra_shortest_paths` on an `adjacency_list`. Each time is processor time, the median of fifteen repetitions. ");
     add("The library, the Rust auction and the Rust Dijkstra start from the columns each time. ");
     add("LEMON and Boost get their graph made before the clock starts, which favours them. ");
     add("Every distance, and each iteration count and buffer of the two auctions, is compared before the clock starts.\n\n");
