@@ -56,9 +56,12 @@ fn curves() -> Vec<Curve> {
 
 fn main() -> std::io::Result<()> {
     let words: Vec<String> = std::env::args().collect();
-    let [_, page, plot, date, compilers] = &words[..] else {
-        eprintln!("usage: kestrelore-bench PAGE PLOT DATE COMPILERS");
-        std::process::exit(2);
+    let (page, plot, date, compilers) = match &words[..] {
+        [_, page, plot, date, compilers] => (page, plot, date, compilers),
+        _ => {
+            eprintln!("usage: kestrelore-bench PAGE PLOT DATE COMPILERS");
+            std::process::exit(2);
+        }
     };
     let machine = Machine {
         date: date.clone(),

@@ -5,7 +5,7 @@ use crate::dijkstra;
 use crate::library::{self, nanoseconds, Peer};
 use crate::tables::Table;
 use std::ffi::c_void;
-use std::hint::black_box;
+use std::mem::ManuallyDrop;
 use std::ptr::null_mut;
 
 /// Nanoseconds of one call of each, and the auction's iterations.
@@ -20,7 +20,8 @@ pub struct Times {
 
 /// Takes a call's answer, so that the compiler cannot leave the call out.
 fn finish<T>(answer: T) {
-    black_box(answer);
+    let answer = ManuallyDrop::new(answer);
+    drop(ManuallyDrop::into_inner(unsafe { std::ptr::read_volatile(&answer) }));
 }
 
 const REPETITIONS: usize = 15;

@@ -125,7 +125,7 @@ const MOST_TRIES: usize = 500;
 /// Drops parts of a list, long ones first, while it still fails.
 fn smaller<T: Clone>(mut list: Vec<T>, fails: &dyn Fn(&[T]) -> bool) -> Vec<T> {
     let mut tries = 0;
-    let mut part = list.len().div_ceil(2);
+    let mut part = (list.len() + 1) / 2;
     while part > 0 {
         let mut start = 0;
         while start < list.len() && tries < MOST_TRIES {

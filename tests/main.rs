@@ -43,9 +43,12 @@ impl Tally {
 
 fn main() -> ExitCode {
     let words: Vec<String> = std::env::args().collect();
-    let (Some(program), Ok(seed)) = (words.get(1), words.get(2).map_or(Ok(1), |word| word.parse())) else {
-        eprintln!("usage: kestrelore-tests PROGRAM [SEED]");
-        return ExitCode::from(2);
+    let (program, seed) = match (words.get(1), words.get(2).map_or(Ok(1), |word| word.parse())) {
+        (Some(program), Ok(seed)) => (program, seed),
+        _ => {
+            eprintln!("usage: kestrelore-tests PROGRAM [SEED]");
+            return ExitCode::from(2);
+        }
     };
     let product = Product { program: program.into() };
     let mut tally = Tally { passed: 0, failed: 0 };

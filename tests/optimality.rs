@@ -13,16 +13,16 @@ pub struct Filled {
 
 /// The least length of all walks from the origin to each node; none where there is no walk.
 fn least_distances(table: &Table) -> Vec<Option<u64>> {
-    let mut least = vec![None; table.n as usize];
+    let mut least: Vec<Option<u64>> = vec![None; table.n as usize];
     least[table.origin as usize] = Some(0);
     let mut changed = true;
     while changed {
         changed = false;
         for (tail, head, length) in table.arcs() {
-            let Some(distance) = least[tail as usize] else { continue };
-            let through = distance + length as u64;
-            if least[head as usize].is_none_or(|known| through < known) {
-                least[head as usize] = Some(through);
+            let through = least[tail as usize].map(|distance| distance + length as u64);
+            let known = least[head as usize];
+            if through.is_some() && (known.is_none() || through < known) {
+                least[head as usize] = through;
                 changed = true;
             }
         }
@@ -74,7 +74,7 @@ fn check_nodes(table: &Table, plan: &Planned, filled: &Filled, least: &[Option<u
         let distance = filled.distances[node];
         if distance == NO_DISTANCE {
             let wanted = table.wanted.contains(&(node as u16)) && least[node].is_some();
-            let nearer = least[node].is_some_and(|known| known < plan.horizon);
+            let nearer = least[node].map_or(false, |known| known < plan.horizon);
             demand(!wanted && !nearer, || format!("node {node} has a walk and must be reached"))?;
         } else {
             demand(least[node] == Some(distance), || format!("node {node}: least distance {:?}", least[node]))?;
@@ -104,7 +104,7 @@ fn check_walk(table: &Table, filled: &Filled, node: usize) -> Result<(), String>
             return demand(right, || format!("node {node}: walk {total}, prices {by_prices}"));
         }
         let arc = filled.tree[at] as usize;
-        demand(table.heads.get(arc).is_some_and(|&head| head as usize == at), || format!("no tree arc into {at}"))?;
+        demand(table.heads.get(arc) == Some(&(at as u16)), || format!("no tree arc into {at}"))?;
         let (tail, length) = (table.tails[arc] as usize, table.lengths[arc] as u64);
         let tight = filled.prices[tail] == length + filled.prices[at];
         demand(tight, || format!("prices unequal on arc {arc} of a returned walk"))?;

@@ -65,7 +65,7 @@ fn grid(n: usize) -> Vec<(usize, usize)> {
 
 /// Both ends in the lower or both in the upper half, or from the upper into the lower.
 fn pair_within_part(random: &mut Random, n: usize) -> (usize, usize) {
-    let half = n.div_ceil(2);
+    let half = (n + 1) / 2;
     let tail = random.below(n);
     let head = if tail < half { random.below(half) } else { random.below(n) };
     (tail, head)

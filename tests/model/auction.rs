@@ -111,7 +111,7 @@ impl<'a> Auction<'a> {
         let mut best: Option<(u64, usize)> = None;
         for arc in self.arcs_to_children(node) {
             let value = self.length(arc) + self.prices[self.head(arc)];
-            if best.is_none_or(|(least, _)| value < least || later && value == least) {
+            if best.map_or(true, |(least, _)| value < least || later && value == least) {
                 best = Some((value, arc));
             }
         }
@@ -120,7 +120,10 @@ impl<'a> Auction<'a> {
 
     /// One iteration at the terminal node; false where the run stops instead.
     fn iteration(&mut self) -> bool {
-        let Some(&node) = self.path.last() else { return false };
+        let node = match self.path.last() {
+            Some(&node) => node,
+            None => return false,
+        };
         let at_origin = self.path.len() == 1;
         match self.best_child(node) {
             None if at_origin => return false,

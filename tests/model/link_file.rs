@@ -12,9 +12,13 @@ struct Cursor<'a> {
 impl Cursor<'_> {
     /// The next little-endian field of that many bytes.
     fn field(&mut self, width: usize) -> Result<u32, Refusal> {
-        let Some(bytes) = self.file.get(self.at..self.at + width) else { return refuse(9, self.file.len()) };
-        self.at += width;
-        Ok(bytes.iter().rev().fold(0, |value, &byte| value << 8 | byte as u32))
+        match self.file.get(self.at..self.at + width) {
+            None => refuse(9, self.file.len()),
+            Some(bytes) => {
+                self.at += width;
+                Ok(bytes.iter().rev().fold(0, |value, &byte| value << 8 | byte as u32))
+            }
+        }
     }
 
     fn node(&mut self) -> Result<u16, Refusal> {
@@ -119,8 +123,9 @@ impl Model {
         let tail = if bits & 1 != 0 { Some(cursor.node()?) } else { None };
         let head = if bits & 2 != 0 { Some(cursor.node()?) } else { None };
         let length = if bits & 4 != 0 { Some(cursor.field(4)?) } else { None };
-        let Some((last_tail, last_head, last_length)) = previous else {
-            return Ok((tail.unwrap(), head.unwrap(), length.unwrap()));
+        let (last_tail, last_head, last_length) = match previous {
+            Some(arc) => arc,
+            None => return Ok((tail.unwrap(), head.unwrap(), length.unwrap())),
         };
         let wraps = self.has(Wrong::ImpliedHeadWraps);
         let implied = if wraps { Some(last_head.wrapping_add(1)) } else { last_head.checked_add(1) };
@@ -129,11 +134,11 @@ impl Model {
         if needless && self.has(Wrong::NeedlessBeforeImpliedHead) {
             return refuse(12, start);
         }
-        let Some(head) = head.or(implied) else { return refuse(11, start) };
-        if needless {
-            return refuse(12, start);
+        match head.or(implied) {
+            None => refuse(11, start),
+            Some(_) if needless => refuse(12, start),
+            Some(head) => Ok((tail.unwrap_or(last_tail), head, length.unwrap_or(last_length))),
         }
-        Ok((tail.unwrap_or(last_tail), head, length.unwrap_or(last_length)))
     }
 
     /// The file of a table, for an out buffer with that much room.
@@ -179,9 +184,9 @@ impl Model {
         let (tail, head, length) = arc;
         let wraps = self.has(Wrong::HeadZeroAfterLastOmitted);
         let says_head = |last: u16| if wraps { last.wrapping_add(1) == head } else { last.checked_add(1) == Some(head) };
-        let has_tail = previous.is_none_or(|last| last.0 != tail);
-        let has_head = previous.is_none_or(|last| !says_head(last.1));
-        let has_length = previous.is_none_or(|last| last.2 != length);
+        let has_tail = previous.map_or(true, |last| last.0 != tail);
+        let has_head = previous.map_or(true, |last| !says_head(last.1));
+        let has_length = previous.map_or(true, |last| last.2 != length);
         let mut bytes = vec![has_tail as u8 | (has_head as u8) << 1 | (has_length as u8) << 2];
         if has_tail {
             bytes.extend(tail.to_le_bytes());
