@@ -13,8 +13,9 @@
  * pointer is not null and is aligned for its elements, also where the number is 0, and an output
  * list overlaps no other list of the call. Nothing outside the lists is written.
  *
- * Calls share nothing: there is no global state, no allocation and no call out of the library, so
- * two threads may call at once. Stack needed by a call: measured: see docs/PERFORMANCE.md.
+ * Calls share nothing: there is no global state, no allocation and no call out of the library
+ * (but memcpy, memmove, memset and memcmp, where the compiler puts them), so two threads may call
+ * at once. Stack needed by a call: measured: see docs/PERFORMANCE.md.
  *
  * Every answer starts with a number and a place. Number 0 is no refusal. The place is 0 where none
  * is named below. After every refusal but 8 the answer's other fields are 0 and every output list
