@@ -1,0 +1,170 @@
+//! The same auction in ordinary Rust: linked out-arc lists and arrays, nothing allocated while it runs.
+//! It shares no code with the library and is here to be compared with it.
+
+use crate::tables::Table;
+
+const NODES: usize = 1_024;
+const ARCS: usize = 6_000;
+const NONE: u16 = u16::MAX;
+const NO_BOUND: u64 = u64::MAX;
+
+/// What a plan fills.
+#[derive(Default)]
+pub struct Plan {
+    pub distances: Vec<u64>,
+    pub prices: Vec<u64>,
+    pub tree: Vec<u16>,
+    pub marks: Vec<u8>,
+}
+
+impl Plan {
+    pub fn new(table: &Table) -> Plan {
+        let (n, m) = (table.n, table.tails.len());
+        Plan { distances: vec![0; n], prices: vec![0; n], tree: vec![0; n], marks: vec![0; m] }
+    }
+}
+
+struct State<'a> {
+    table: &'a Table,
+    /// The first outgoing arc of each node, and the arc after each arc with the same tail.
+    first: [u16; NODES],
+    next: [u16; ARCS],
+    price: [u64; NODES],
+    bound: [u64; NODES],
+    kept: [u16; NODES],
+    reached: [bool; NODES],
+    deleted: [bool; NODES],
+    missing: [bool; NODES],
+    missing_count: usize,
+    path: [u16; NODES],
+    depth: usize,
+}
+
+/// Runs the auction and gives the number of its iterations; none for a faulty table.
+pub fn plan(table: &Table, wanted: &[u16], out: &mut Plan) -> Option<u64> {
+    if faulty(table) {
+        return None;
+    }
+    let mut state = State::new(table, wanted);
+    state.reach(0);
+    let mut iterations = 0;
+    while state.missing_count > 0 && state.step() {
+        iterations += 1;
+    }
+    state.hand_over(out);
+    Some(iterations)
+}
+
+fn faulty(table: &Table) -> bool {
+    let bad_end = |&node: &u16| node as usize >= table.n;
+    let bad_ends = table.tails.iter().any(bad_end) || table.heads.iter().any(bad_end);
+    table.n > NODES || table.tails.len() > ARCS || bad_ends || table.lengths.contains(&0)
+}
+
+impl State<'_> {
+    fn new<'a>(table: &'a Table, wanted: &[u16]) -> State<'a> {
+        let mut state = State {
+            table,
+            first: [NONE; NODES],
+            next: [NONE; ARCS],
+            price: [0; NODES],
+            bound: [NO_BOUND; NODES],
+            kept: [NONE; NODES],
+            reached: [false; NODES],
+            deleted: [false; NODES],
+            missing: [false; NODES],
+            missing_count: 0,
+            path: [0; NODES],
+            depth: 1,
+        };
+        for (arc, &tail) in table.tails.iter().enumerate().rev() {
+            state.next[arc] = state.first[tail as usize];
+            state.first[tail as usize] = arc as u16;
+        }
+        for &node in wanted {
+            state.missing_count += !state.missing[node as usize] as usize;
+            state.missing[node as usize] = true;
+        }
+        state.bound[0] = 0;
+        state
+    }
+
+    fn reach(&mut self, node: usize) {
+        self.reached[node] = true;
+        self.missing_count -= self.missing[node] as usize;
+        let mut arc = self.first[node];
+        while arc != NONE {
+            let head = self.table.heads[arc as usize] as usize;
+            let bound = self.bound[node] + self.table.lengths[arc as usize] as u64;
+            let better = bound < self.bound[head] || bound == self.bound[head] && arc < self.kept[head];
+            if better && !self.reached[head] {
+                self.bound[head] = bound;
+                self.kept[head] = arc;
+            }
+            arc = self.next[arc as usize];
+        }
+    }
+
+    /// The least of length + child's price and the child; the child is none where there are no children.
+    fn best(&self, node: usize) -> (u64, u16) {
+        let mut best = (u64::MAX, NONE);
+        let mut arc = self.first[node];
+        while arc != NONE {
+            let head = self.table.heads[arc as usize];
+            if self.kept[head as usize] == arc && !self.deleted[head as usize] {
+                let value = self.table.lengths[arc as usize] as u64 + self.price[head as usize];
+                if value < best.0 {
+                    best = (value, head);
+                }
+            }
+            arc = self.next[arc as usize];
+        }
+        best
+    }
+
+    /// One iteration; false where the run stops instead.
+    fn step(&mut self) -> bool {
+        let node = self.path[self.depth - 1] as usize;
+        let (value, child) = self.best(node);
+        if child == NONE {
+            if self.depth == 1 {
+                return false;
+            }
+            self.deleted[node] = true;
+            self.depth -= 1;
+        } else if self.price[node] < value {
+            self.price[node] = value;
+            self.depth = (self.depth - 1).max(1);
+        } else {
+            self.path[self.depth] = child;
+            self.depth += 1;
+            if !self.reached[child as usize] {
+                self.reach(child as usize);
+            }
+        }
+        true
+    }
+
+    fn hand_over(&self, out: &mut Plan) {
+        let reached = (0..self.table.n).filter(|&node| self.reached[node]);
+        let horizon = reached.map(|node| self.bound[node]).max().unwrap_or(0);
+        for node in 0..self.table.n {
+            let (distance, price, arc) = match self.reached[node] {
+                true => (self.bound[node], horizon - self.bound[node], self.kept[node]),
+                false => (u64::MAX, 0, NONE),
+            };
+            out.distances[node] = distance;
+            out.prices[node] = price;
+            out.tree[node] = arc;
+        }
+        for arc in 0..self.table.tails.len() {
+            let (tail, head) = (self.table.tails[arc] as usize, self.table.heads[arc] as usize);
+            let kept = self.kept[head] as usize == arc;
+            out.marks[arc] = match (self.reached[tail], self.reached[head]) {
+                (_, true) => if kept { 3 } else { 1 },
+                (true, false) => if kept { 2 } else { 1 },
+                (false, false) => 0,
+            };
+        }
+    }
+}

@@ -1,0 +1,78 @@
+//! Measures the library beside its peers and writes a page and a plot.
+//!
+//!     kestrelore-bench PAGE PLOT DATE COMPILERS
+
+mod auction;
+mod dijkstra;
+mod library;
+mod measure;
+mod plot;
+mod report;
+mod tables;
+
+use plot::Curve;
+use report::{Machine, Row};
+use std::path::Path;
+use tables::{Table, FAMILIES};
+
+const PLOTTED: [(&str, &str, fn(usize) -> Table); 3] =
+    [("sparse", "#1b6ca8", tables::sparse), ("grid", "#3a8f3a", tables::grid), ("chain", "#c0392b", tables::chain)];
+
+const PLOTTED_NODES: [usize; 7] = [16, 32, 64, 128, 256, 512, 1_024];
+
+/// The processor as the system names it.
+fn processor() -> String {
+    let text = std::fs::read_to_string("/proc/cpuinfo").unwrap_or_default();
+    let name = text.lines().find(|line| line.starts_with("model name")).and_then(|line| line.split_once(':'));
+    name.map_or("a processor without a name".to_string(), |(_, name)| name.trim().to_string())
+}
+
+fn rows() -> Vec<Row> {
+    let mut rows = Vec::new();
+    for family in &FAMILIES {
+        let table = (family.make)(family.n);
+        for (wanted, target) in [("all", None), ("one", Some(measure::middle_node(&table)))] {
+            let times = measure::times(&table, target);
+            let row = Row { name: family.name, wanted, n: table.n, m: table.tails.len(), times };
+            println!("{}", report::line(&row));
+            rows.push(row);
+        }
+    }
+    rows
+}
+
+/// For each plotted family the library's curve and the heap Dijkstra's.
+fn curves() -> Vec<Curve> {
+    let mut curves = Vec::new();
+    for (name, color, make) in PLOTTED {
+        let times: Vec<_> = PLOTTED_NODES.iter().map(|&n| (n as f64, measure::times(&make(n), None))).collect();
+        let library = times.iter().map(|(n, times)| (*n, times.library)).collect();
+        let heap = times.iter().map(|(n, times)| (*n, times.heap)).collect();
+        curves.push(Curve { name: format!("{name}, library"), color, dashed: false, points: library });
+        curves.push(Curve { name: format!("{name}, Dijkstra"), color, dashed: true, points: heap });
+    }
+    curves
+}
+
+fn main() -> std::io::Result<()> {
+    let words: Vec<String> = std::env::args().collect();
+    let (page, plot, date, compilers) = match &words[..] {
+        [_, page, plot, date, compilers] => (page, plot, date, compilers),
+        _ => {
+            eprintln!("usage: kestrelore-bench PAGE PLOT DATE COMPILERS");
+            std::process::exit(2);
+        }
+    };
+    let machine = Machine {
+        date: date.clone(),
+        processor: processor(),
+        cores: std::thread::available_parallelism()?.get(),
+        compilers: compilers.clone(),
+    };
+    let rows = rows();
+    let stack = measure::stack(&tables::sparse(1_024));
+    println!("stack: plan {}, list {}, read {}, write {} bytes", stack.plan, stack.list, stack.read, stack.write);
+    let plot_name = Path::new(plot).file_name().unwrap_or_default().to_string_lossy();
+    std::fs::write(plot, plot::svg(&curves()))?;
+    std::fs::write(page, report::page(&machine, &rows, &stack, &plot_name))
+}

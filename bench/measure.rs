@@ -1,0 +1,151 @@
+//! Times of the five planners on one table, and the stack that the library's calls need.
+
+use crate::auction::{self, Plan};
+use crate::dijkstra;
+use crate::library::{self, nanoseconds, Peer};
+use crate::tables::Table;
+use std::ffi::c_void;
+use std::mem::ManuallyDrop;
+use std::ptr::null_mut;
+
+/// Nanoseconds of one call of each, and the auction's iterations.
+pub struct Times {
+    pub iterations: u64,
+    pub library: f64,
+    pub auction: f64,
+    pub heap: f64,
+    pub lemon: f64,
+    pub boost: f64,
+}
+
+/// Takes a call's answer, so that the compiler cannot leave the call out.
+fn finish<T>(answer: T) {
+    let answer = ManuallyDrop::new(answer);
+    drop(ManuallyDrop::into_inner(unsafe { std::ptr::read_volatile(&answer) }));
+}
+
+const REPETITIONS: usize = 15;
+
+/// One repetition calls often enough to last about this many nanoseconds.
+const REPETITION: u64 = 3_000_000;
+
+fn median(mut times: Vec<f64>) -> f64 {
+    times.sort_by(f64::total_cmp);
+    times[times.len() / 2]
+}
+
+/// Nanoseconds for each call: the median of the repetitions, which take turns.
+fn medians<const K: usize>(mut calls: [&mut dyn FnMut(); K]) -> [f64; K] {
+    let rounds: Vec<u64> = calls.iter_mut().map(|call| rounds_of(&mut **call)).collect();
+    let mut times: [Vec<f64>; K] = std::array::from_fn(|_| Vec::new());
+    for _ in 0..REPETITIONS {
+        for (index, call) in calls.iter_mut().enumerate() {
+            let start = nanoseconds();
+            (0..rounds[index]).for_each(|_| call());
+            times[index].push((nanoseconds() - start) as f64 / rounds[index] as f64);
+        }
+    }
+    times.map(median)
+}
+
+/// How many calls fill a repetition; the call also warms up.
+fn rounds_of(call: &mut dyn FnMut()) -> u64 {
+    call();
+    let start = nanoseconds();
+    call();
+    (REPETITION / (nanoseconds() - start).max(1)).clamp(1, 10_000)
+}
+
+/// Measures one table for all nodes (no target) or one node wanted, after checking that all five agree.
+pub fn times(table: &Table, target: Option<u16>) -> Times {
+    let wanted: Vec<u16> = target.map_or((0..table.n as u16).collect(), |node| vec![node]);
+    let (mut plan, mut other) = (Plan::new(table), Plan::new(table));
+    let (lemon, boost) = (Peer::lemon(table), Peer::boost(table));
+    let iterations = check(table, &wanted, target, (&lemon, &boost));
+    let [library, auction, heap, lemon, boost] = medians([
+        &mut || finish(library::plan(table, &wanted, &mut plan)),
+        &mut || finish(auction::plan(table, &wanted, &mut other)),
+        &mut || finish(dijkstra::distances(table, target)),
+        &mut || lemon.run(target),
+        &mut || boost.run(target),
+    ]);
+    Times { iterations, library, auction, heap, lemon, boost }
+}
+
+fn check(table: &Table, wanted: &[u16], target: Option<u16>, peers: (&Peer, &Peer)) -> u64 {
+    let (mut plan, mut other) = (Plan::new(table), Plan::new(table));
+    let answer = library::plan(table, wanted, &mut plan);
+    assert_eq!(answer.number, 0, "every wanted node has a walk");
+    assert_eq!(Some(answer.iterations), auction::plan(table, wanted, &mut other));
+    assert!(plan.distances == other.distances && plan.prices == other.prices);
+    assert!(plan.tree == other.tree && plan.marks == other.marks);
+    let heap = dijkstra::distances(table, target);
+    peers.0.run(target);
+    peers.1.run(target);
+    for &node in wanted {
+        let distance = plan.distances[node as usize];
+        assert_eq!(distance, heap[node as usize]);
+        assert_eq!(distance, peers.0.distance(node));
+        assert_eq!(distance, peers.1.distance(node));
+    }
+    answer.iterations
+}
+
+/// The node in the middle when all are ordered by distance.
+pub fn middle_node(table: &Table) -> u16 {
+    let distances = dijkstra::distances(table, None);
+    let mut nodes: Vec<u16> = (0..table.n as u16).collect();
+    nodes.sort_by_key(|&node| distances[node as usize]);
+    nodes[nodes.len() / 2]
+}
+
+/// Bytes of stack that the four functions need: plan, list, read, write.
+pub struct Stack {
+    pub plan: usize,
+    pub list: usize,
+    pub read: usize,
+    pub write: usize,
+}
+
+struct Work<'a> {
+    call: &'a mut dyn FnMut(),
+}
+
+extern "C" fn run_work(work: *mut c_void) -> *mut c_void {
+    let work = unsafe { &mut *(work as *mut Work) };
+    (work.call)();
+    null_mut()
+}
+
+fn used(call: &mut dyn FnMut()) -> usize {
+    let mut work = Work { call };
+    let used = unsafe { library::stack_used(run_work, &mut work as *mut Work as *mut c_void) };
+    assert!(used > 0, "the painted stack could not be used");
+    used
+}
+
+/// What a call uses beyond a thread that calls nothing. The first round binds the functions.
+fn used_by(call: &mut dyn FnMut()) -> usize {
+    used(call);
+    used(call) - used(&mut || ())
+}
+
+/// The stack used on the largest table, every node wanted.
+pub fn stack(table: &Table) -> Stack {
+    let wanted: Vec<u16> = (0..table.n as u16).collect();
+    let mut plan = Plan::new(table);
+    let plan_stack = used_by(&mut || finish(library::plan(table, &wanted, &mut plan)));
+    let last = wanted[wanted.len() - 1];
+    let mut path = vec![0; table.n];
+    let mut file = vec![0; 56_055];
+    let length = library::write(table, &wanted, &mut file).length as usize;
+    let written = file[..length].to_vec();
+    let (mut tails, mut heads, mut lengths) = (vec![0; 6_000], vec![0; 6_000], vec![0; 6_000]);
+    let mut nodes = vec![0; 1_024];
+    Stack {
+        plan: plan_stack,
+        list: used_by(&mut || finish(library::list(table, last, &plan.tree, &mut path))),
+        read: used_by(&mut || finish(library::read(&written, &mut tails, &mut heads, &mut lengths, &mut nodes))),
+        write: used_by(&mut || finish(library::write(table, &wanted, &mut file))),
+    }
+}

@@ -1,0 +1,162 @@
+/*
+ * Kestrelore: shortest routes from one origin over a table of links.
+ *
+ * A table has n nodes, numbered from 0, and m arcs in three columns of equal length: the tail
+ * and the head (node numbers) and the length of each arc. An arc's position counts from 0.
+ *
+ *   n                1 to 1,024
+ *   arcs             0 to 6,000; parallel arcs and loops are allowed
+ *   length           1 to 4,294,967,295
+ *   wanted nodes     0 to 1,024; repeats and the origin may stand among them
+ *
+ * Every function ends on every input. A list is a pointer and the number of its elements; the
+ * pointer is not null and is aligned for its elements, also where the number is 0, and an output
+ * list overlaps no other list of the call. Nothing outside the lists is written.
+ *
+ * Calls share nothing: there is no global state, no allocation and no call out of the library
+ * (but memcpy, memmove, memset and memcmp, where the compiler puts them), so two threads may call
+ * at once. Stack needed by a call: measured: see docs/PERFORMANCE.md.
+ *
+ * Every answer starts with a number and a place. Number 0 is no refusal. The place is 0 where none
+ * is named below. After every refusal but 8 the answer's other fields are 0 and every output list
+ * is untouched; 8 fills the four lists of the plan and carries all counts.
+ *
+ *    1  n is 0 or above 1,024
+ *    2  columns unequal, or more than 6,000 arcs; in a link file: record 6,001 begins (place 6000)
+ *    3  an output list of the plan is not n or m long; a reader's list is too short
+ *    4  the origin is not below n
+ *    5  more than 1,024 wanted nodes (place 1024); a wanted node is not below n (its index);
+ *       a node to list is not below n (place 0)
+ *    6  an arc's tail or head is not below n (its position)
+ *    7  an arc's length is 0 (its position)
+ *    8  a wanted node has no walk from the origin (the first such index)
+ *    9  the file is cut inside a field, or empty (the file's length)
+ *   10  a bit map has one of bits 3 to 7, or a needed field is absent (the bit map's offset)
+ *   11  an implied head is above 65535 (the record's offset)
+ *   12  a field is present that says what its absence would say (the offset of its bit map)
+ *   13  the output list is too short
+ *   14  the tree column does not lead back to the origin
+ */
+#ifndef KESTRELORE_H
+#define KESTRELORE_H
+
+#include <stddef.h>
+#include <stdint.h>
+
+#ifdef __cplusplus
+extern "C" {
+#endif
+
+/* The entry of a tree column at the origin and at nodes that were not reached. */
+#define KESTRELORE_NO_ARC UINT16_C(65535)
+
+/* The distance of nodes that were not reached. */
+#define KESTRELORE_NO_DISTANCE UINT64_C(18446744073709551615)
+
+/* What planning answers. */
+typedef struct kestrelore_planned {
+    uint32_t number;       /* 0 to 8 */
+    uint32_t place;
+    uint32_t reached;      /* how many nodes were reached, the origin included */
+    uint64_t horizon;      /* the largest distance reached */
+    uint64_t iterations;   /* contractions + extensions + deletions */
+    uint64_t contractions;
+    uint64_t extensions;
+    uint64_t deletions;
+} kestrelore_planned;
+
+/* What listing a path answers. */
+typedef struct kestrelore_listed {
+    uint32_t number;       /* 0, 1, 2, 4, 5, 13 or 14 */
+    uint32_t place;
+    uint32_t count;        /* how many nodes the path has, both ends included */
+} kestrelore_listed;
+
+/* What reading a link file answers. */
+typedef struct kestrelore_table_read {
+    uint32_t number;       /* 0, 1, 2, 3, 5 or 9 to 12 */
+    uint32_t place;
+    uint32_t n;
+    uint16_t origin;
+    uint32_t arcs;         /* how many elements of the three columns were filled */
+    uint32_t wanted;       /* how many elements of the wanted list were filled */
+} kestrelore_table_read;
+
+/* What writing a link file answers. */
+typedef struct kestrelore_written {
+    uint32_t number;       /* 0, 1, 2, 5 or 13 */
+    uint32_t place;
+    uint32_t length;       /* how many bytes the file has */
+} kestrelore_written;
+
+/*
+ * Plans shortest routes from the origin until every wanted node is reached.
+ *
+ * distances, prices and tree are exactly n long, marks exactly m long (3). Tested in the order of
+ * the numbers 1 to 5, then 6 and 7 arc by arc, then 8. Filled where the number is 0 or 8:
+ *
+ *   distances  of a reached node the least length of all walks to it; else KESTRELORE_NO_DISTANCE
+ *   prices     of a reached node horizon - distance; else 0. On every arc the tail's price is at
+ *              most the length + the head's price, with equality along the returned walks
+ *   tree       of a reached node the position of the last arc of its walk: the earliest listed of
+ *              those that attain the distance; KESTRELORE_NO_ARC at the origin and elsewhere
+ *   marks      3: the tree arc of a reached node. 1: any other arc into a reached node, or out of
+ *              one and not kept. 2: kept into an unreached node. 0: both ends unreached
+ */
+kestrelore_planned kestrelore_plan_routes(
+    uint32_t n, uint16_t origin,
+    const uint16_t *tails, size_t tails_count,
+    const uint16_t *heads, size_t heads_count,
+    const uint32_t *lengths, size_t lengths_count,
+    const uint16_t *wanted, size_t wanted_count,
+    uint64_t *distances, size_t distances_count,
+    uint64_t *prices, size_t prices_count,
+    uint16_t *tree, size_t tree_count,
+    uint8_t *marks, size_t marks_count);
+
+/*
+ * Lists the nodes of the walk to a node, from the origin to the node, by a plan's tree column.
+ *
+ * n is the tree column's length. The nodes stand at the start of output, the rest of which is
+ * untouched; a path has at most n nodes. Tested in the order 1, 2, 4, 5, 14, 13.
+ */
+kestrelore_listed kestrelore_list_path(
+    uint16_t origin, uint16_t node,
+    const uint16_t *tails, size_t tails_count,
+    const uint16_t *heads, size_t heads_count,
+    const uint16_t *tree, size_t tree_count,
+    uint16_t *output, size_t output_count);
+
+/*
+ * Reads a link file.
+ *
+ * tails, heads and lengths are at least 6,000 long, wanted at least 1,024 (3, tested first). Their
+ * starts are filled and the rest is untouched. The first fault from the left is reported. The
+ * origin, wanted nodes, tails, heads and lengths are not tested: planning does that.
+ */
+kestrelore_table_read kestrelore_read_link_file(
+    const uint8_t *file, size_t file_count,
+    uint16_t *tails, size_t tails_count,
+    uint16_t *heads, size_t heads_count,
+    uint32_t *lengths, size_t lengths_count,
+    uint16_t *wanted, size_t wanted_count);
+
+/*
+ * Writes a link file, the only one that reads back as this table.
+ *
+ * The file stands at the start of output, the rest of which is untouched. 56,055 bytes are enough
+ * for every table. Tested in the order 1, 2, 5 (the count only), 13.
+ */
+kestrelore_written kestrelore_write_link_file(
+    uint32_t n, uint16_t origin,
+    const uint16_t *tails, size_t tails_count,
+    const uint16_t *heads, size_t heads_count,
+    const uint32_t *lengths, size_t lengths_count,
+    const uint16_t *wanted, size_t wanted_count,
+    uint8_t *output, size_t output_count);
+
+#ifdef __cplusplus
+}
+#endif
+
+#endif

@@ -1,0 +1,91 @@
+//! Plans of random tables, against the model and against the optimality check.
+
+use super::*;
+use crate::compare;
+use crate::shapes::{self, Shape, SHAPES};
+use std::thread;
+
+pub const GROUPS: &[Group] = &[
+    Group { name: "plans: all tables of two and three nodes with few arcs", run: all_small },
+    Group { name: "plans: random tables of 1 to 12 nodes", run: small },
+    Group { name: "plans: random tables of up to 80 nodes", run: medium },
+    Group { name: "plans: random tables of up to 1,024 nodes", run: large },
+    Group { name: "plans: every shape at the limits", run: shapes_at_limits },
+    Group { name: "plans: many iterations", run: many_iterations },
+    Group { name: "plans: two threads at once", run: two_threads },
+];
+
+/// Every table of n nodes with that many arcs of lengths 1 and 2, for some wanted lists.
+fn every_table(entries: &dyn Entries, n: usize, m: usize) -> Tried {
+    let choices = n * n * 2;
+    let tables = choices.pow(m as u32);
+    let wanted: [&[u16]; 4] = [&[], &[1], &[n as u16 - 1], &[1, 0, n as u16 - 1]];
+    for number in 0..tables {
+        let choice = |position: u32| number / choices.pow(position) % choices;
+        let arc = |choice: usize| ((choice / 2 / n) as u16, (choice / 2 % n) as u16, 1 + choice as u32 % 2);
+        let arcs: Vec<Arc> = (0..m as u32).map(|position| arc(choice(position))).collect();
+        wanted.iter().try_for_each(|wanted| compare::plan(entries, &Table::new(n as u32, 0, &arcs, wanted)))?;
+    }
+    Ok(tables * wanted.len())
+}
+
+fn all_small(entries: &dyn Entries, _: &mut Random) -> Tried {
+    let mut tried = 0;
+    for (n, most_arcs) in [(2, 4), (3, 3)] {
+        for m in 0..=most_arcs {
+            tried += every_table(entries, n, m)?;
+        }
+    }
+    Ok(tried)
+}
+
+fn random_tables(entries: &dyn Entries, random: &mut Random, count: usize, most_nodes: usize) -> Tried {
+    for _ in 0..count {
+        let shape = random.pick(&SHAPES);
+        let n = random.from(1, most_nodes);
+        compare::plan(entries, &shapes::table(random, shape, n))?;
+    }
+    Ok(count)
+}
+
+fn small(entries: &dyn Entries, random: &mut Random) -> Tried {
+    random_tables(entries, random, 150_000, 12)
+}
+
+fn medium(entries: &dyn Entries, random: &mut Random) -> Tried {
+    random_tables(entries, random, 5_000, 80)
+}
+
+fn large(entries: &dyn Entries, random: &mut Random) -> Tried {
+    random_tables(entries, random, 200, 1_024)
+}
+
+fn shapes_at_limits(entries: &dyn Entries, random: &mut Random) -> Tried {
+    for shape in SHAPES {
+        let n = if matches!(shape, Shape::Dense) { 77 } else { 1_024 };
+        let ends = shapes::ends(random, shape, n);
+        let lengths = shapes::lengths(random, ends.len());
+        let arcs = ends.iter().zip(lengths).map(|(ends, length)| (ends.0 as u16, ends.1 as u16, length));
+        let arcs: Vec<Arc> = arcs.take(MOST_ARCS).collect();
+        let all: Vec<u16> = (0..n as u16).collect();
+        compare::plan(entries, &Table::new(n as u32, 0, &arcs, &all))?;
+        compare::plan(entries, &Table::new(n as u32, 0, &arcs, &[n as u16 - 1]))?;
+    }
+    Ok(2 * SHAPES.len())
+}
+
+fn many_iterations(entries: &dyn Entries, _: &mut Random) -> Tried {
+    let tables = [chain(1_024, 1), chain(1_024, LONGEST_ARC)];
+    tables.iter().try_for_each(|table| compare::plan(entries, table))?;
+    Ok(tables.len())
+}
+
+fn two_threads(entries: &dyn Entries, random: &mut Random) -> Tried {
+    let (first, second) = (random.number(), random.number());
+    let half = |seed| random_tables(entries, &mut Random::new(seed), 2_000, 20);
+    thread::scope(|scope| {
+        let other = scope.spawn(move || half(first));
+        let mine = half(second)?;
+        Ok(mine + other.join().map_err(|_| "a thread failed".to_string())??)
+    })
+}

@@ -1,0 +1,103 @@
+//! "Tables on the test rack", the printed example and the wrong turns, with 01's own figures.
+
+use super::*;
+use crate::compare::{self, plan_filled};
+
+pub const GROUPS: &[Group] = &[
+    Group { name: "the rack: tables with 01's figures", run: rows },
+    Group { name: "the rack: limits of nodes and arcs", run: limits },
+    Group { name: "the printed example, byte for byte", run: printed_example },
+];
+
+/// What 01 says of a table; empty lists are not said.
+struct Row {
+    table: Table,
+    refusal: (u32, u32),
+    counts: Counts,
+    horizon: u64,
+    prices: &'static [u64],
+    tree: &'static [u16],
+    marks: &'static [u8],
+}
+
+enum Counts {
+    NotSaid,
+    Sum(u64),
+    /// Contractions, extensions, deletions.
+    Each(u64, u64, u64),
+}
+
+fn rack() -> Vec<Row> {
+    let row = |table, counts, horizon| Row { table, refusal: (0, 0), counts, horizon, prices: &[], tree: &[], marks: &[] };
+    let (sum, each) = (Counts::Sum, Counts::Each);
+    let one_arc = |length| Table::new(2, 0, &[(0, 1, length)], &[1]);
+    let exchanged = Table::new(4, 0, &[(0, 1, 2), (1, 2, 3), (0, 2, 5), (2, 3, 1), (1, 3, 9)], &[3]);
+    let printed = Row { prices: &[6, 4, 1, 0], tree: &[NO_ARC, 0, 1, 3], ..row(example(4, &[3]), each(5, 4, 0), 6) };
+    vec![
+        Row { marks: &[3, 3, 1, 3, 1], ..printed },
+        Row { prices: &[2, 0, 0, 0], marks: &[3, 2, 1, 0, 2], ..row(example(4, &[1]), sum(2), 2) },
+        Row { refusal: (8, 0), ..row(example(5, &[4]), each(6, 5, 3), 6) },
+        Row { marks: &[2, 2, 0, 0, 0], ..row(example(4, &[]), sum(0), 0) },
+        Row { marks: &[2, 2, 0, 0, 0], ..row(example(4, &[0]), sum(0), 0) },
+        row(Table::new(1, 0, &[], &[0]), sum(0), 0),
+        Row { marks: &[1], ..row(Table::new(1, 0, &[(0, 0, 1)], &[0]), sum(0), 0) },
+        Row { tree: &[NO_ARC, 0], ..row(Table::new(2, 0, &[(0, 1, 4), (0, 1, 4)], &[1]), sum(2), 4) },
+        row(one_arc(LONGEST_ARC), sum(2), LONGEST_ARC as u64),
+        Row { refusal: (7, 0), ..row(one_arc(0), sum(0), 0) },
+        Row { tree: &[NO_ARC, 0, 1, 3], ..row(exchanged, Counts::NotSaid, 6) },
+    ]
+}
+
+fn rows(entries: &dyn Entries, _: &mut Random) -> Tried {
+    let rows = rack();
+    for row in &rows {
+        compare::plan(entries, &row.table)?;
+        let (plan, filled) = plan_filled(entries, &row.table);
+        let counted = match row.counts {
+            Counts::NotSaid => true,
+            Counts::Sum(sum) => plan.iterations == sum,
+            Counts::Each(c, e, d) => (plan.contractions, plan.extensions, plan.deletions) == (c, e, d),
+        };
+        let holds = (plan.number, plan.place) == row.refusal
+            && counted
+            && plan.horizon == row.horizon
+            && (row.prices.is_empty() || filled.prices == row.prices)
+            && (row.tree.is_empty() || filled.tree == row.tree)
+            && (row.marks.is_empty() || filled.marks == row.marks);
+        if !holds {
+            return Err(format!("not 01's figures: {plan:?} of {:?}", row.table));
+        }
+    }
+    Ok(rows.len())
+}
+
+fn limits(entries: &dyn Entries, _: &mut Random) -> Tried {
+    let full = |n: u32, m: usize| wide_table(n, m, 3);
+    let cases = [(full(1_024, 6_000), 0), (full(1_025, 6_000), 1), (full(1_024, 6_001), 2)];
+    for (table, number) in &cases {
+        compare::plan(entries, table)?;
+        let answer = plan_filled(entries, table).0.number;
+        if answer != *number {
+            return Err(format!("n {}, {} arcs: number {answer}", table.n, table.tails.len()));
+        }
+    }
+    Ok(cases.len())
+}
+
+const EXAMPLE_SHEET: &str = "\
+reached 4 horizon 6 iterations 9
+contractions 5 extensions 4 deletions 0
+node 0 distance 0 price 6 arc -
+node 1 distance 2 price 4 arc 0
+node 2 distance 5 price 1 arc 1
+node 3 distance 6 price 0 arc 3
+path 3: 0 2 3
+";
+
+fn printed_example(entries: &dyn Entries, _: &mut Random) -> Tried {
+    let printed = entries.print(EXAMPLE_FILE)?;
+    if printed != EXAMPLE_SHEET {
+        return Err(format!("printed {printed:?}"));
+    }
+    Ok(1)
+}

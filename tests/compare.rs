@@ -1,0 +1,303 @@
+//! The same call to the product and to the model: every field of the answer, every element of every
+//! buffer and the guards around them. A fault comes back as words with what is needed to repeat it.
+
+use crate::lent::{Element, Lent};
+use crate::model::RIGHT;
+use crate::optimality::{self, Filled};
+use crate::rules::*;
+
+pub type Verdict = Result<(), String>;
+
+/// Words for the first element that differs.
+fn same<T: Element>(name: &str, product: &Lent<T>, model: &Lent<T>) -> Verdict {
+    if !product.guards_hold() {
+        return Err(format!("{name}: written outside the buffer"));
+    }
+    match product.held().iter().zip(model.held()).position(|(a, b)| a != b) {
+        None => Ok(()),
+        Some(at) => Err(format!("{name}[{at}] is {:?}, must be {:?}", product.held()[at], model.held()[at])),
+    }
+}
+
+fn same_answer<A: PartialEq + std::fmt::Debug>(product: &A, model: &A) -> Verdict {
+    if product == model { Ok(()) } else { Err(format!("the answer is {product:?},\n  must be {model:?}")) }
+}
+
+fn rest_untouched<T: Element>(name: &str, buffer: &Lent<T>, start: usize) -> Verdict {
+    if buffer.rest_untouched(start) { Ok(()) } else { Err(format!("{name}: touched from element {start} on")) }
+}
+
+// Planning.
+
+struct LentPlan {
+    distances: Lent<u64>,
+    prices: Lent<u64>,
+    tree: Lent<u16>,
+    marks: Lent<u8>,
+}
+
+/// How long the four buffers are: distances, prices, tree, marks.
+pub type Sizes = [usize; 4];
+
+pub fn right_sizes(table: &Table) -> Sizes {
+    let n = table.n as usize;
+    [n, n, n, table.tails.len()]
+}
+
+fn plan_lent(entries: &dyn Entries, table: &Table, sizes: Sizes) -> (Planned, LentPlan) {
+    let [distances, prices, tree, marks] = sizes;
+    let mut lent = LentPlan {
+        distances: Lent::new(distances),
+        prices: Lent::new(prices),
+        tree: Lent::new(tree),
+        marks: Lent::new(marks),
+    };
+    let answer = entries.plan(table, PlanBuffers {
+        distances: lent.distances.part(),
+        prices: lent.prices.part(),
+        tree: lent.tree.part(),
+        marks: lent.marks.part(),
+    });
+    (answer, lent)
+}
+
+impl LentPlan {
+    fn filled(&self) -> Filled {
+        Filled {
+            distances: self.distances.held().to_vec(),
+            prices: self.prices.held().to_vec(),
+            tree: self.tree.held().to_vec(),
+            marks: self.marks.held().to_vec(),
+        }
+    }
+}
+
+/// Plans with buffers of the right sizes.
+pub fn plan_filled(entries: &dyn Entries, table: &Table) -> (Planned, Filled) {
+    let (answer, lent) = plan_lent(entries, table, right_sizes(table));
+    (answer, lent.filled())
+}
+
+fn compare_plan(entries: &dyn Entries, table: &Table, sizes: Sizes) -> Verdict {
+    let before = table.clone();
+    let (answer, lent) = plan_lent(entries, table, sizes);
+    let (expected, model) = plan_lent(&RIGHT, table, sizes);
+    same_answer(&answer, &expected)?;
+    same("distances", &lent.distances, &model.distances)?;
+    same("prices", &lent.prices, &model.prices)?;
+    same("tree", &lent.tree, &model.tree)?;
+    same("marks", &lent.marks, &model.marks)?;
+    same_answer(table, &before)?;
+    if answer.number == 0 || answer.number == 8 {
+        return optimality::check(table, &answer, &lent.filled());
+    }
+    rest_untouched("distances", &lent.distances, 0)?;
+    rest_untouched("prices", &lent.prices, 0)?;
+    rest_untouched("tree", &lent.tree, 0)?;
+    rest_untouched("marks", &lent.marks, 0)
+}
+
+/// Compares a plan with buffers of the right sizes; a failing table is made smaller before it is shown.
+pub fn plan(entries: &dyn Entries, table: &Table) -> Verdict {
+    let fails = |table: &Table| compare_plan(entries, table, right_sizes(table)).is_err();
+    if !fails(table) {
+        return Ok(());
+    }
+    let small = if table.columns_equal() { smaller_table(table, &fails) } else { table.clone() };
+    plan_sized(entries, &small, right_sizes(&small))
+}
+
+pub fn plan_sized(entries: &dyn Entries, table: &Table, sizes: Sizes) -> Verdict {
+    compare_plan(entries, table, sizes).map_err(|fault| format!("{fault}\n  buffers {sizes:?}, {}", table_words(table)))
+}
+
+/// Drops arcs and wanted nodes while the table still fails.
+fn smaller_table(table: &Table, fails: &dyn Fn(&Table) -> bool) -> Table {
+    let with = |arcs: &[Arc], wanted: &[u16]| Table::new(table.n, table.origin, arcs, wanted);
+    let wanted = smaller(table.wanted.clone(), &|wanted| fails(&with(&table.arcs(), wanted)));
+    let arcs = smaller(table.arcs(), &|arcs| fails(&with(arcs, &wanted)));
+    with(&arcs, &wanted)
+}
+
+/// How often a failing case is tried again to make it smaller.
+const MOST_TRIES: usize = 500;
+
+/// Drops parts of a list, long ones first, while it still fails.
+fn smaller<T: Clone>(mut list: Vec<T>, fails: &dyn Fn(&[T]) -> bool) -> Vec<T> {
+    let mut tries = 0;
+    let mut part = (list.len() + 1) / 2;
+    while part > 0 {
+        let mut start = 0;
+        while start < list.len() && tries < MOST_TRIES {
+            tries += 1;
+            let mut rest = list.clone();
+            rest.drain(start..(start + part).min(list.len()));
+            if fails(&rest) {
+                list = rest;
+            } else {
+                start += part;
+            }
+        }
+        part /= 2;
+    }
+    list
+}
+
+fn table_words(table: &Table) -> String {
+    let Table { n, origin, wanted, .. } = table;
+    let arcs = if table.columns_equal() {
+        format!("arcs (tail, head, length) {:?}", table.arcs())
+    } else {
+        format!("tails {:?} heads {:?} lengths {:?}", table.tails, table.heads, table.lengths)
+    };
+    format!("table n {n}, origin {origin}, wanted {wanted:?}, {arcs}")
+}
+
+// Listing a path.
+
+pub fn list(entries: &dyn Entries, listing: &Listing, room: usize) -> Verdict {
+    let mut output = Lent::new(room);
+    let mut model = Lent::new(room);
+    let answer = entries.list(listing, output.part());
+    let expected = RIGHT.list(listing, model.part());
+    same_answer(&answer, &expected)
+        .and_then(|()| same("output", &output, &model))
+        .and_then(|()| rest_untouched("output", &output, expected.count as usize))
+        .map_err(|fault| format!("{fault}\n  room {room}, {listing:?}"))
+}
+
+// Reading and writing link files.
+
+/// How long the reader's buffers are: tails, heads, lengths, wanted.
+pub const READER_SIZES: Sizes = [MOST_ARCS, MOST_ARCS, MOST_ARCS, MOST_WANTED];
+
+struct LentTable {
+    tails: Lent<u16>,
+    heads: Lent<u16>,
+    lengths: Lent<u32>,
+    wanted: Lent<u16>,
+}
+
+fn read_lent(entries: &dyn Entries, file: &[u8], sizes: Sizes) -> (TableRead, LentTable) {
+    let [tails, heads, lengths, wanted] = sizes;
+    let mut lent = LentTable {
+        tails: Lent::new(tails),
+        heads: Lent::new(heads),
+        lengths: Lent::new(lengths),
+        wanted: Lent::new(wanted),
+    };
+    let answer = entries.read(file, ReadBuffers {
+        tails: lent.tails.part(),
+        heads: lent.heads.part(),
+        lengths: lent.lengths.part(),
+        wanted: lent.wanted.part(),
+    });
+    (answer, lent)
+}
+
+/// The table of a file, or the refusal.
+pub fn read_table(entries: &dyn Entries, file: &[u8]) -> Result<Table, Refusal> {
+    let (answer, lent) = read_lent(entries, file, READER_SIZES);
+    if answer.number != 0 {
+        return Err(Refusal { number: answer.number, place: answer.place });
+    }
+    let (arcs, wanted) = (answer.arcs as usize, answer.wanted as usize);
+    Ok(Table {
+        n: answer.n,
+        origin: answer.origin,
+        tails: lent.tails.held()[..arcs].to_vec(),
+        heads: lent.heads.held()[..arcs].to_vec(),
+        lengths: lent.lengths.held()[..arcs].to_vec(),
+        wanted: lent.wanted.held()[..wanted].to_vec(),
+    })
+}
+
+fn compare_read(entries: &dyn Entries, file: &[u8], sizes: Sizes) -> Verdict {
+    let (answer, lent) = read_lent(entries, file, sizes);
+    let (expected, model) = read_lent(&RIGHT, file, sizes);
+    same_answer(&answer, &expected)?;
+    same("tails", &lent.tails, &model.tails)?;
+    same("heads", &lent.heads, &model.heads)?;
+    same("lengths", &lent.lengths, &model.lengths)?;
+    same("wanted", &lent.wanted, &model.wanted)?;
+    let (arcs, wanted) = (expected.arcs as usize, expected.wanted as usize);
+    rest_untouched("tails", &lent.tails, arcs)?;
+    rest_untouched("heads", &lent.heads, arcs)?;
+    rest_untouched("lengths", &lent.lengths, arcs)?;
+    rest_untouched("wanted", &lent.wanted, wanted)?;
+    if answer.number != 0 {
+        return Ok(());
+    }
+    let table = read_table(entries, file).map_err(|refusal| format!("{refusal:?} when read again"))?;
+    same_answer(&write_file(entries, &table).as_deref(), &Ok(file)).map_err(|fault| format!("written back: {fault}"))
+}
+
+/// Compares reading, and writing back what was accepted; a failing file is made smaller before it is shown.
+pub fn read(entries: &dyn Entries, file: &[u8]) -> Verdict {
+    let fails = |file: &[u8]| compare_read(entries, file, READER_SIZES).is_err();
+    if !fails(file) {
+        return Ok(());
+    }
+    read_sized(entries, &smaller(file.to_vec(), &fails), READER_SIZES)
+}
+
+pub fn read_sized(entries: &dyn Entries, file: &[u8], sizes: Sizes) -> Verdict {
+    compare_read(entries, file, sizes).map_err(|fault| format!("{fault}\n  buffers {sizes:?}, file {}", hexadecimal(file)))
+}
+
+pub fn hexadecimal(bytes: &[u8]) -> String {
+    bytes.iter().map(|byte| format!("{byte:02x}")).collect()
+}
+
+/// The file of a table, in a buffer that is long enough for every table.
+pub fn write_file(entries: &dyn Entries, table: &Table) -> Result<Vec<u8>, Refusal> {
+    let mut output = vec![0; LONGEST_FILE];
+    let answer = entries.write(table, &mut output);
+    output.truncate(answer.length as usize);
+    if answer.number == 0 { Ok(output) } else { Err(Refusal { number: answer.number, place: answer.place }) }
+}
+
+/// Compares writing into a buffer with that much room.
+pub fn write(entries: &dyn Entries, table: &Table, room: usize) -> Verdict {
+    let mut output = Lent::new(room);
+    let mut model = Lent::new(room);
+    let answer = entries.write(table, output.part());
+    let expected = RIGHT.write(table, model.part());
+    same_answer(&answer, &expected)
+        .and_then(|()| same("output", &output, &model))
+        .and_then(|()| rest_untouched("output", &output, expected.length as usize))
+        .map_err(|fault| format!("{fault}\n  room {room}, {}", table_words(table)))
+}
+
+/// A written table reads back as it was.
+pub fn round_trip(entries: &dyn Entries, table: &Table) -> Verdict {
+    let file = write_file(entries, table).map_err(|refusal| format!("{refusal:?}: {}", table_words(table)))?;
+    same_answer(&read_table(entries, &file), &Ok(table.clone())).map_err(|fault| format!("read back: {fault}"))
+}
+
+// The program.
+
+/// The sheet with its path lines, which come last, in ascending order of text: their order is free.
+fn path_lines_sorted(sheet: &str) -> Vec<&str> {
+    let mut lines: Vec<&str> = sheet.split_inclusive('\n').collect();
+    let paths = lines.iter().position(|line| line.starts_with("path ")).unwrap_or(lines.len());
+    lines[paths..].sort();
+    lines
+}
+
+pub fn same_sheet(printed: &str, input: &[u8]) -> Verdict {
+    let expected = RIGHT.sheet(input);
+    let (printed, expected) = (path_lines_sorted(printed), path_lines_sorted(&expected));
+    let differs = |line: &usize| printed.get(*line) != expected.get(*line);
+    match (0..printed.len().max(expected.len())).find(differs) {
+        None => Ok(()),
+        Some(line) => Err(format!("line {} is {:?}, must be {:?}", line + 1, printed.get(line), expected.get(line))),
+    }
+}
+
+/// Compares what is printed for an input.
+pub fn print(entries: &dyn Entries, input: &[u8]) -> Verdict {
+    let start = &input[..input.len().min(400)];
+    let with_input = |fault| format!("{fault}\n  input of {} bytes {}", input.len(), hexadecimal(start));
+    entries.print(input).and_then(|printed| same_sheet(&printed, input)).map_err(with_input)
+}

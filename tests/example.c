@@ -1,0 +1,18 @@
+/* Plans the routes of a small table and prints the path to node 3. */
+#include "kestrelore.h"
+#include <stdio.h>
+
+int main(void)
+{
+    const uint16_t tails[] = {0, 0, 1, 2, 1}, heads[] = {1, 2, 2, 3, 3}, wanted[] = {3};
+    const uint32_t lengths[] = {2, 5, 3, 1, 9};
+    uint64_t distances[4], prices[4];
+    uint16_t tree[4], path[4];
+    uint8_t marks[5];
+    kestrelore_planned plan = kestrelore_plan_routes(4, 0, tails, 5, heads, 5, lengths, 5, wanted, 1,
+                                                     distances, 4, prices, 4, tree, 4, marks, 5);
+    kestrelore_listed list = kestrelore_list_path(0, 3, tails, 5, heads, 5, tree, 4, path, 4);
+    printf("refusals %u %u, distance %u, path", plan.number, list.number, (unsigned)distances[3]);
+    for (uint32_t i = 0; i < list.count; i++) printf(" %u", path[i]);
+    return puts("") < 0;
+}

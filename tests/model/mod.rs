@@ -1,0 +1,110 @@
+//! The rules of 01 as a plain program. It shares no code with the product.
+
+mod auction;
+mod link_file;
+mod listing;
+mod planner;
+mod sheet;
+
+use crate::rules::*;
+
+/// Faults to build into the model on purpose, to see whether the cases notice them.
+#[derive(Clone, Copy, Debug, PartialEq)]
+pub enum Wrong {
+    TieByFirstMet,
+    HorizonFromRawPrice,
+    RawPrices,
+    PathShortenedAtOrigin,
+    IterationCap,
+    LaterArcExtended,
+    FirstStopForgotten,
+    UnreachedTailUnmarked,
+    LengthBeforeEnds,
+    EndsOfAllArcsFirst,
+    PlaceIsNode,
+    NeedlessFieldsAccepted,
+    NeedlessBeforeImpliedHead,
+    ImpliedHeadWraps,
+    WantedCountTestedLate,
+    ArcCountTestedLate,
+    RefusedFileFills,
+    EmptyWantedListOmitted,
+    HeadZeroAfterLastOmitted,
+    WrongHeadAccepted,
+    ShortBufferFirst,
+    OriginsEntryRead,
+    RepeatsPrinted,
+}
+
+pub const ALL_WRONG: [Wrong; 23] = [
+    Wrong::TieByFirstMet,
+    Wrong::HorizonFromRawPrice,
+    Wrong::RawPrices,
+    Wrong::PathShortenedAtOrigin,
+    Wrong::IterationCap,
+    Wrong::LaterArcExtended,
+    Wrong::FirstStopForgotten,
+    Wrong::UnreachedTailUnmarked,
+    Wrong::LengthBeforeEnds,
+    Wrong::EndsOfAllArcsFirst,
+    Wrong::PlaceIsNode,
+    Wrong::NeedlessFieldsAccepted,
+    Wrong::NeedlessBeforeImpliedHead,
+    Wrong::ImpliedHeadWraps,
+    Wrong::WantedCountTestedLate,
+    Wrong::ArcCountTestedLate,
+    Wrong::RefusedFileFills,
+    Wrong::EmptyWantedListOmitted,
+    Wrong::HeadZeroAfterLastOmitted,
+    Wrong::WrongHeadAccepted,
+    Wrong::ShortBufferFirst,
+    Wrong::OriginsEntryRead,
+    Wrong::RepeatsPrinted,
+];
+
+/// The rules, or with a fault.
+pub struct Model {
+    pub wrong: Option<Wrong>,
+}
+
+pub const RIGHT: Model = Model { wrong: None };
+
+impl Model {
+    fn has(&self, fault: Wrong) -> bool {
+        self.wrong == Some(fault)
+    }
+}
+
+impl Entries for Model {
+    fn plan(&self, table: &Table, out: PlanBuffers) -> Planned {
+        self.plan_routes(table, out)
+    }
+
+    fn list(&self, listing: &Listing, output: &mut [u16]) -> Listed {
+        match self.nodes_of_path(listing, output.len()) {
+            Ok(nodes) => {
+                output[..nodes.len()].copy_from_slice(&nodes);
+                Listed { count: nodes.len() as u32, ..Listed::default() }
+            }
+            Err(Refusal { number, place }) => Listed { number, place, ..Listed::default() },
+        }
+    }
+
+    fn read(&self, file: &[u8], out: ReadBuffers) -> TableRead {
+        self.read_into(file, out)
+    }
+
+    fn write(&self, table: &Table, output: &mut [u8]) -> Written {
+        match self.file_of(table, output.len()) {
+            Ok(file) => {
+                output[..file.len()].copy_from_slice(&file);
+                Written { length: file.len() as u32, ..Written::default() }
+            }
+            Err(Refusal { number, place }) => Written { number, place, ..Written::default() },
+        }
+    }
+
+    fn print(&self, file: &[u8]) -> Result<String, String> {
+        Ok(self.sheet(file))
+    }
+}

@@ -1,0 +1,118 @@
+//! "What the run hands over" and the grounds 1 to 8.
+
+use super::auction::Auction;
+use super::{Model, Wrong};
+use crate::rules::*;
+
+impl Model {
+    pub fn plan_routes(&self, table: &Table, out: PlanBuffers) -> Planned {
+        if let Err(Refusal { number, place }) = self.test_table(table, &out) {
+            return Planned { number, place, ..Planned::default() };
+        }
+        let mut auction = Auction::new(self, table);
+        auction.run();
+        self.hand_over(table, &auction, out)
+    }
+
+    /// The grounds 1 to 7 in order.
+    fn test_table(&self, table: &Table, out: &PlanBuffers) -> Result<(), Refusal> {
+        let n = table.n as usize;
+        let m = table.tails.len();
+        if n == 0 || n > MOST_NODES {
+            return refuse(1, 0);
+        }
+        if !table.columns_equal() || m > MOST_ARCS {
+            return refuse(2, 0);
+        }
+        let (distances, prices) = (out.distances.len(), out.prices.len());
+        if distances != n || prices != n || out.tree.len() != n || out.marks.len() != m {
+            return refuse(3, 0);
+        }
+        if table.origin as usize >= n {
+            return refuse(4, 0);
+        }
+        if table.wanted.len() > MOST_WANTED {
+            return refuse(5, MOST_WANTED);
+        }
+        if let Some(index) = table.wanted.iter().position(|&node| node as usize >= n) {
+            return refuse(5, index);
+        }
+        self.test_arcs(table, n)
+    }
+
+    fn test_arcs(&self, table: &Table, n: usize) -> Result<(), Refusal> {
+        let bad_end = |p: usize| table.tails[p] as usize >= n || table.heads[p] as usize >= n;
+        let zero = |p: usize| table.lengths[p] == 0;
+        let m = table.tails.len();
+        if self.has(Wrong::EndsOfAllArcsFirst) {
+            if let Some(position) = (0..m).find(|&p| bad_end(p)) {
+                return refuse(6, position);
+            }
+        }
+        for position in 0..m {
+            if self.has(Wrong::LengthBeforeEnds) && zero(position) {
+                return refuse(7, position);
+            }
+            if bad_end(position) {
+                return refuse(6, position);
+            }
+            if zero(position) {
+                return refuse(7, position);
+            }
+        }
+        Ok(())
+    }
+
+    fn hand_over(&self, table: &Table, auction: &Auction, out: PlanBuffers) -> Planned {
+        let reached = |node: &usize| auction.reached[*node];
+        let nodes = 0..table.n as usize;
+        let mut horizon = nodes.clone().filter(reached).filter_map(|node| auction.bounds[node]).max().unwrap_or(0);
+        if self.has(Wrong::HorizonFromRawPrice) {
+            horizon = auction.prices[table.origin as usize];
+        }
+        for node in nodes.clone() {
+            let (distance, price, arc) = self.node_entries(auction, node, horizon);
+            out.distances[node] = distance;
+            out.prices[node] = price;
+            out.tree[node] = arc;
+        }
+        for position in 0..table.tails.len() {
+            out.marks[position] = self.mark(table, auction, position);
+        }
+        let missing = table.wanted.iter().position(|&node| !auction.reached[node as usize]);
+        let place_of = |index: usize| if self.has(Wrong::PlaceIsNode) { table.wanted[index] as u32 } else { index as u32 };
+        Planned {
+            number: if missing.is_some() { 8 } else { 0 },
+            place: missing.map_or(0, place_of),
+            reached: nodes.filter(reached).count() as u32,
+            horizon,
+            iterations: auction.iterations(),
+            contractions: auction.contractions,
+            extensions: auction.extensions,
+            deletions: auction.deletions,
+        }
+    }
+
+    /// A node's distance, price and tree entry.
+    fn node_entries(&self, auction: &Auction, node: usize, horizon: u64) -> (u64, u64, u16) {
+        if !auction.reached[node] {
+            return (NO_DISTANCE, 0, NO_ARC);
+        }
+        let distance = auction.bounds[node].unwrap();
+        let price = if self.has(Wrong::RawPrices) { auction.prices[node] } else { horizon - distance };
+        (distance, price, auction.kept[node].map_or(NO_ARC, |arc| arc as u16))
+    }
+
+    fn mark(&self, table: &Table, auction: &Auction, position: usize) -> u8 {
+        let (tail, head) = (table.tails[position] as usize, table.heads[position] as usize);
+        let kept = auction.kept[head] == Some(position);
+        match (auction.reached[tail], auction.reached[head]) {
+            (_, true) if kept => 3,
+            (false, true) if self.has(Wrong::UnreachedTailUnmarked) => 0,
+            (_, true) => 1,
+            (true, false) if kept => 2,
+            (true, false) => 1,
+            (false, false) => 0,
+        }
+    }
+}

@@ -1,0 +1,115 @@
+//! Checks a finished plan without any auction: least distances over all walks by relaxing every arc
+//! until nothing changes, then each promise about distances, links, prices, walks and "no route".
+
+use crate::rules::*;
+
+/// The four buffers of a plan, filled.
+pub struct Filled {
+    pub distances: Vec<u64>,
+    pub prices: Vec<u64>,
+    pub tree: Vec<u16>,
+    pub marks: Vec<u8>,
+}
+
+/// The least length of all walks from the origin to each node; none where there is no walk.
+fn least_distances(table: &Table) -> Vec<Option<u64>> {
+    let mut least: Vec<Option<u64>> = vec![None; table.n as usize];
+    least[table.origin as usize] = Some(0);
+    let mut changed = true;
+    while changed {
+        changed = false;
+        for (tail, head, length) in table.arcs() {
+            let through = least[tail as usize].map(|distance| distance + length as u64);
+            let known = least[head as usize];
+            if through.is_some() && (known.is_none() || through < known) {
+                least[head as usize] = through;
+                changed = true;
+            }
+        }
+    }
+    least
+}
+
+fn demand(holds: bool, what: impl Fn() -> String) -> Result<(), String> {
+    if holds { Ok(()) } else { Err(what()) }
+}
+
+/// Checks a plan whose number is 0 or 8.
+pub fn check(table: &Table, plan: &Planned, filled: &Filled) -> Result<(), String> {
+    let least = least_distances(table);
+    check_answer(table, plan, filled, &least)?;
+    check_nodes(table, plan, filled, &least)?;
+    check_prices(table, filled)?;
+    (0..table.n as usize)
+        .filter(|&node| filled.distances[node] != NO_DISTANCE)
+        .try_for_each(|node| check_walk(table, filled, node))
+}
+
+fn check_answer(table: &Table, plan: &Planned, filled: &Filled, least: &[Option<u64>]) -> Result<(), String> {
+    let n = table.n as u64;
+    let without_walk = table.wanted.iter().position(|&node| least[node as usize].is_none());
+    let expected = without_walk.map_or((0, 0), |index| (8, index as u32));
+    demand((plan.number, plan.place) == expected, || format!("number and place must be {expected:?}"))?;
+    let counted = plan.contractions + plan.extensions + plan.deletions;
+    demand(plan.iterations == counted, || "the counts do not add up".to_string())?;
+    let most = 2 * (n * n * n - n) / 3 + 3 * (n - 1);
+    demand(plan.iterations <= most, || format!("more than {most} iterations"))?;
+    let reached: Vec<u64> = filled.distances.iter().copied().filter(|&d| d != NO_DISTANCE).collect();
+    demand(plan.reached as usize == reached.len(), || format!("{} nodes have a distance", reached.len()))?;
+    let farthest = reached.iter().max().copied();
+    demand(farthest == Some(plan.horizon), || format!("the largest distance is {farthest:?}"))?;
+    let tree_arcs = filled.marks.iter().filter(|&&mark| mark == 3).count();
+    demand(tree_arcs + 1 == reached.len(), || format!("{tree_arcs} arcs are marked 3"))
+}
+
+fn check_nodes(table: &Table, plan: &Planned, filled: &Filled, least: &[Option<u64>]) -> Result<(), String> {
+    let mut earliest = vec![NO_ARC; table.n as usize];
+    for (position, (tail, head, length)) in table.arcs().into_iter().enumerate().rev() {
+        let attained = least[tail as usize].map(|distance| distance + length as u64);
+        if attained.is_some() && attained == least[head as usize] && head != table.origin {
+            earliest[head as usize] = position as u16;
+        }
+    }
+    for node in 0..table.n as usize {
+        let distance = filled.distances[node];
+        if distance == NO_DISTANCE {
+            let wanted = table.wanted.contains(&(node as u16)) && least[node].is_some();
+            let nearer = least[node].map_or(false, |known| known < plan.horizon);
+            demand(!wanted && !nearer, || format!("node {node} has a walk and must be reached"))?;
+        } else {
+            demand(least[node] == Some(distance), || format!("node {node}: least distance {:?}", least[node]))?;
+            demand(filled.tree[node] == earliest[node], || format!("node {node}: earliest arc {}", earliest[node]))?;
+        }
+    }
+    Ok(())
+}
+
+/// On every arc the tail's price is at most the length + the head's price.
+fn check_prices(table: &Table, filled: &Filled) -> Result<(), String> {
+    for (position, (tail, head, length)) in table.arcs().into_iter().enumerate() {
+        let (tail_price, head_price) = (filled.prices[tail as usize], filled.prices[head as usize]);
+        demand(tail_price <= length as u64 + head_price, || format!("price rule broken on arc {position}"))?;
+    }
+    Ok(())
+}
+
+/// The returned walk is as long as the distance and as the prices differ, with equality on its arcs.
+fn check_walk(table: &Table, filled: &Filled, node: usize) -> Result<(), String> {
+    let mut at = node;
+    let mut total = 0;
+    for _ in 0..table.n {
+        if at == table.origin as usize {
+            let by_prices = filled.prices[at] - filled.prices[node];
+            let right = total == filled.distances[node] && total == by_prices;
+            return demand(right, || format!("node {node}: walk {total}, prices {by_prices}"));
+        }
+        let arc = filled.tree[at] as usize;
+        demand(table.heads.get(arc) == Some(&(at as u16)), || format!("no tree arc into {at}"))?;
+        let (tail, length) = (table.tails[arc] as usize, table.lengths[arc] as u64);
+        let tight = filled.prices[tail] == length + filled.prices[at];
+        demand(tight, || format!("prices unequal on arc {arc} of a returned walk"))?;
+        total += length;
+        at = tail;
+    }
+    Err(format!("node {node}: its tree arcs do not lead to the origin"))
+}

@@ -1,0 +1,44 @@
+//! Tests that cannot fail are worth nothing: the cases must notice each fault built into the model.
+
+use crate::cases::{self, Tried};
+use crate::compare::plan_filled;
+use crate::model::{Model, Wrong, RIGHT};
+use crate::optimality;
+use crate::random::Random;
+use crate::shapes::{self, SHAPES};
+
+/// Runs the groups on the faulty model until one fails that the right model passes.
+pub fn noticed(fault: Wrong, seed: u64) -> Tried {
+    let faulty = Model { wrong: Some(fault) };
+    for group in cases::groups() {
+        let passes = |model: &Model| (group.run)(model, &mut Random::new(seed)).is_ok();
+        if !passes(&faulty) && passes(&RIGHT) {
+            println!("  {fault:?} is noticed by '{}'", group.name);
+            return Ok(1);
+        }
+    }
+    Err("no case notices it".to_string())
+}
+
+/// The faults that break a promise about distances, links, prices, "no route" or the horizon.
+pub const AGAINST_PROMISES: [Wrong; 5] = [
+    Wrong::TieByFirstMet,
+    Wrong::HorizonFromRawPrice,
+    Wrong::RawPrices,
+    Wrong::PathShortenedAtOrigin,
+    Wrong::PlaceIsNode,
+];
+
+pub fn noticed_by_optimality(fault: Wrong, random: &mut Random) -> Tried {
+    let faulty = Model { wrong: Some(fault) };
+    for tried in 1..=20_000 {
+        let shape = random.pick(&SHAPES);
+        let n = random.from(1, 12);
+        let table = shapes::table(random, shape, n);
+        let (plan, filled) = plan_filled(&faulty, &table);
+        if optimality::check(&table, &plan, &filled).is_err() {
+            return Ok(tried);
+        }
+    }
+    Err("the optimality check accepts it".to_string())
+}
