@@ -89,7 +89,7 @@ extern "C" {
     fn boost_free(made: *mut c_void);
 
     fn thread_time() -> u64;
-    pub fn stack_used(work: extern "C" fn(*mut c_void) -> *mut c_void, argument: *mut c_void) -> usize;
+    pub fn stack_used(work: extern "C" fn(*mut c_void), argument: *mut c_void) -> usize;
 }
 
 /// Processor time of this thread in nanoseconds, so that other programs on the machine weigh little.

@@ -6,7 +6,6 @@ use crate::library::{self, nanoseconds, Peer};
 use crate::tables::Table;
 use std::ffi::c_void;
 use std::mem::ManuallyDrop;
-use std::ptr::null_mut;
 
 /// Nanoseconds of one call of each, and the auction's iterations.
 pub struct Times {
@@ -111,23 +110,18 @@ struct Work<'a> {
     call: &'a mut dyn FnMut(),
 }
 
-extern "C" fn run_work(work: *mut c_void) -> *mut c_void {
+extern "C" fn run_work(work: *mut c_void) {
     let work = unsafe { &mut *(work as *mut Work) };
     (work.call)();
-    null_mut()
 }
 
-fn used(call: &mut dyn FnMut()) -> usize {
+/// What a call and its caller's frame use. The first call binds the functions.
+fn used_by(call: &mut dyn FnMut()) -> usize {
+    call();
     let mut work = Work { call };
     let used = unsafe { library::stack_used(run_work, &mut work as *mut Work as *mut c_void) };
     assert!(used > 0, "the painted stack could not be used");
     used
-}
-
-/// What a call uses beyond a thread that calls nothing. The first round binds the functions.
-fn used_by(call: &mut dyn FnMut()) -> usize {
-    used(call);
-    used(call) - used(&mut || ())
 }
 
 /// The stack used on the largest table, every node wanted.

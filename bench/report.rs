@@ -63,7 +63,8 @@ pub fn page(machine: &Machine, rows: &[Row], stack: &Stack, plot: &str) -> Strin
     add("Boost's `dijkstra_shortest_paths` on an `adjacency_list`. Each time is processor time, the median of fifteen repetitions. ");
     add("The library, the Rust auction and the Rust Dijkstra start from the columns each time. ");
     add("LEMON and Boost get their graph made before the clock starts, which favours them. ");
-    add("Every distance, and each iteration count and buffer of the two auctions, is compared before the clock starts.\n\n");
+    add("The wanted nodes' distances of all five, and the iterations and buffers of the two auctions, ");
+    add("are compared before the clock starts.\n\n");
     add("A ratio is the library's time divided by the other's: above 1 the library takes longer. ");
     add("\"One\" is the node in the middle when all are ordered by distance.\n\n");
     add(HEAD);
@@ -79,8 +80,8 @@ pub fn page(machine: &Machine, rows: &[Row], stack: &Stack, plot: &str) -> Strin
     add("\n## Time against n\n\nAll nodes wanted; solid: the library, dashed: the heap Dijkstra.\n\n");
     add(&format!("![Time against the number of nodes]({plot})\n"));
     add("\n## Stack\n\nThe calls allocate nothing; all working memory is on the stack. ");
-    add("Measured with 1,024 nodes and 6,000 arcs on a thread whose stack was painted before, ");
-    add("less what a thread uses that calls nothing:\n\n| function | bytes |\n|---|--:|\n");
+    add("Measured with 1,024 nodes and 6,000 arcs on a painted stack; the caller's frame, which holds the arguments, is included, ");
+    add("and less than 256 bytes cannot be seen:\n\n| function | bytes |\n|---|--:|\n");
     add(&format!("| `kestrelore_plan_routes` | {} |\n", stack.plan));
     add(&format!("| `kestrelore_list_path` | {} |\n", stack.list));
     add(&format!("| `kestrelore_read_link_file` | {} |\n", stack.read));

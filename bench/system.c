@@ -2,7 +2,6 @@
 #include <pthread.h>
 #include <stddef.h>
 #include <stdint.h>
-#include <string.h>
 #include <time.h>
 
 /* Processor time of the calling thread in nanoseconds, or 0 if it cannot be had. */
@@ -13,19 +12,39 @@ uint64_t thread_time(void)
     return (uint64_t)time.tv_sec * 1000000000 + (uint64_t)time.tv_nsec;
 }
 
-enum { SIZE = 4 << 20, PAINT = 0xA5 };
+/* The frame of the measuring function itself is not painted: less than OWN_FRAME cannot be seen. */
+enum { SIZE = 4 << 20, OWN_FRAME = 256, PAINT = 0xA5 };
 
 static uint8_t stack[SIZE] __attribute__((aligned(4096)));
 
-/* The bytes of stack used by work on a thread whose stack was painted before, or 0 if the thread could not be started. */
-size_t stack_used(void *(*work)(void *), void *argument)
+struct measured {
+    void (*work)(void *);
+    void *argument;
+    size_t used;
+};
+
+/* Paints the stack below this frame, does the work, and looks how far down the paint is gone. */
+static void *measure(void *given)
+{
+    struct measured *measured = given;
+    volatile uint8_t *top = __builtin_frame_address(0);
+    volatile uint8_t *painted = top - OWN_FRAME;
+    for (volatile uint8_t *place = stack; place < painted; place++) *place = PAINT;
+    measured->work(measured->argument);
+    volatile uint8_t *lowest = stack;
+    while (lowest < painted && *lowest == PAINT) lowest++;
+    measured->used = (size_t)(top - lowest);
+    return NULL;
+}
+
+/* The bytes of stack that the work used on a thread of its own, or 0 if there was no thread. */
+size_t stack_used(void (*work)(void *), void *argument)
 {
     pthread_attr_t attributes;
     pthread_t thread;
-    size_t untouched = 0;
-    memset(stack, PAINT, SIZE);
+    struct measured measured = {work, argument, 0};
     if (pthread_attr_init(&attributes) != 0 || pthread_attr_setstack(&attributes, stack, SIZE) != 0) return 0;
-    if (pthread_create(&thread, &attributes, work, argument) != 0 || pthread_join(thread, NULL) != 0) return 0;
-    while (untouched < SIZE && stack[untouched] == PAINT) untouched++;
-    return SIZE - untouched;
+    if (pthread_create(&thread, &attributes, measure, &measured) != 0) return 0;
+    if (pthread_join(thread, NULL) != 0) return 0;
+    return measured.used;
 }

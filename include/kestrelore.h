@@ -15,7 +15,8 @@
  *
  * Calls share nothing: there is no global state, no allocation and no call out of the library
  * (but memcpy, memmove, memset and memcmp, where the compiler puts them), so two threads may call
- * at once. Stack needed by a call: measured: see docs/PERFORMANCE.md.
+ * at once. Stack needed, measured on x86-64 (docs/PERFORMANCE.md): planning 44,072 bytes, each
+ * other call less than 512.
  *
  * Every answer starts with a number and a place. Number 0 is no refusal. The place is 0 where none
  * is named below. After every refusal but 8 the answer's other fields are 0 and every output list
