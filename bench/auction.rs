@@ -38,21 +38,27 @@ struct State<'a> {
     missing_count: usize,
     path: [u16; NODES],
     depth: usize,
+    counts: Counts,
 }
 
-/// Runs the auction and gives the number of its iterations; none for a faulty table.
-pub fn plan(table: &Table, wanted: &[u16], out: &mut Plan) -> Option<u64> {
+/// How many iterations of each kind a run makes.
+#[derive(Clone, Copy, Debug, Default, PartialEq)]
+pub struct Counts {
+    pub contractions: u64,
+    pub extensions: u64,
+    pub deletions: u64,
+}
+
+/// Runs the auction and gives its counts; none for a faulty table.
+pub fn plan(table: &Table, wanted: &[u16], out: &mut Plan) -> Option<Counts> {
     if faulty(table) {
         return None;
     }
     let mut state = State::new(table, wanted);
     state.reach(0);
-    let mut iterations = 0;
-    while state.missing_count > 0 && state.step() {
-        iterations += 1;
-    }
+    while state.missing_count > 0 && state.step() {}
     state.hand_over(out);
-    Some(iterations)
+    Some(state.counts)
 }
 
 fn faulty(table: &Table) -> bool {
@@ -76,6 +82,7 @@ impl State<'_> {
             missing_count: 0,
             path: [0; NODES],
             depth: 1,
+            counts: Counts::default(),
         };
         for (arc, &tail) in table.tails.iter().enumerate().rev() {
             state.next[arc] = state.first[tail as usize];
@@ -132,12 +139,15 @@ impl State<'_> {
             }
             self.deleted[node] = true;
             self.depth -= 1;
+            self.counts.deletions += 1;
         } else if self.price[node] < value {
             self.price[node] = value;
             self.depth = (self.depth - 1).max(1);
+            self.counts.contractions += 1;
         } else {
             self.path[self.depth] = child;
             self.depth += 1;
+            self.counts.extensions += 1;
             if !self.reached[child as usize] {
                 self.reach(child as usize);
             }

@@ -1,6 +1,6 @@
 //! Times of the five planners on one table, and the stack that the library's calls need.
 
-use crate::auction::{self, Plan};
+use crate::auction::{self, Counts, Plan};
 use crate::dijkstra;
 use crate::library::{self, nanoseconds, Peer};
 use crate::tables::Table;
@@ -75,7 +75,12 @@ fn check(table: &Table, wanted: &[u16], target: Option<u16>, peers: (&Peer, &Pee
     let (mut plan, mut other) = (Plan::new(table), Plan::new(table));
     let answer = library::plan(table, wanted, &mut plan);
     assert_eq!(answer.number, 0, "every wanted node has a walk");
-    assert_eq!(Some(answer.iterations), auction::plan(table, wanted, &mut other));
+    let counts = Counts {
+        contractions: answer.contractions,
+        extensions: answer.extensions,
+        deletions: answer.deletions,
+    };
+    assert_eq!(Some(counts), auction::plan(table, wanted, &mut other));
     assert!(plan.distances == other.distances && plan.prices == other.prices);
     assert!(plan.tree == other.tree && plan.marks == other.marks);
     let heap = dijkstra::distances(table, target);
