@@ -63,7 +63,7 @@ pub fn page(machine: &Machine, rows: &[Row], stack: &Stack, plot: &str) -> Strin
     add("Boost's `dijkstra_shortest_paths` on an `adjacency_list`. Each time is processor time, the median of fifteen repetitions. ");
     add("The library, the Rust auction and the Rust Dijkstra start from the columns each time. ");
     add("LEMON and Boost get their graph made before the clock starts, which favours them. ");
-    add("The wanted nodes' distances of all five, and the iterations and buffers of the two auctions, ");
+    add("The wanted nodes' distances of all five, and the three counts and the buffers of the two auctions, ");
     add("are compared before the clock starts.\n\n");
     add("A ratio is the library's time divided by the other's: above 1 the library takes longer. ");
     add("\"One\" is the node in the middle when all are ordered by distance.\n\n");
