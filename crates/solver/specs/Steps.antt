@@ -25,6 +25,10 @@ unfoldable pub lower-of : Option Bid → Option Bid → Option Bid
 lower-of none b = b
 lower-of (some a) b = some (lower-bid a b)
 
+-- the arc leads to the child, where there is an arc
+abbrev pub Leads : (heads : List ℕ) → (arc child : ℕ) → Type 0
+Leads hs arc child = (arc ≡ no-arc → ⊥) → child ≡ getD hs arc 0
+
 -- What an iteration at node v may rely on: it is no stop, since the origin has a child; the arc of the least bid is listed and its head has a bound;
 -- and where the path is to be extended there is room for one node more.
 pub record Can-step (v origin value arc depth : ℕ) (heads path price bound : List ℕ) : Type 0 where

@@ -9,22 +9,25 @@ ghost use Rattle.auction.specs.Auction.{bid, with-bid, to-child, price-at, best
 ghost use Rattle.solver.specs.declared.state.Progress.{Progress};
 ghost use Rattle.solver.specs.Seen.{All-long, bid-of, seen, greatest-sum};
 ghost use Rattle.solver.specs.Lists.{Listed, Some-table};
-ghost use Rattle.solver.specs.Steps.{lower-of};
+ghost use Rattle.solver.specs.Steps.{lower-of, Leads};
 use super::long;
 use super::state::State;
 use super::wide;
 use table::NO_ARC;
 
-// A bid's value and the position of the child's kept arc; no arc where there is no child.
+// A bid's value, the position of the child's kept arc and the child; no arc where there is no child.
 pub struct LeastBid {
     pub value: u64,
     pub arc: u16,
+    pub child: u16,
 }
 
-// The lower of the bids met so far and the one over the arc at a position, where that leads to a child.
+// The lower of the bids met so far and the one over the arc at a position, where that leads to a child. The arc's head is given as a
+// node number and as an index.
 fn lower_bid(
     least: LeastBid,
     position: u16,
+    child: u16,
     head: usize,
     length: u32,
     price: &[u64],
@@ -33,7 +36,8 @@ fn lower_bid(
 ) -> LeastBid
     requires { ⌜ (head < lib.ListN.length (now price)) × ((head < lib.ListN.length (now kept)) × (head < lib.ListN.length (now status))) ⌝ }
     requires { ⌜ (position < no-arc) × (getD (now price) head 0 ≤ greatest-sum) ⌝ }
-    ensures { λ r. ⌜ ((t : Table) (path bound : List ℕ) (g : Progress) → head-at t position ≡ head → length-at t position ≡ length → bid-of (r .value) (r .arc) ≡ lower-of (bid-of (least .value) (least .arc)) (with-bid (to-child t (tail-at t position) position (seen path (now (price .entry)) bound (now (kept .entry)) (now (status .entry)) g)) (bid (length + getD (now (price .entry)) head 0) position) none)) ⌝ }
+    ensures lower { λ r. ⌜ ((t : Table) (path bound : List ℕ) (g : Progress) → head-at t position ≡ head → length-at t position ≡ length → bid-of (r .value) (r .arc) ≡ lower-of (bid-of (least .value) (least .arc)) (with-bid (to-child t (tail-at t position) position (seen path (now (price .entry)) bound (now (kept .entry)) (now (status .entry)) g)) (bid (length + getD (now (price .entry)) head 0) position) none)) ⌝ }
+    ensures leads { λ r. ⌜ ((heads : List ℕ) → Leads heads (least .arc) (least .child) → child ≡ getD heads position 0 → Leads heads (r .arc) (r .child)) ⌝ }
 {
     if kept[head] != position || status[head] == State::DELETED {
         return least;
@@ -45,6 +49,7 @@ fn lower_bid(
     LeastBid {
         value: value,
         arc: position,
+        child: child,
     }
 }
 
@@ -62,17 +67,20 @@ pub fn least_bid(
     requires { ⌜ Some-table (now heads) (now lengths) (now first) (now next) ⌝ }
     requires { ⌜ All-long (length (now first)) (now price ∷ now kept ∷ now status ∷ []) ⌝ }
     requires { ⌜ (v < length (now first)) × ((u : ℕ) → getD (now price) u 0 ≤ greatest-sum) ⌝ }
-    ensures { λ r. ⌜ ((t : Table) (path bound : List ℕ) (g : Progress) → Listed t (now (heads .entry)) (now (lengths .entry)) (now (first .entry)) (now (next .entry)) → bid-of (r .value) (r .arc) ≡ best t v (seen path (now (price .entry)) bound (now (kept .entry)) (now (status .entry)) g)) ⌝ }
+    ensures least { λ r. ⌜ ((t : Table) (path bound : List ℕ) (g : Progress) → Listed t (now (heads .entry)) (now (lengths .entry)) (now (first .entry)) (now (next .entry)) → bid-of (r .value) (r .arc) ≡ best t v (seen path (now (price .entry)) bound (now (kept .entry)) (now (status .entry)) g)) ⌝ }
+    ensures leads { λ r. ⌜ Leads (now (heads .entry)) (r .arc) (r .child) ⌝ }
 {
     let mut least = LeastBid {
         value: 0,
         arc: NO_ARC,
+        child: 0,
     };
     let mut p = first[v];
     while p != NO_ARC {
         let i = wide(p);
-        let head = wide(heads[i]);
-        least = lower_bid(least, p, head, lengths[i], price, kept, status);
+        let child = heads[i];
+        let head = wide(child);
+        least = lower_bid(least, p, child, head, lengths[i], price, kept, status);
         p = next[i];
     }
     least

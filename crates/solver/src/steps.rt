@@ -8,7 +8,7 @@ ghost use Rattle.table.specs.Table.{Table};
 ghost use Rattle.auction.specs.Auction.{deletion, contraction, extension, iteration};
 ghost use Rattle.solver.specs.Seen.{All-long, bid-of, seen, greatest-sum, too-many};
 ghost use Rattle.solver.specs.Lists.{Listed, Some-table};
-ghost use Rattle.solver.specs.Steps.{Can-step};
+ghost use Rattle.solver.specs.Steps.{Can-step, Leads};
 use super::bids::LeastBid;
 use super::reaching::reach;
 use super::state::Progress;
@@ -108,6 +108,7 @@ pub fn step(
     requires { ⌜ All-long (length (now first)) (now price ∷ now bound ∷ now kept ∷ now status ∷ []) ⌝ }
     requires { ⌜ (v < length (now first)) × ((1 ≤ g .depth) × (g .contractions + g .extensions + g .deletions < too-many)) ⌝ }
     requires { ⌜ Can-step v origin (least .value) (least .arc) (g .depth) (now heads) (now path) (now price) (now bound) ⌝ }
+    requires { ⌜ Leads (now heads) (least .arc) (least .child) ⌝ }
     ensures { λ r. ⌜ ((t : Table) → Listed t (now (heads .entry)) (now (lengths .entry)) (now (first .entry)) (now (next .entry)) → t .origin ≡ origin → iteration (bid-of (least .value) (least .arc)) t v (seen (now (path .entry)) (now (price .entry)) (now (bound .entry)) (now (kept .entry)) (now (status .entry)) g) ≡ some (seen (now (path .exit)) (now (price .exit)) (now (bound .exit)) (now (kept .exit)) (now (status .exit)) r)) ⌝ }
 {
     let arc = least.arc;
@@ -118,11 +119,9 @@ pub fn step(
     if price[v] < value {
         return contract(g, v, origin, value, price);
     }
-    let i = wide(arc);
-    let child = heads[i];
     extend(
         g,
-        child,
+        least.child,
         heads,
         lengths,
         first,

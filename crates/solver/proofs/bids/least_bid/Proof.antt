@@ -5,13 +5,14 @@ use borrow.Author.Needs.{needs}
 use native.Mathlib.Omega.{arith}
 use lib.ListN.{getD}
 use Rattle.table.specs.Table.{no-arc}
+use Rattle.solver.specs.Steps.{Leads}
 use Rattle.solver.proofs.Arcs.{Readable, readable}
 use Rattle.solver.proofs.Bidding.{Comparing, begins, goes-on, ends}
 use Rattle.solver.proofs.bids.least_bid.Statement.{statement}
 use Rattle.solver.proofs.bids.least_bid.Tie as tie
 
 abbrev Inv-loop : tie.InvT-loop
-Inv-loop v heads lengths first next price kept status least₀ p₀ least p = (Comparing heads lengths first next v price kept status (least .value) (least .arc) p) × (p ≤ no-arc)
+Inv-loop v heads lengths first next price kept status least₀ p₀ least p = (Comparing heads lengths first next v price kept status (least .value) (least .arc) p) × ((p ≤ no-arc) × Leads heads (least .arc) (least .child))
 
 abbrev μ-loop : tie.MeasureT-loop
 μ-loop v heads lengths first next price kept status least₀ p₀ least p = no-arc - p
@@ -31,17 +32,17 @@ loop-holds : tie.Need-loop-holds Inv-loop μ-loop
 loop-holds c =
     let a = c .before .before .before .before .before .before .before .before .args in (
       begins (a .heads .now) (a .lengths .now) (a .first .now) (a .next .now) (a .v) (a .price .now) (a .kept .now) (a .status .now) _ _ refl (c .before .before .before .before .before .before .before .before .pre .1 .1 .0),
-      omega (arith, c .shared-slice-known8 .given (a .v)),
+      (omega (arith, c .shared-slice-known8 .given (a .v)), λ any. absurd (any refl)),
     )
 
 wide-requires : tie.Need-wide-requires Inv-loop μ-loop
 wide-requires c κs = search needs
 
-mul-wide : tie.Need-mul-wide Inv-loop μ-loop
-mul-wide c = search needs
+mul-child : tie.Need-mul-child Inv-loop μ-loop
+mul-child c = search needs
 
-shared-slice-read-wide : tie.Need-shared-slice-read-wide Inv-loop μ-loop
-shared-slice-read-wide c =
+shared-slice-read-child : tie.Need-shared-slice-read-child Inv-loop μ-loop
+shared-slice-read-child c =
     let r = inside (c .before .before) in omega (arith, c .before .wide .ensures .0, r .inside, r .listed .head-count)
 
 wide-requires-2 : tie.Need-wide-requires-2 Inv-loop μ-loop
@@ -64,7 +65,7 @@ lower-bid-requires c κs =
     let n = r .listed .linked .first-count in
     let lengths = s .pre .1 .0 in (
       (omega (arith, head, below, n, lengths .0), (omega (arith, head, below, n, lengths .1 .0), omega (arith, head, below, n, lengths .1 .1))),
-      (omega (arith, c .before .before .before .before .before .loop .inv .1, c .before .before .before .before .loop-test .taken), s .pre .1 .1 .1 (c .before .wide2 .result)),
+      (omega (arith, c .before .before .before .before .before .loop .inv .1 .0, c .before .before .before .before .loop-test .taken), s .pre .1 .1 .1 (c .before .wide2 .result)),
     )
 
 mul-p-2 : tie.Need-mul-p-2 Inv-loop μ-loop
@@ -87,15 +88,20 @@ loop-again c =
     let a = s .args in (
       goes-on (a .heads .now) (a .lengths .now) (a .first .now) (a .next .now) (a .v) (a .price .now) (a .kept .now) (a .status .now) _ _ _ _ _
           (c .before .before .before .before .before .wide .result) (c .before .before .before .wide2 .result) (c .before .before .before .before .before .before .before .loop .inv .0) (c .before .before .before .before .before .wide .ensures .0)
-          (c .before .before .before .wide2 .ensures .0 ∙ ap (λ i. getD (a .heads .now) i 0) (c .before .before .before .before .before .wide .ensures .0)) (c .before .before .before .before .before .before .loop-test .taken) (c .before .lower-bid .ensures),
-      omega (arith, c .shared-slice-known11 .given (c .before .before .before .before .before .wide .result)),
+          (c .before .before .before .wide2 .ensures .0 ∙ ap (λ i. getD (a .heads .now) i 0) (c .before .before .before .before .before .wide .ensures .0)) (c .before .before .before .before .before .before .loop-test .taken) (c .before .lower-bid .ensures .0),
+      (
+        omega (arith, c .shared-slice-known11 .given (c .before .before .before .before .before .wide .result)),
+        c .before .lower-bid .ensures .1 (a .heads .now) (c .before .before .before .before .before .before .before .loop .inv .1 .1) (ap (λ i. getD (a .heads .now) i 0) (c .before .before .before .before .before .wide .ensures .0)),
+      ),
     )
 
 returns : tie.Need-returns Inv-loop μ-loop
 returns c =
-    let a = c .before .before .before .before .before .before .before .before .before .before .args in
-    ends (a .heads .now) (a .lengths .now) (a .first .now) (a .next .now) (a .v) (a .price .now) (a .kept .now) (a .status .now) _ _ _ (c .before .loop .inv .0)
-    (c .loop-test .left)
+    let a = c .before .before .before .before .before .before .before .before .before .before .args in (
+      ends (a .heads .now) (a .lengths .now) (a .first .now) (a .next .now) (a .v) (a .price .now) (a .kept .now) (a .status .now) _ _ _ (c .before .loop .inv .0)
+          (c .loop-test .left),
+      c .before .loop .inv .1 .1,
+    )
 
 pub least-bid-spec : {M : Type 1} → statement M
 least-bid-spec =
@@ -107,8 +113,8 @@ least-bid-spec =
     shared-slice-read-p
     loop-holds
     wide-requires
-    mul-wide
-    shared-slice-read-wide
+    mul-child
+    shared-slice-read-child
     wide-requires-2
     mul-lower-bid
     shared-slice-read-lower-bid

@@ -21,13 +21,15 @@ shared-slice-read-if2 : tie.Need-shared-slice-read-if2
 shared-slice-read-if2 c = search needs
 
 returns : tie.Need-returns
-returns c =
-    λ t path bound g at long.
-    let s = c .before .before .before .before .before in
-    let a = s .args in
-    stays (a .least .value) (a .least .arc) _ _
-    (no-child t (a .position) (a .head) path (a .price .now) bound (a .kept .now) (a .status .now) g at (s .pre .0 .1 .0)
-    (⊎-elim (λ w. inl (w .taken)) (λ w. inr (eqb-true _ _ (w .2 .taken))) (c .if1 .came)))
+returns c = (
+  λ t path bound g at long.
+      let s = c .before .before .before .before .before in
+      let a = s .args in
+      stays (a .least .value) (a .least .arc) _ _
+      (no-child t (a .position) (a .head) path (a .price .now) bound (a .kept .now) (a .status .now) g at (s .pre .0 .1 .0)
+      (⊎-elim (λ w. inl (w .taken)) (λ w. inr (eqb-true _ _ (w .2 .taken))) (c .if1 .came))),
+  λ heads leads at. leads,
+)
 
 long-requires : tie.Need-long-requires
 long-requires c κs = search needs
@@ -42,26 +44,30 @@ add-value : tie.Need-add-value
 add-value c = search needs
 
 returns-2 : tie.Need-returns-2
-returns-2 c =
-    λ t path bound g at long.
-    let s = c .before .before .before .before .before .before .before .before .before .before .before .before .before in
-    let a = s .args in
-    let child = a-child t (a .position) (a .head) path (a .price .now) bound (a .kept .now) (a .status .now) g at (s .pre .0 .1 .0) (c .before .before .before .before .before .before .before .before .if1 .left) (s .pre .1 .0) (eqb-false _ _ (c .before .before .before .before .before .before .if2 .left)) in
-    not-lower (a .least .value) (a .least .arc) _ (a .position) _ child (c .before .before .if3 .taken) (omega (arith, leb-true (a .least .value) (c .before .before .before .before .before .long .result + getD (a .price .now) (a .head) 0) (c .if4 .taken), c .before .before .before .before .before .long .ensures .0))
+returns-2 c = (
+  λ t path bound g at long.
+      let s = c .before .before .before .before .before .before .before .before .before .before .before .before .before in
+      let a = s .args in
+      let child = a-child t (a .position) (a .head) path (a .price .now) bound (a .kept .now) (a .status .now) g at (s .pre .0 .1 .0) (c .before .before .before .before .before .before .before .before .if1 .left) (s .pre .1 .0) (eqb-false _ _ (c .before .before .before .before .before .before .if2 .left)) in
+      not-lower (a .least .value) (a .least .arc) _ (a .position) _ child (c .before .before .if3 .taken) (omega (arith, leb-true (a .least .value) (c .before .before .before .before .before .long .result + getD (a .price .now) (a .head) 0) (c .if4 .taken), c .before .before .before .before .before .long .ensures .0)),
+  λ heads leads at. leads,
+)
 
 returns-3 : tie.Need-returns-3
-returns-3 c =
-    λ t path bound g at long.
-    let s = c .before .before .before .before .before .before .before .before .before .before .before in
-    let a = s .args in
-    let child = a-child t (a .position) (a .head) path (a .price .now) bound (a .kept .now) (a .status .now) g at (s .pre .0 .1 .0) (c .before .before .before .before .before .before .if1 .left) (s .pre .1 .0) (eqb-false _ _ (c .before .before .before .before .if2 .left)) in
-    let bids = getD (a .price .now) (a .head) 0 in
-    ap (λ m. bid-of (m + bids) (a .position)) (c .before .before .before .long .ensures .0)
-    ∙ lower (a .least .value) (a .least .arc) (a .length + bids) (a .position) _ child (s .pre .1 .0)
-    (⊎-elim
-    (λ w. inr (omega (arith, leb-false (a .least .value) (c .before .before .before .long .result + bids) (w .2 .left), c .before .before .before .long .ensures .0)))
-    (λ w. inl (w .left))
-    (c .if3 .came))
+returns-3 c = (
+  λ t path bound g at long.
+      let s = c .before .before .before .before .before .before .before .before .before .before .before in
+      let a = s .args in
+      let child = a-child t (a .position) (a .head) path (a .price .now) bound (a .kept .now) (a .status .now) g at (s .pre .0 .1 .0) (c .before .before .before .before .before .before .if1 .left) (s .pre .1 .0) (eqb-false _ _ (c .before .before .before .before .if2 .left)) in
+      let bids = getD (a .price .now) (a .head) 0 in
+      ap (λ m. bid-of (m + bids) (a .position)) (c .before .before .before .long .ensures .0)
+      ∙ lower (a .least .value) (a .least .arc) (a .length + bids) (a .position) _ child (s .pre .1 .0)
+      (⊎-elim
+      (λ w. inr (omega (arith, leb-false (a .least .value) (c .before .before .before .long .result + bids) (w .2 .left), c .before .before .before .long .ensures .0)))
+      (λ w. inl (w .left))
+      (c .if3 .came)),
+  λ heads leads at any. at,
+)
 
 pub lower-bid-spec : {M : Type 1} → statement M
 lower-bid-spec =

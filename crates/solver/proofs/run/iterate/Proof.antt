@@ -77,7 +77,7 @@ returns : tie.Need-returns Inv-loop μ-loop
 returns c =
     let l = c .before .before .before .before .before .before .before .before .before .before .loop in
     stops (l .inv) (c .before .before .before .before .before .before .before .wide .result) (c .before .before .before .least-bid .result .value) (c .before .before .before .least-bid .result .arc) (c .before .before .before .before .before .before .before .before .before .loop-test .taken) (c .before .before .before .before .before .before .before .wide .ensures .0)
-    (c .before .if1 .taken) (eqb-true _ _ (c .if2 .taken)) (λ t here. c .before .before .before .least-bid .ensures t (l .path) (l .bound) (l .g) here)
+    (c .before .if1 .taken) (eqb-true _ _ (c .if2 .taken)) (λ t here. c .before .before .before .least-bid .ensures .0 t (l .path) (l .bound) (l .g) here)
 
 step-requires : tie.Need-step-requires Inv-loop μ-loop
 unfolding Some-table
@@ -85,15 +85,18 @@ step-requires c κs =
     let s = c .before .before .before .before .before .before .before .before .before .before .before .before .before .before .before .before .before .before .before .before .before .before .before .before .before .before .before in
     let l = c .before .before .before .before .before .before .before .before .before .before .before .before .before .before .loop in
     let r = at-head (c .before .before .before .before .before .before .before .before .before .before .before .before .before) in
-    let bids = c .before .before .before .before .before .before .before .least-bid .ensures (s .pre .0 .0) (l .path) (l .bound) (l .g) (s .pre .0 .1 .listed) in (
+    let bids = c .before .before .before .before .before .before .before .least-bid .ensures .0 (s .pre .0 .0) (l .path) (l .bound) (l .g) (s .pre .0 .1 .listed) in (
       (s .pre .0 .0, s .pre .0 .1 .listed),
       (
         (l .inv .sized .prices, (l .inv .sized .bounds, (l .inv .sized .kepts, l .inv .sized .statuses))),
         (
           (omega (arith, c .before .before .before .before .before .before .before .before .before .before .before .wide .ensures .0, r .terminal-in), (r .depth-some, omega (arith, r .few, few-in-all _ (r .few-nodes)))),
-          may-step (l .inv) (s .pre .0 .0) (s .pre .0 .1) (c .before .before .before .before .before .before .before .before .before .before .before .wide .result) (c .before .before .before .before .before .before .before .least-bid .result .value) (c .before .before .before .before .before .before .before .least-bid .result .arc)
-              (c .before .before .before .before .before .before .before .before .before .before .before .before .before .loop-test .taken) (c .before .before .before .before .before .before .before .before .before .before .before .wide .ensures .0) bids
-              (⊎-elim (λ w ea eo. eqb-false _ _ (w .1 .left) eo) (λ w ea eo. w .left ea) (c .before .before .before .before .before .if1 .came)),
+          (
+            may-step (l .inv) (s .pre .0 .0) (s .pre .0 .1) (c .before .before .before .before .before .before .before .before .before .before .before .wide .result) (c .before .before .before .before .before .before .before .least-bid .result .value) (c .before .before .before .before .before .before .before .least-bid .result .arc)
+                (c .before .before .before .before .before .before .before .before .before .before .before .before .before .loop-test .taken) (c .before .before .before .before .before .before .before .before .before .before .before .wide .ensures .0) bids
+                (⊎-elim (λ w ea eo. eqb-false _ _ (w .1 .left) eo) (λ w ea eo. w .left ea) (c .before .before .before .before .before .if1 .came)),
+            c .before .before .before .before .before .before .before .least-bid .ensures .1,
+          ),
         ),
       ),
     )
@@ -111,7 +114,7 @@ loop-less c =
     let bids = c .before .before .before .before .before .before .before .before .before .before .before .before .before .before .before .before .before .before .before .before .least-bid in
     let more =
     counted (l .inv) _ _ _ _ _ (c .before .before .before .before .before .before .before .before .before .before .before .before .step .result) (c .before .before .before .before .before .before .before .before .before .before .before .before .before .before .before .before .before .before .before .before .before .before .before .before .wide .result) (bids .result .value) (bids .result .arc) (c .before .before .before .before .before .before .before .before .before .before .before .before .before .before .before .before .before .before .before .before .before .before .before .before .before .before .loop-test .taken)
-    (c .before .before .before .before .before .before .before .before .before .before .before .before .before .before .before .before .before .before .before .before .before .before .before .before .wide .ensures .0) (λ t here. bids .ensures t (l .path) (l .bound) (l .g) here) (c .before .before .before .before .before .before .before .before .before .before .before .before .step .ensures) (s .pre .0 .0) (s .pre .0 .1) in
+    (c .before .before .before .before .before .before .before .before .before .before .before .before .before .before .before .before .before .before .before .before .before .before .before .before .wide .ensures .0) (λ t here. bids .ensures .0 t (l .path) (l .bound) (l .g) here) (c .before .before .before .before .before .before .before .before .before .before .before .before .step .ensures) (s .pre .0 .0) (s .pre .0 .1) in
     omega (arith, more, at-head (c .before .before .before .before .before .before .before .before .before .before .before .before .before .before .before .before .before .before .before .before .before .before .before .before .before .before) .few)
 
 loop-again : tie.Need-loop-again Inv-loop μ-loop
@@ -120,7 +123,7 @@ loop-again c =
     let bids = c .before .before .before .before .before .before .before .before .before .before .before .before .before .before .before .before .before .before .before .before .least-bid in
     let kept = c .before .before .before .before .before .before .before .before .before .before .before .before .step .kept in
     continues (l .inv) (c .before .before .before .before .before .before .before .before .before .before .before .before .before .before .before .before .before .before .before .before .before .before .before .before .wide .result) (bids .result .value) (bids .result .arc) (c .before .before .before .before .before .before .before .before .before .before .before .before .before .before .before .before .before .before .before .before .before .before .before .before .before .before .loop-test .taken) (c .before .before .before .before .before .before .before .before .before .before .before .before .before .before .before .before .before .before .before .before .before .before .before .before .wide .ensures .0)
-    (λ t here. bids .ensures t (l .path) (l .bound) (l .g) here) (c .before .before .before .before .before .before .before .before .before .before .before .before .step .ensures) (kept .1 .1 .1 .1 .1 .1 .1 .1 .0)
+    (λ t here. bids .ensures .0 t (l .path) (l .bound) (l .g) here) (c .before .before .before .before .before .before .before .before .before .before .before .before .step .ensures) (kept .1 .1 .1 .1 .1 .1 .1 .1 .0)
     (record {
       prices = kept .1 .1 .1 .1 .1 .1 .1 .1 .1 .0 ∙ l .inv .sized .prices;
       bounds = kept .1 .1 .1 .1 .1 .1 .1 .1 .1 .1 .0 ∙ l .inv .sized .bounds;

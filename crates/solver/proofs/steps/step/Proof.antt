@@ -25,7 +25,7 @@ returns c =
     λ t here eo.
     let s = c .before .before .before .before .before .before .before .before .before .before .before .before .before .before in
     let a = s .args in
-    is-deletion t (a .v) (a .least .value) (a .least .arc) _ (c .before .before .before .before .if1 .taken) (λ z. s .pre .1 .1 .1 .no-stop (c .before .before .before .before .if1 .taken) (z ∙ eo))
+    is-deletion t (a .v) (a .least .value) (a .least .arc) _ (c .before .before .before .before .if1 .taken) (λ z. s .pre .1 .1 .1 .0 .no-stop (c .before .before .before .before .if1 .taken) (z ∙ eo))
     ∙ ap some (sym (c .before .before .delete .ensures (a .path .now) (a .price .now) (a .bound .now) (a .kept .now)))
 
 mul-if2 : tie.Need-mul-if2
@@ -49,24 +49,14 @@ returns-2 c =
     (subst (λ (m : ℕ). m < a .least .value) (sym (seen-price (a .path .now) (a .price .now) (a .bound .now) (a .kept .now) (a .status .now) (a .g) (a .v))) (c .before .before .before .before .if2 .taken))
     ∙ ap some (sym (c .before .before .contract .ensures t (a .path .now) (a .bound .now) (a .kept .now) (a .status .now) eo))
 
-wide-requires : tie.Need-wide-requires
-wide-requires c κs = search needs
-
-mul-child : tie.Need-mul-child
-mul-child c = search needs
-
-shared-slice-read-child : tie.Need-shared-slice-read-child
-shared-slice-read-child c =
-    let s = c .before .before .before .before .before .before .before .before .before .before .before .before .before .before in omega (arith, c .before .wide .ensures .0, s .pre .1 .1 .1 .listed (c .before .before .before .before .if1 .left))
-
 extend-requires : tie.Need-extend-requires
 unfolding Some-table
 extend-requires c κs =
-    let s = c .before .before .before .before .before .before .before .before .before .before .before .before .before .before .before .before .before .before in
+    let s = c .before .before .before .before .before .before .before .before .before .before .before .before .before .before .before .before in
     let a = s .args in
-    let any = c .before .before .before .before .before .before .before .before .if1 .left in
-    let can = s .pre .1 .1 .1 in
-    let same : getD (a .heads .now) (c .before .before .before .before .before .wide .result) 0 ≡ getD (a .heads .now) (a .least .arc) 0 = ap (λ i. getD (a .heads .now) i 0) (c .before .before .before .before .before .wide .ensures .0) in
+    let any = c .before .before .before .before .before .before .if1 .left in
+    let can = s .pre .1 .1 .1 .0 in
+    let same : a .least .child ≡ getD (a .heads .now) (a .least .arc) 0 = s .pre .1 .1 .1 .1 any in
     let here = s .pre .0 .1 in
     let inside : a .least .arc < arc-count (s .pre .0 .0) = omega (arith, can .listed any, here .head-count) in
     let lengths = s .pre .1 .0 in (
@@ -77,7 +67,7 @@ extend-requires c κs =
           omega (arith, same, here .head (a .least .arc) inside, here .head-in (a .least .arc) inside, here .linked .first-count),
           (
             subst (λ (j : ℕ). getD (a .bound .now) j 0 ≤ greatest-sum) (sym same) (can .bounded any),
-            (can .room any (c .before .before .before .before .before .before .if2 .left), omega (arith, s .pre .1 .1 .0 .1 .1)),
+            (can .room any (c .before .before .before .before .if2 .left), omega (arith, s .pre .1 .1 .0 .1 .1)),
           ),
         ),
       ),
@@ -98,15 +88,14 @@ same-length-6 c = search needs
 returns-3 : tie.Need-returns-3
 returns-3 c =
     λ t here eo.
-    let s = c .before .before .before .before .before .before .before .before .before .before .before .before .before .before .before .before .before .before .before .before .before .before .before .before .before .before .before in
+    let s = c .before .before .before .before .before .before .before .before .before .before .before .before .before .before .before .before .before .before .before .before .before .before .before .before .before in
     let a = s .args in
-    let any = c .before .before .before .before .before .before .before .before .before .before .before .before .before .before .before .before .before .if1 .left in
+    let any = c .before .before .before .before .before .before .before .before .before .before .before .before .before .before .before .if1 .left in
     let x = seen (a .path .now) (a .price .now) (a .bound .now) (a .kept .now) (a .status .now) (a .g) in
-    let inside : a .least .arc < arc-count t = omega (arith, s .pre .1 .1 .1 .listed any, here .head-count) in
-    let child : head-at t (a .least .arc) ≡ getD (a .heads .now) (c .before .before .before .before .before .before .before .before .before .before .before .before .before .before .wide .result) 0 =
-    sym (ap (λ i. getD (a .heads .now) i 0) (c .before .before .before .before .before .before .before .before .before .before .before .before .before .before .wide .ensures .0) ∙ here .head (a .least .arc) inside) in
+    let inside : a .least .arc < arc-count t = omega (arith, s .pre .1 .1 .1 .0 .listed any, here .head-count) in
+    let child : head-at t (a .least .arc) ≡ a .least .child = sym (s .pre .1 .1 .1 .1 any ∙ here .head (a .least .arc) inside) in
     is-extension t (a .v) (a .least .value) (a .least .arc) _ any
-    (subst (λ (m : ℕ). a .least .value ≤ m) (sym (seen-price (a .path .now) (a .price .now) (a .bound .now) (a .kept .now) (a .status .now) (a .g) (a .v))) (c .before .before .before .before .before .before .before .before .before .before .before .before .before .before .before .if2 .left))
+    (subst (λ (m : ℕ). a .least .value ≤ m) (sym (seen-price (a .path .now) (a .price .now) (a .bound .now) (a .kept .now) (a .status .now) (a .g) (a .v))) (c .before .before .before .before .before .before .before .before .before .before .before .before .before .if2 .left))
     ∙ ap (λ j. some (extension t j x)) child
     ∙ ap some (sym (c .before .before .before .before .before .before .before .before .extend .ensures t (a .price .now) here))
 
@@ -122,9 +111,6 @@ step-spec =
     contract-requires
     same-length-2
     returns-2
-    wide-requires
-    mul-child
-    shared-slice-read-child
     extend-requires
     same-length-3
     same-length-4
