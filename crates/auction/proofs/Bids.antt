@@ -9,7 +9,7 @@ use lib.Dec.{leb, eqb}
 use borrow.Author.Tests.{leb-true, leb-false, eqb-true, eq-eqb, not-true}
 use Rattle.table.specs.Table.{Table, arc-count, tail-at, head-at, length-at}
 use Rattle.auction.specs.Auction.{State, Bid, bid, price-at, kept-at, status-at, is-kept, is-deleted, to-child, lower-bid, with-bid, best-from, best}
-use Rattle.auction.proofs.Basics.{same-or, true-or, both-true, not-both}
+use Rattle.table.proofs.Basics.{same-or, true-or, both-true, not-both}
 use Rattle.auction.proofs.Effects.{undeleted-status, deleted-status}
 
 -- the arc at a position leads from v to a child of it

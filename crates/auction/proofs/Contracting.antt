@@ -9,7 +9,7 @@ use lib.ListN.{length, getD}
 use borrow.Author.Tests.{eq-eqb, ne-eqb}
 use Rattle.table.specs.Table.{Table, arc-count, tail-at, head-at, length-at}
 use Rattle.auction.specs.Auction.{State, Bid, state, price-at, kept-at, status-at, or-zero, terminal, without-terminal, contraction, best, iterations}
-use Rattle.auction.proofs.Basics.{same-or}
+use Rattle.table.proofs.Basics.{same-or}
 use Rattle.auction.proofs.Sums.{total, total-same, total-trade}
 use Rattle.auction.proofs.Good.{Good}
 use Rattle.auction.proofs.Effects.{estimate, same-distance, same-estimate, Repriced, repriced, status-in}

@@ -10,7 +10,7 @@ use borrow.Author.Tests.{eq-eqb, ne-eqb}
 use Rattle.table.specs.Table.{Table}
 use Rattle.auction.specs.Auction.{State, price-at, status-at, distance, terminal, iterations, most-iterations}
 use Rattle.auction.specs.HandOver.{reached-count}
-use Rattle.auction.proofs.Basics.{same-or}
+use Rattle.table.proofs.Basics.{same-or}
 use Rattle.auction.proofs.Sums.{total, total-le, total-const, total-one, only-at, only-same, only-other}
 use Rattle.auction.proofs.Good.{Good}
 use Rattle.auction.proofs.Sound.{Sound, top-status, reached-low}

@@ -7,7 +7,7 @@ use native.Mathlib.Omega.{arith}
 use Rattle.table.specs.Table.{Table, tail-at, head-at, length-at}
 use Rattle.auction.specs.Auction.{State, state, kept-at, status-at, or-zero, terminal, deletion, best, iterations}
 use Rattle.auction.specs.HandOver.{reached-count}
-use Rattle.auction.proofs.Basics.{same-or}
+use Rattle.table.proofs.Basics.{same-or}
 use Rattle.auction.proofs.Sums.{total-le, total-same, total-one, only-at, only-same, only-other}
 use Rattle.auction.proofs.Good.{Good}
 use Rattle.auction.proofs.Effects.{Same, estimate, same-distance, Restatused, deletion-effect, status-in}

@@ -7,12 +7,12 @@ use Prim.Native.Nat.{ℕ, _≤_, _<_}
 use native.Mathlib.Omega.{arith}
 use lib.ListN.{getD}
 use Rattle.table.specs.Table.{Table, is-table, walk-length, no-distance}
-use Rattle.table.specs.Grounds.{refusal, no-refusal}
+use Rattle.table.specs.Refusals.{refusal, no-refusal}
 use Rattle.auction.specs.Auction.{State, auction, was-reached, distance, iterations}
 use Rattle.auction.specs.HandOver.{Answer, handed-over, distances, first-missing, route-refusal}
 use Rattle.auction.specs.Promises.{last-state, route, price, link, Shortest, Shown, Walk-shortest, Walk-given, Prices-fit, Prices-show, Route-to-all, No-route, First-without-walk, Few-iterations, Fewer-iterations, Iterations-counted, Attains, Earliest-link}
 use Rattle.auction.specs.Demands.{distance-of, price-of, link-of, walk-of, Given, Demands, Demands-met}
-use Rattle.auction.proofs.Basics.{true-or, below-or}
+use Rattle.table.proofs.Basics.{true-or, below-or}
 use Rattle.auction.proofs.Sums.{column, past-column}
 use Rattle.auction.proofs.Good.{good}
 use Rattle.auction.proofs.Effects.{estimate, status-in, reached-status}

@@ -9,7 +9,7 @@ use lib.Seq.{getD-set-same, getD-set-other}
 use borrow.Author.Tests.{ltb-true, ltb-false, lt-ltb, le-ltb, eqb-true, eqb-false}
 use Rattle.table.specs.Table.{Table}
 use Rattle.auction.specs.Auction.{State, state, price-at, bound-at, kept-at, status-at, distance, or-zero, was-reached, is-deleted, with-kept, with-status, deletion, contraction, longer}
-use Rattle.auction.proofs.Basics.{inside, inside-some}
+use Rattle.table.proofs.Basics.{inside, inside-some}
 
 -- price and bound together: the least length, as far as is known, of a walk through the node
 unfoldable pub estimate : State → (v : ℕ) → ℕ

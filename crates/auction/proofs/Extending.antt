@@ -10,7 +10,7 @@ use lib.ListN.{length, getD}
 use Rattle.table.specs.Table.{Table, arc-count, tail-at, head-at, length-at}
 use Rattle.auction.specs.Auction.{State, Bid, state, price-at, bound-at, kept-at, status-at, distance, or-zero, was-reached, terminal, longer, extension, with-status, reach, iterations}
 use Rattle.auction.specs.HandOver.{reached-count}
-use Rattle.auction.proofs.Basics.{same-or, true-or, some-none}
+use Rattle.table.proofs.Basics.{same-or, true-or, some-none}
 use Rattle.auction.proofs.Sums.{total-le, total-same}
 use Rattle.auction.proofs.Good.{Good}
 use Rattle.auction.proofs.Effects.{Sizes, Same, estimate, same-distance, same-estimate, Restatused, restatused, longer-same, longer-sizes, kept-below, reached-status, unreached-status}

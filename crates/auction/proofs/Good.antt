@@ -9,9 +9,10 @@ use lib.Dec.{ltb, leb, eqb}
 use lib.ListN.{length, getD}
 use borrow.Author.Tests.{ltb-true, leb-true, eqb-true, lt-ltb, le-leb, ltb-false, leb-false, eqb-false}
 use Rattle.table.specs.Table.{Table, Arc, arc, table, table-of, arcs-of, is-table, arc-good, arcs-good, nodes-below, arc-count, arc-at, tail-at, head-at, length-at, longest, no-arc, most-nodes, most-arcs, most-wanted, Below}
-use Rattle.table.specs.Grounds.{Refusal, refusal, or-else, table-refusal, columns-bad, rooms-fit, wanted-from, wanted-refusal, arc-fault, arcs-from, arcs-refusal}
+use Rattle.table.specs.declared.Refusal.{Refusal}
+use Rattle.table.specs.Refusals.{refusal, or-else, table-refusal, count-bad, columns-bad, rooms-fit, wanted-from, wanted-refusal, arc-fault, arcs-from, arcs-refusal}
 use Rattle.auction.specs.Promises.{Not-turned-down}
-use Rattle.auction.proofs.Basics.{either-false, both-true, true-both, true-or}
+use Rattle.table.proofs.Basics.{either-false, both-true, true-both, true-or}
 
 pub record Good (t : Table) : Type 0 where
   pub some-node : 1 ≤ t .n
@@ -160,10 +161,10 @@ arcs-of-length (t ∷ ts) (h ∷ hs) [] = omega arith
 arcs-of-length (t ∷ ts) (h ∷ hs) (l ∷ ls) = let r = arcs-of-length ts hs ls in omega arith
 
 pub not-turned-down : Not-turned-down
-unfolding Not-turned-down table-refusal is-table table-of table arc-count wanted-refusal columns-bad arcs-refusal
+unfolding Not-turned-down table-refusal is-table table-of table arc-count wanted-refusal count-bad columns-bad arcs-refusal
 not-turned-down n o ts hs ls ws rooms fits e =
     let p = passed (eqb n 0 || ltb most-nodes n) _ 0 0 e in
-    let q = passed (columns-bad ts hs ls) _ 1 0 (p .1) in
+    let q = passed (columns-bad (length ts) (length hs) (length ls)) _ 1 0 (p .1) in
     let r = passed (not (rooms-fit rooms)) _ 2 0 (q .1) in
     let s = passed (leb n o) _ 3 0 (r .1) in
     let w = or-else-none (wanted-refusal n ws) (arcs-refusal n (arcs-of ts hs ls)) (s .1) in

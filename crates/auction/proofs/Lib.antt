@@ -1,5 +1,4 @@
 pub mod Answers
-pub mod Basics
 pub mod Sums
 pub mod Good
 pub mod Effects

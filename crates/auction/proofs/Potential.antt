@@ -15,7 +15,7 @@ use borrow.Author.Tests.{not-true, ltb-true, lt-ltb, le-ltb}
 use Rattle.table.specs.Table.{Table, tail-at}
 use Rattle.auction.specs.Auction.{State, kept-at, status-at, is-deleted}
 use Rattle.auction.specs.HandOver.{reached-count}
-use Rattle.auction.proofs.Basics.{same-or, true-or, both-true, option-or}
+use Rattle.table.proofs.Basics.{same-or, true-or, both-true, option-or}
 use Rattle.auction.proofs.Sums.{total, total-le, total-add, total-scale, total-const}
 use Rattle.auction.proofs.Effects.{estimate, deleted-status, undeleted-status}
 use Rattle.auction.proofs.Sound.{Nodes, reached-low, one-if-reached, reached-one, unreached-none, reached-total}

@@ -13,7 +13,7 @@ use Rattle.table.specs.Table.{Table, is-table, is-walk, arc-count, tail-at, hea
 use Rattle.auction.specs.Auction.{State, Bid, Ended, auction, ended, next, iteration, deletion, after, best, terminal, all-reached, was-reached, distance, iterations}
 use Rattle.auction.specs.HandOver.{prices, first-missing}
 use Rattle.auction.specs.Promises.{Promises, last-state, route, price, link, Walk-shortest, Walk-given, Prices-fit, equal-along, Prices-show, Has-walk, No-walk, First-without-walk, Route-to-all, No-route, Few-iterations, Fewer-iterations, Ends-by-itself, Iterations-counted, Attains, Earliest-link, Never-above, Ascending, Small-distances, Small-sums, Not-turned-down}
-use Rattle.auction.proofs.Basics.{true-or, both-true, true-both, some-none, not-both}
+use Rattle.table.proofs.Basics.{true-or, both-true, true-both, some-none, not-both}
 use Rattle.auction.proofs.Good.{Good, good}
 use Rattle.auction.proofs.Good as bridge
 use Rattle.auction.proofs.Effects.{estimate, known-distance, reached-status, status-reached, unreached-status}

@@ -10,7 +10,7 @@ use lib.ListN.{length}
 use borrow.Author.Tests.{eq-eqb, ne-eqb}
 use Rattle.table.specs.Table.{Table, arc-count, tail-at, head-at, length-at, longest}
 use Rattle.auction.specs.Auction.{State, state, price-at, bound-at, kept-at, status-at, distance, or-zero, terminal, takes, with-kept, offer, offers}
-use Rattle.auction.proofs.Basics.{same-or, true-or, option-or, some-none, some-same}
+use Rattle.table.proofs.Basics.{same-or, true-or, option-or, some-none, some-same}
 use Rattle.auction.proofs.Good.{Good}
 use Rattle.auction.proofs.Effects.{Same, estimate, same-distance, same-estimate, known-distance, Rehung, rehung}
 use Rattle.auction.proofs.Offers.{Taken, No-better, taken, dropped}

@@ -11,7 +11,7 @@ use lib.ListN.{length, getD}
 use borrow.Author.Tests.{ltb-true, ltb-false, eqb-false}
 use Rattle.table.specs.Table.{Table, arc-count, head-at, is-table, longest}
 use Rattle.auction.specs.Auction.{State, Bid, price-at, kept-at, distance, terminal, best, deletion, contraction, extension, iteration, next, go-on, run, ended, all-reached, start, auction, after, then-next, iterations, most-iterations}
-use Rattle.auction.proofs.Basics.{same-or, true-or, option-or, some-none, some-same}
+use Rattle.table.proofs.Basics.{same-or, true-or, option-or, some-none, some-same}
 use Rattle.auction.proofs.Good.{Good, good}
 use Rattle.auction.proofs.Effects.{estimate, status-in}
 use Rattle.auction.proofs.Bids.{best-bid}

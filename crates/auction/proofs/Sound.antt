@@ -14,7 +14,7 @@ use lib.ListN.{length, getD}
 use Rattle.table.specs.Table.{Table, arc-count, tail-at, head-at, length-at, longest}
 use Rattle.auction.specs.Auction.{State, price-at, bound-at, kept-at, status-at, distance, or-zero, was-reached, terminal}
 use Rattle.auction.specs.HandOver.{reached-count}
-use Rattle.auction.proofs.Basics.{same-or, option-or}
+use Rattle.table.proofs.Basics.{same-or, option-or}
 use Rattle.auction.proofs.Sums.{total, total-same, total-le, total-const, total-one, only-at, only-same, only-other}
 use Rattle.auction.proofs.Effects.{Sizes, Same, estimate, same-estimate, known-distance, status-reached, status-unreached}
 

@@ -10,7 +10,7 @@ use lib.Seq.{getD-set-same, getD-set-other}
 use Rattle.table.specs.Table.{Table, arc-count, tail-at}
 use Rattle.auction.specs.Auction.{State, state, price-at, bound-at, kept-at, status-at, distance, terminal, with-status, reach, fresh, start, iterations}
 use Rattle.auction.specs.HandOver.{reached-count}
-use Rattle.auction.proofs.Basics.{same-or, some-none}
+use Rattle.table.proofs.Basics.{same-or, some-none}
 use Rattle.auction.proofs.Sums.{total-same, total-const}
 use Rattle.auction.proofs.Good.{Good}
 use Rattle.auction.proofs.Effects.{Sizes, estimate, known-distance, zero-distance, Restatused, restatused}

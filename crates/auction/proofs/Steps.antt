@@ -6,7 +6,7 @@ use native.Mathlib.Omega.{arith}
 use lib.ListN.{length, getD}
 use Rattle.table.specs.Table.{Table, head-at}
 use Rattle.auction.specs.Auction.{State, Bid, price-at, kept-at, status-at, distance, without-terminal, best}
-use Rattle.auction.proofs.Basics.{some-none}
+use Rattle.table.proofs.Basics.{some-none}
 use Rattle.auction.proofs.Effects.{Same, estimate, known-distance}
 use Rattle.auction.proofs.Bids.{Child, bid-at, Best}
 use Rattle.auction.proofs.Sound.{Nodes, Chain, chain-moves}

@@ -9,7 +9,7 @@ use lib.Dec.{eqb}
 use lib.ListN.{length, getD, List·getD-eq-default}
 use borrow.Author.Tests.{eq-eqb, ne-eqb}
 use Rattle.auction.specs.HandOver.{entries, greatest, sum}
-use Rattle.auction.proofs.Basics.{same-or}
+use Rattle.table.proofs.Basics.{same-or}
 
 -- the entries are f a, f (a + 1), ..
 pub entries-length : (k a : ℕ) (f : ℕ → ℕ) → length (entries k a f) ≡ k

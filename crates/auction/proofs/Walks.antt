@@ -12,7 +12,7 @@ use borrow.Author.Tests.{ltb-true, eqb-true, lt-ltb, eq-eqb, ne-eqb}
 use Rattle.table.specs.Table.{Table, arc-count, tail-at, head-at, length-at, leads, is-walk, walk-length, no-arc}
 use Rattle.auction.specs.Auction.{State, bound-at, kept-at, status-at, distance, or-zero, was-reached, price-at}
 use Rattle.auction.specs.HandOver.{horizon, prices, tree, arc-or-none, back-from, returned}
-use Rattle.auction.proofs.Basics.{same-or, below-or, true-or, both-true, true-both, option-or}
+use Rattle.table.proofs.Basics.{same-or, below-or, true-or, both-true, true-both, option-or}
 use Rattle.auction.proofs.Sums.{column, past-column, greatest-bound, greatest-least}
 use Rattle.auction.proofs.Good.{Good}
 use Rattle.auction.proofs.Effects.{known-distance, reached-status, status-reached, unreached-status, status-in}

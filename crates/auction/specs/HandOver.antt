@@ -6,7 +6,8 @@ use Prim.Native.Nat.{ℕ, zero, suc, _+_, _-_, max}
 use lib.Dec.{eqb}
 use lib.ListN.{getD}
 use Rattle.table.specs.Table.{Table, arc-count, tail-at, head-at, no-arc, no-distance}
-use Rattle.table.specs.Grounds.{Refusal, refusal, no-refusal}
+use Rattle.table.specs.declared.Refusal.{Refusal}
+use Rattle.table.specs.Refusals.{refusal, no-refusal}
 use Rattle.auction.specs.Auction.{State, Ended, was-reached, distance, kept-at, is-kept, iterations}
 
 -- f v, f (v + 1) and so on: `left` entries

@@ -1,5 +1,6 @@
 pub mod Auction
 pub mod HandOver
+pub mod Plan
 pub mod Promises
 pub mod Demands
 pub mod Rack

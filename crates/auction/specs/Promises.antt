@@ -11,7 +11,7 @@ use Prim.Native.Nat.{ℕ, suc, _+_, _*_, _-_, _/_, _^_, _≤_, _<_}
 use lib.Dec.{eqb}
 use lib.ListN.{length, getD}
 use Rattle.table.specs.Table.{Table, table-of, is-table, is-walk, walk-length, arc-count, tail-at, head-at, length-at, longest, no-arc, no-distance, Below}
-use Rattle.table.specs.Grounds.{Room, table-refusal}
+use Rattle.table.specs.Refusals.{Room, table-refusal}
 use Rattle.auction.specs.Auction.{State, Bid, auction, run, start, next, after, best, terminal, all-reached, was-reached, distance, bound-at, price-at, iterations, most-iterations}
 use Rattle.auction.specs.HandOver.{prices, tree, returned, first-missing}
 

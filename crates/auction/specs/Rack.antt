@@ -7,7 +7,8 @@ use Prim.Native.Nat.{ℕ}
 use lib.Dec.{eqb}
 use lib.ListN.{length}
 use Rattle.table.specs.Table.{Table, table-of, no-arc, no-distance}
-use Rattle.table.specs.Grounds.{Refusal, room, table-refusal}
+use Rattle.table.specs.declared.Refusal.{Refusal}
+use Rattle.table.specs.Refusals.{room, table-refusal}
 use Rattle.auction.specs.Auction.{auction, most-iterations}
 use Rattle.auction.specs.HandOver.{Answer, answer, handed-over}
 

@@ -2,7 +2,8 @@
 // that it hands on to.
 ghost use mathlib.Core.Path.{_≡_};
 ghost use lib.ListN.{length};
-ghost use Rattle.planner.specs.Plan.{answered, plan};
+ghost use Rattle.auction.specs.Plan.{plan};
+ghost use Rattle.planner.specs.Plan.{answered};
 ghost use Rattle.paths.specs.Listing.{tree-in, listing, Lists};
 ghost use Rattle.link_file.specs.Entries.{Read-says, Write-says};
 use link_file::TableRead;

@@ -9,7 +9,7 @@ use borrow.Author.Tests.{le-ltb, ltb-false, eqb-false, eq-eqb}
 use lib.Dec.{eqb, ltb, leb}
 use lib.ListN.{length, take, drop, length-map}
 use lib.Seq.{take-at}
-use Rattle.table.specs.Grounds.{refusal, no-refusal, columns-bad}
+use Rattle.table.specs.Refusals.{refusal, no-refusal, columns-bad}
 use Rattle.table.specs.Table.{Arc, arc, arcs-of, Below, most-nodes, most-arcs, most-wanted}
 use Rattle.link_file.specs.Format.{Content, content, tails-of, heads-of, lengths-of, file-bytes}
 use Rattle.link_file.specs.Reading.{_>>_, _>>=_, Outcome, Reader, got, refused, after, give, here, refuse-if, field, optional, implied, read-nodes, read-wanted, read-header, read-record, read-records, read-content, read-file}
@@ -171,7 +171,7 @@ start-of xs buffer k e = take-at xs (drop (length xs) buffer) k e
 
 pub record Unrefused (n o : ℕ) (ts hs ls ws : List ℕ) (room : ℕ) : Type 0 where
   pub fine : (eqb n 0 || ltb most-nodes n) ≡ false
-  pub equal : columns-bad ts hs ls ≡ false
+  pub equal : columns-bad (length ts) (length hs) (length ls) ≡ false
   pub few : ltb most-wanted (length ws) ≡ false
   pub fits : ltb room (length (file-of n o ts hs ls ws)) ≡ false
 
@@ -188,7 +188,7 @@ four-tests false false false false e = (refl, refl, refl, refl)
 unrefused : (n o : ℕ) (ts hs ls ws : List ℕ) (room : ℕ) → writing n o ts hs ls ws room .number ≡ 0 → Unrefused n o ts hs ls ws room
 unfolding writing
 unrefused n o ts hs ls ws room e =
-    let all = four-tests (eqb n 0 || ltb most-nodes n) (columns-bad ts hs ls) (ltb most-wanted (length ws)) (ltb room (length (file-of n o ts hs ls ws))) e in
+    let all = four-tests (eqb n 0 || ltb most-nodes n) (columns-bad (length ts) (length hs) (length ls)) (ltb most-wanted (length ws)) (ltb room (length (file-of n o ts hs ls ws))) e in
     record { fine = all .0; equal = all .1; few = all .2; fits = all .3 }
 
 is-accepted : (n o : ℕ) (ts hs ls ws : List ℕ) (room : ℕ) → Unrefused n o ts hs ls ws room → writing n o ts hs ls ws room ≡ no-refusal
@@ -276,7 +276,7 @@ unfolding lengths-of
 length-lengths arcs = length-map arcs (λ (a : Arc). a .arc-length)
 
 -- the columns of arcs are equal, and what the writer makes of them is the file of the arcs
-columns-equal : (arcs : List Arc) → length arcs ≤ most-arcs → columns-bad (tails-of arcs) (heads-of arcs) (lengths-of arcs) ≡ false
+columns-equal : (arcs : List Arc) → length arcs ≤ most-arcs → columns-bad (length (tails-of arcs)) (length (heads-of arcs)) (length (lengths-of arcs)) ≡ false
 unfolding columns-bad
 columns-equal arcs few =
     rw (length-tails arcs, length-heads arcs, length-lengths arcs, eq-eqb (length arcs) (length arcs) refl, le-ltb most-arcs (length arcs) few)

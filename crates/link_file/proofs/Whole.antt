@@ -10,7 +10,7 @@ use borrow.Author.Tests.{ltb-false}
 use lib.Dec.{ltb}
 use lib.ListN.{length, drop, length-map}
 use lib.Seq.{sets, sets-eq}
-use Rattle.table.specs.Grounds.{refusal, no-refusal}
+use Rattle.table.specs.Refusals.{refusal, no-refusal}
 use Rattle.table.specs.Table.{Arc, most-arcs, most-wanted}
 use Rattle.link_file.specs.Format.{content, tails-of, heads-of, lengths-of}
 use Rattle.link_file.specs.Reading.{_>>=_, Outcome, got, refused, accepted, list-got, after, give, read-header, read-record, read-records, read-content, read-file}

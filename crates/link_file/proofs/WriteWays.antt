@@ -8,7 +8,7 @@ use borrow.Author.Tests.{lt-ltb, le-ltb, ltb-false, eqb-true, not-false}
 use lib.Dec.{eqb, ltb}
 use lib.ListN.{length, length-append}
 use lib.Seq.{sets}
-use Rattle.table.specs.Grounds.{refusal, no-refusal, columns-bad}
+use Rattle.table.specs.Refusals.{refusal, no-refusal, columns-bad}
 use Rattle.table.specs.Table.{arcs-of, most-nodes, most-arcs, most-wanted}
 use Rattle.link_file.specs.Format.{content, header-bytes, records-bytes, file-bytes}
 use Rattle.link_file.specs.Says.{Put, Equal-columns}
@@ -19,7 +19,7 @@ use Rattle.link_file.proofs.Pieces.{put-then}
 use Rattle.link_file.proofs.Whole.{sets-over}
 
 -- columns that ground 2 does not refuse
-pub equal-columns : (ts hs ls : List ℕ) → columns-bad ts hs ls ≡ false → Equal-columns ts hs ls
+pub equal-columns : (ts hs ls : List ℕ) → columns-bad (length ts) (length hs) (length ls) ≡ false → Equal-columns ts hs ls
 unfolding columns-bad
 equal-columns ts hs ls e =
     let same : (eqb (length ts) (length hs) && eqb (length hs) (length ls)) ≡ true =
@@ -45,11 +45,11 @@ module _ (n o : ℕ) (ts hs ls ws out : List ℕ) where
   refuses-count bad = rw bad
 
   module _ (fine : (eqb n 0 || ltb most-nodes n) ≡ false) where
-    pub refuses-columns : columns-bad ts hs ls ≡ true → writing n o ts hs ls ws (length out) ≡ refusal 2 0
+    pub refuses-columns : columns-bad (length ts) (length hs) (length ls) ≡ true → writing n o ts hs ls ws (length out) ≡ refusal 2 0
     unfolding writing
     refuses-columns bad = rw (fine, bad)
 
-    module _ (equal : columns-bad ts hs ls ≡ false) where
+    module _ (equal : columns-bad (length ts) (length hs) (length ls) ≡ false) where
       pub refuses-wanted : most-wanted < length ws → writing n o ts hs ls ws (length out) ≡ refusal 5 most-wanted
       unfolding writing
       refuses-wanted many = rw (fine, equal, lt-ltb most-wanted (length ws) many)

@@ -9,7 +9,8 @@ use mathlib.Core.Path.{_≡_}
 use Prim.Native.Nat.{ℕ}
 use lib.Dec.{eqb, ltb}
 use lib.ListN.{length, drop}
-use Rattle.table.specs.Grounds.{Refusal, refusal, no-refusal, columns-bad}
+use Rattle.table.specs.declared.Refusal.{Refusal}
+use Rattle.table.specs.Refusals.{refusal, no-refusal, columns-bad}
 use Rattle.table.specs.Table.{arcs-of, most-nodes, most-arcs, most-wanted}
 use Rattle.link_file.specs.Format.{Content, content, tails-of, heads-of, lengths-of, file-bytes}
 use Rattle.link_file.specs.Reading.{Outcome, got, refused, read-file}
@@ -61,7 +62,7 @@ file-of n o ts hs ls ws = file-bytes (content n o ws (arcs-of ts hs ls))
 unfoldable pub writing : (n origin : ℕ) → (tails heads lengths wanted : List ℕ) → (room : ℕ) → Refusal
 writing n o ts hs ls ws room =
     cond (eqb n 0 || ltb most-nodes n) (refusal 1 0)
-    (cond (columns-bad ts hs ls) (refusal 2 0)
+    (cond (columns-bad (length ts) (length hs) (length ls)) (refusal 2 0)
     (cond (ltb most-wanted (length ws)) (refusal 5 most-wanted)
     (cond (ltb room (length (file-of n o ts hs ls ws))) (refusal 13 0) no-refusal)))
 

@@ -13,7 +13,7 @@ ghost use mathlib.Core.Bool.{not, _&&_, _||_};
 ghost use mathlib.Core.List.{[]};
 ghost use mathlib.Core.Path.{_≡_};
 ghost use lib.Dec.{eqb, ltb};
-ghost use Rattle.table.specs.Grounds.{refusal};
+ghost use Rattle.table.specs.Refusals.{refusal};
 ghost use Rattle.table.specs.Table.{most-arcs};
 ghost use Rattle.link_file.specs.Format.{content};
 ghost use Rattle.link_file.specs.Entries.{too-short, read-answer, Read-says, write-answer, Write-says};

@@ -7,7 +7,7 @@ use Prim.Native.Nat.{ℕ, _≤_, _<_}
 use native.Mathlib.Omega.{arith}
 use lib.ListN.{length, drop}
 use borrow.Author.Tests.{eq-eqb, ne-eqb, lt-ltb, le-ltb}
-use Rattle.auction.proofs.Basics.{option-or}
+use Rattle.table.proofs.Basics.{option-or}
 use Rattle.paths.specs.Listing.{Tree, node-count, path, nodes-of, Listing, refused, listed, ground-of, into, listing, Lists}
 use Rattle.paths.specs.declared.Listed.{Listed}
 use Rattle.paths.proofs.Writing.{path-size, is-some}

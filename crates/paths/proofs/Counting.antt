@@ -6,7 +6,7 @@ use mathlib.Core.Logic.{⊎-elim}
 use Prim.Native.Nat.{ℕ, suc, _+_, _-_, _≤_, _<_}
 use native.Mathlib.Omega.{arith}
 use lib.ListN.{length}
-use Rattle.auction.proofs.Basics.{true-or}
+use Rattle.table.proofs.Basics.{true-or}
 use Rattle.paths.specs.Listing.{Tree, node-count, node-before, leads-back, back-to, path, nodes-of}
 use Rattle.paths.proofs.Entries.{leads, at-origin, one-back, not-back}
 

@@ -7,7 +7,7 @@ use native.Mathlib.Omega.{arith}
 use lib.Dec.{ltb, leb, eqb}
 use borrow.Author.Tests.{eq-eqb, ne-eqb, lt-leb, leb-false, ltb-false, eqb-true, not-false}
 use Rattle.table.specs.Table.{most-nodes, most-arcs}
-use Rattle.auction.proofs.Basics.{true-or}
+use Rattle.table.proofs.Basics.{true-or}
 use Rattle.paths.specs.Listing.{count-bad, ends-bad, early-ground}
 
 pub neither : (a b : Bool) → (a || b) ≡ false → (a ≡ false) × (b ≡ false)

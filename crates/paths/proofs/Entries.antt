@@ -8,7 +8,7 @@ use native.Mathlib.Omega.{arith}
 use lib.Dec.{ltb, eqb}
 use lib.ListN.{length, getD}
 use borrow.Author.Tests.{ltb-true, eqb-true, lt-ltb, le-ltb, eq-eqb, ne-eqb}
-use Rattle.auction.proofs.Basics.{both-true}
+use Rattle.table.proofs.Basics.{both-true}
 use Rattle.paths.specs.Listing.{Tree, node-count, entry, node-before, leads-back, back-to}
 
 -- within a list the default does not count

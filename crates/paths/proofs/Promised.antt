@@ -8,10 +8,10 @@ use lib.Dec.{ltb, eqb}
 use lib.ListN.{length}
 use borrow.Author.Tests.{eqb-true, not-false}
 use Rattle.table.specs.Table.{table, table-of, is-walk, most-nodes, most-arcs}
-use Rattle.table.specs.Grounds.{Room, refusal, columns-bad, table-refusal}
+use Rattle.table.specs.Refusals.{Room, refusal, columns-bad, table-refusal}
 use Rattle.auction.specs.HandOver.{tree}
 use Rattle.auction.specs.Promises.{last-state, route, Walk-shortest, Not-turned-down}
-use Rattle.auction.proofs.Basics.{both-true}
+use Rattle.table.proofs.Basics.{both-true}
 use Rattle.auction.proofs.Good.{good, not-turned-down}
 use Rattle.auction.proofs.Sums.{entries-length}
 use Rattle.auction.proofs.Promised.{walk-shortest}
@@ -36,7 +36,7 @@ columns-equal : (n o : ℕ) (ts hs ls ws : List ℕ) (rooms : List Room) → tab
 unfolding table-refusal columns-bad refusal
 columns-equal n o ts hs ls ws rooms e =
     let a = refuted (eqb n 0 || ltb most-nodes n) (λ h. let z : _≡_ {A = ℕ} 1 0 = rw h at e in omega arith) in
-    let b = refuted (columns-bad ts hs ls) (λ h. let z : _≡_ {A = ℕ} 2 0 = rw (a, h) at e in omega arith) in
+    let b = refuted (columns-bad (length ts) (length hs) (length ls)) (λ h. let z : _≡_ {A = ℕ} 2 0 = rw (a, h) at e in omega arith) in
     let same = eqb (length ts) (length hs) && eqb (length hs) (length ls) in
     let c = both-true (eqb (length ts) (length hs)) (eqb (length hs) (length ls)) (not-false same (neither (not same) (ltb most-arcs (length ts)) b .0)) in
     (eqb-true (length ts) (length hs) (c .0), eqb-true (length hs) (length ls) (c .1))

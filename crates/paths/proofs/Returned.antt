@@ -12,7 +12,7 @@ use lib.ListN.{length, getD}
 use borrow.Author.Tests.{ltb-true, eqb-true, eq-eqb, lt-ltb}
 use Rattle.table.specs.Table.{Table, arc-count, tail-at, head-at, leads, is-walk, no-arc}
 use Rattle.auction.specs.HandOver.{back-from, returned}
-use Rattle.auction.proofs.Basics.{true-or, same-or, both-true}
+use Rattle.table.proofs.Basics.{true-or, same-or, both-true}
 use Rattle.auction.proofs.Good.{Good}
 use Rattle.paths.specs.Listing.{Tree, node-count, entry, node-before, leads-back, back-to, path}
 use Rattle.paths.specs.Promises.{heads-along, nodes-of-walk}

@@ -8,7 +8,7 @@ use Prim.Native.Nat.{ℕ, zero, suc, _+_, _-_, _≤_, _<_}
 use native.Mathlib.Omega.{arith}
 use lib.ListN.{length, set, drop, length-set}
 use lib.Seq.{drop-cons, drop-set-lt, getD-set-same}
-use Rattle.auction.proofs.Basics.{true-or, same-or, some-none, some-same}
+use Rattle.table.proofs.Basics.{true-or, same-or, some-none, some-same}
 use Rattle.paths.specs.Listing.{Tree, node-count, node-before, leads-back, back-to, path, nodes-of}
 use Rattle.paths.proofs.Entries.{leads, at-origin, one-back, not-back}
 

@@ -6,7 +6,7 @@ use mathlib.Core.List.{List, [], _∷_}
 use Prim.Native.Nat.{ℕ, _^_, _≤_, _<_}
 use lib.ListN.{length}
 use Rattle.table.specs.Table.{Table, table-of, is-table, head-at, Below}
-use Rattle.table.specs.Grounds.{Room, table-refusal}
+use Rattle.table.specs.Refusals.{Room, table-refusal}
 use Rattle.auction.specs.Auction.{was-reached}
 use Rattle.auction.specs.HandOver.{tree}
 use Rattle.auction.specs.Promises.{last-state, route}

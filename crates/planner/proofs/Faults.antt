@@ -11,10 +11,11 @@ use lib.ListN.{length, getD, drop, drop-of-length-le}
 use lib.Seq.{drop-cons}
 use borrow.Author.Tests.{lt-ltb, le-ltb, le-leb, lt-leb, eq-eqb, ne-eqb, not-true, not-false}
 use Rattle.table.specs.Table.{arc, arcs-of, most-nodes, most-arcs, most-wanted}
-use Rattle.table.specs.Grounds.{Refusal, Room, room, refusal, no-refusal, or-else, columns-bad, rooms-fit, table-refusal, wanted-from, wanted-refusal, arc-fault, arcs-from, arcs-refusal}
-use Rattle.auction.proofs.Basics.{true-or}
+use Rattle.table.specs.declared.Refusal.{Refusal}
+use Rattle.table.specs.Refusals.{Room, room, refusal, no-refusal, or-else, columns-bad, rooms-fit, table-refusal, wanted-from, wanted-refusal, arc-fault, arcs-from, arcs-refusal}
+use Rattle.table.proofs.Basics.{true-or}
 use Rattle.planner.specs.declared.grounds.Fault.{Fault}
-use Rattle.planner.specs.Plan.{rooms}
+use Rattle.auction.specs.Plan.{rooms}
 use Rattle.planner.specs.Lent.{refusal-of}
 
 pub no-fault : (f : Fault) → (f .number ≡ 0) × (f .place ≡ 0) → refusal-of f ≡ no-refusal
@@ -101,18 +102,18 @@ not-both false b e = refl
 
 -- 2: the three columns
 module _ (ts hs ls : List ℕ) where
-  pub columns-differ : ((length ts ≡ length hs → ⊥) ⊎ (not (eqb (length hs) (length ls)) ≡ true)) → columns-bad ts hs ls ≡ true
+  pub columns-differ : ((length ts ≡ length hs → ⊥) ⊎ (not (eqb (length hs) (length ls)) ≡ true)) → columns-bad (length ts) (length hs) (length ls) ≡ true
   unfolding columns-bad
   columns-differ e =
       either-first (not (eqb (length ts) (length hs) && eqb (length hs) (length ls))) (ltb most-arcs (length ts))
       (not-both (eqb (length ts) (length hs)) (eqb (length hs) (length ls))
       (⊎-elim (λ (z : length ts ≡ length hs → ⊥). inl (ne-eqb (length ts) (length hs) z)) (λ (z : not (eqb (length hs) (length ls)) ≡ true). inr (not-true _ z)) e))
 
-  pub too-many-arcs : ltb most-arcs (length ts) ≡ true → columns-bad ts hs ls ≡ true
+  pub too-many-arcs : ltb most-arcs (length ts) ≡ true → columns-bad (length ts) (length hs) (length ls) ≡ true
   unfolding columns-bad
   too-many-arcs e = either-second (not (eqb (length ts) (length hs) && eqb (length hs) (length ls))) (ltb most-arcs (length ts)) e
 
-  pub columns-fine : length ts ≡ length hs → not (eqb (length hs) (length ls)) ≡ false → ltb most-arcs (length ts) ≡ false → columns-bad ts hs ls ≡ false
+  pub columns-fine : length ts ≡ length hs → not (eqb (length hs) (length ls)) ≡ false → ltb most-arcs (length ts) ≡ false → columns-bad (length ts) (length hs) (length ls) ≡ false
   unfolding columns-bad
   columns-fine a b c = rw (eq-eqb (length ts) (length hs) a, not-false (eqb (length hs) (length ls)) b, c)
 
@@ -149,11 +150,11 @@ module _ (n o : ℕ) (ts hs ls ws : List ℕ) (rs : List Room) where
   at-1 e = rw e
 
   module _ (nodes-fine : (eqb n 0 || ltb most-nodes n) ≡ false) where
-    pub at-2 : columns-bad ts hs ls ≡ true → refusal 2 0 ≡ table-refusal n o ts hs ls ws rs
+    pub at-2 : columns-bad (length ts) (length hs) (length ls) ≡ true → refusal 2 0 ≡ table-refusal n o ts hs ls ws rs
     unfolding table-refusal
     at-2 e = rw (nodes-fine, e)
 
-    module _ (arcs-fine : columns-bad ts hs ls ≡ false) where
+    module _ (arcs-fine : columns-bad (length ts) (length hs) (length ls) ≡ false) where
       pub at-3 : rooms-fit rs ≡ false → refusal 3 0 ≡ table-refusal n o ts hs ls ws rs
       unfolding table-refusal
       at-3 e = rw (nodes-fine, arcs-fine, e)

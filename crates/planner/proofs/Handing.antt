@@ -9,17 +9,18 @@ use lib.Dec.{ltb, eqb}
 use lib.ListN.{length, getD}
 use borrow.Author.Tests.{ltb-true, lt-ltb, le-ltb, ne-eqb}
 use Rattle.table.specs.Table.{Table, arc-count, tail-at, head-at, no-arc, no-distance}
-use Rattle.table.specs.Grounds.{Refusal, refusal, no-refusal}
+use Rattle.table.specs.declared.Refusal.{Refusal}
+use Rattle.table.specs.Refusals.{refusal, no-refusal}
 use Rattle.auction.specs.Auction.{State, Ended, ended, auction, iterations, was-reached, distance, kept-at, is-kept}
 use Rattle.auction.specs.HandOver.{answer, handed-over, route-refusal, entries, greatest, sum, horizon, reached-count, distances, prices, tree, marks, mark, mark-number, arc-or-none}
-use Rattle.auction.proofs.Basics.{same-or, true-or}
+use Rattle.table.proofs.Basics.{same-or, true-or}
 use Rattle.auction.proofs.Sums.{greatest-bound}
 use Rattle.solver.specs.declared.state.Progress.{Progress}
 use Rattle.solver.specs.Seen.{seen, arc-of}
 use Rattle.solver.specs.Steps.{Ran}
 use Rattle.solver.proofs.Arrays.{seen-status, seen-distance, seen-kept, some-arc, no-kept}
 use Rattle.planner.specs.declared.grounds.Fault.{Fault}
-use Rattle.planner.specs.Plan.{routed}
+use Rattle.auction.specs.Plan.{routes-of}
 use Rattle.planner.specs.Lent.{Known, Ends, refusal-of}
 use Rattle.planner.proofs.Entries.{entries-same}
 
@@ -141,8 +142,8 @@ last-so t ws missing x ran = ap (λ (e : Ended). e .last) (ran .ended-so)
 pub assembled : (t : Table) (ws : List ℕ) (missing : ℕ) (x : State) → Ran t ws missing x → (f : Fault) (reached h i c e d : ℕ) (ds ps ts ms : List ℕ) →
     refusal-of f ≡ cond (eqb missing (length ws)) no-refusal (refusal 8 missing) → reached ≡ reached-count t x → h ≡ horizon t x → i ≡ iterations x →
     c ≡ x .contractions → e ≡ x .extensions → d ≡ x .deletions → ds ≡ distances t x → ps ≡ prices t x → ts ≡ tree t x → ms ≡ marks t x →
-    answer (f .number) (f .place) reached h i c e d ds ps ts ms ≡ routed t ws
-unfolding routed handed-over refusal-of refusal
+    answer (f .number) (f .place) reached h i c e d ds ps ts ms ≡ routes-of t ws
+unfolding routes-of handed-over refusal-of refusal
 assembled t ws missing x ran f reached h i c e d ds ps ts ms ef er eh ei ec ee ed ads aps ats ams =
     let r = fault-so t ws missing x ran f ef in
     let number : f .number ≡ route-refusal ws (auction t ws) .number = ap (λ (q : Refusal). q .number) r in

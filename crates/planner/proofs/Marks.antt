@@ -10,7 +10,7 @@ use lib.ListN.{getD}
 use borrow.Author.Tests.{ne-eqb, eq-eqb, lt-ltb, le-ltb}
 use mir.Val.{boolByte}
 use Rattle.auction.specs.HandOver.{mark-number}
-use Rattle.auction.proofs.Basics.{same-or}
+use Rattle.table.proofs.Basics.{same-or}
 
 abbrev pub case-of : (head tail kept : Bool) → ℕ
 case-of h t k = boolByte h * 4 + boolByte t * 2 + boolByte k

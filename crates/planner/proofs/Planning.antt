@@ -10,10 +10,11 @@ use lib.ListN.{length, getD, take}
 use lib.Seq.{length-take-le}
 use borrow.Author.Tests.{lt-ltb, leb-true, eqb-true, eq-eqb, ne-eqb, not-false, ltb-false}
 use Rattle.table.specs.Table.{Table, table, table-of, is-table, arc-count, arcs-good, nodes-below, most-nodes, most-arcs, Below, Arc, arcs-of, most-wanted}
-use Rattle.table.specs.Grounds.{refusal, room, table-refusal, columns-bad, rooms-fit, Refusal, no-refusal, or-else, wanted-from, wanted-refusal, arc-fault, arcs-from, arcs-refusal}
+use Rattle.table.specs.declared.Refusal.{Refusal}
+use Rattle.table.specs.Refusals.{refusal, room, table-refusal, columns-bad, rooms-fit, no-refusal, or-else, wanted-from, wanted-refusal, arc-fault, arcs-from, arcs-refusal}
 use Rattle.auction.specs.Auction.{fresh, was-reached}
 use Rattle.auction.specs.HandOver.{Answer, answer}
-use Rattle.auction.proofs.Basics.{both-true, either-false, inside, same-or, true-or}
+use Rattle.table.proofs.Basics.{both-true, either-false, inside, same-or, true-or}
 use Rattle.auction.specs.Promises.{Not-turned-down}
 use Rattle.auction.proofs.Good.{good, not-turned-down, passed}
 use Rattle.solver.specs.declared.state.Progress.{Progress}
@@ -22,7 +23,7 @@ use Rattle.solver.specs.Steps.{Ran}
 use Rattle.solver.proofs.Arrays.{seen-bound, seen-status, no-bound}
 use Rattle.solver.proofs.Columns.{count-so, tail-so, head-so, nodes-so, origin-so}
 use Rattle.planner.specs.declared.grounds.Fault.{Fault}
-use Rattle.planner.specs.Plan.{rooms, ground, plan, routed, turned-down}
+use Rattle.auction.specs.Plan.{rooms, plan-refusal, plan, routes-of, refused-plan}
 use Rattle.planner.specs.Lent.{Known, Ends, Fitting, Columns, refusal-of}
 
 -- AFTER THE RUN
@@ -98,12 +99,12 @@ part-long l n e h = sym (length-take-le n l (omega arith))
 
 -- THE GROUNDS
 module _ (n o : ℕ) (ts hs ls ws ds ps tr ms : List ℕ) where
-  pub turned : (f : Fault) → refusal-of f ≡ ground n o ts hs ls ws ds ps tr ms → (f .number ≡ 0 → ⊥) →
+  pub turned : (f : Fault) → refusal-of f ≡ plan-refusal n o ts hs ls ws ds ps tr ms → (f .number ≡ 0 → ⊥) →
       answer (f .number) (f .place) 0 0 0 0 0 0 ds ps tr ms ≡ plan n o ts hs ls ws ds ps tr ms
-  unfolding plan turned-down refusal-of refusal
+  unfolding plan refused-plan refusal-of refusal
   turned f e d = rw (← e, ne-eqb (f .number) 0 d)
 
-  pub planned : (f : Fault) (a : Answer) → refusal-of f ≡ ground n o ts hs ls ws ds ps tr ms → f .number ≡ 0 → a ≡ routed (table-of n o ts hs ls) ws →
+  pub planned : (f : Fault) (a : Answer) → refusal-of f ≡ plan-refusal n o ts hs ls ws ds ps tr ms → f .number ≡ 0 → a ≡ routes-of (table-of n o ts hs ls) ws →
       a ≡ plan n o ts hs ls ws ds ps tr ms
   unfolding plan refusal-of refusal
   planned f a e z r = rw (← e, eq-eqb (f .number) 0 z) r
@@ -124,11 +125,11 @@ module _ (n o : ℕ) (ts hs ls ws ds ps tr ms : List ℕ) where
       let s = both-true (eqb d m) true (r .1) in
       (eqb-true a n (p .0), eqb-true b n (q .0), eqb-true c n (r .0), eqb-true d m (s .0))
 
-  pub fine : Below (2 ^ 32) ls → ground n o ts hs ls ws ds ps tr ms .number ≡ 0 → Fine
-  unfolding ground table-refusal columns-bad Not-turned-down
+  pub fine : Below (2 ^ 32) ls → plan-refusal n o ts hs ls ws ds ps tr ms .number ≡ 0 → Fine
+  unfolding plan-refusal table-refusal columns-bad Not-turned-down
   fine low e =
       let p = passed (eqb n 0 || ltb most-nodes n) _ 0 0 e in
-      let q = passed (columns-bad ts hs ls) _ 1 0 (p .1) in
+      let q = passed (columns-bad (length ts) (length hs) (length ls)) _ 1 0 (p .1) in
       let r = passed (not (rooms-fit (rooms n (length ts) (length ds) (length ps) (length tr) (length ms)))) _ 2 0 (q .1) in
       let c = either-false (not (eqb (length ts) (length hs) && eqb (length hs) (length ls))) (ltb most-arcs (length ts)) (q .0) in
       let h = both-true (eqb (length ts) (length hs)) (eqb (length hs) (length ls)) (not-false _ (c .0)) in
@@ -177,32 +178,32 @@ arcs-low i n (a ∷ more) =
     cond-low (eqb (arc-fault n a) 0) (arcs-from (suc i) n more) (refusal (arc-fault n a) i) 7 (arcs-low (suc i) n more) (fault-low n a)
 
 module _ (n o : ℕ) (ts hs ls ws ds ps tr ms : List ℕ) where
-  ground-low : ground n o ts hs ls ws ds ps tr ms .number ≤ 7
-  unfolding ground table-refusal or-else wanted-refusal arcs-refusal refusal
+  ground-low : plan-refusal n o ts hs ls ws ds ps tr ms .number ≤ 7
+  unfolding plan-refusal table-refusal or-else wanted-refusal arcs-refusal refusal
   ground-low =
       let w = cond-low (ltb most-wanted (length ws)) (refusal 5 most-wanted) (wanted-from 0 n ws) 7 (omega arith) (wanted-low 0 n ws) in
       let a = arcs-low 0 n (arcs-of ts hs ls) in
       cond-low (eqb n 0 || ltb most-nodes n) (refusal 1 0) _ 7 (omega arith)
-      (cond-low (columns-bad ts hs ls) (refusal 2 0) _ 7 (omega arith)
+      (cond-low (columns-bad (length ts) (length hs) (length ls)) (refusal 2 0) _ 7 (omega arith)
       (cond-low (not (rooms-fit (rooms n (length ts) (length ds) (length ps) (length tr) (length ms)))) (refusal 3 0) _ 7 (omega arith)
       (cond-low (leb n o) (refusal 4 0) _ 7 (omega arith) (cond-low (eqb (wanted-refusal n ws .number) 0) (arcs-refusal n (arcs-of ts hs ls)) (wanted-refusal n ws) 7 a w))))
 
-  turned-number : (ground n o ts hs ls ws ds ps tr ms .number ≡ 0 → ⊥) → plan n o ts hs ls ws ds ps tr ms .number ≡ ground n o ts hs ls ws ds ps tr ms .number
-  unfolding plan turned-down
-  turned-number d = rw (ne-eqb (ground n o ts hs ls ws ds ps tr ms .number) 0 d)
+  turned-number : (plan-refusal n o ts hs ls ws ds ps tr ms .number ≡ 0 → ⊥) → plan n o ts hs ls ws ds ps tr ms .number ≡ plan-refusal n o ts hs ls ws ds ps tr ms .number
+  unfolding plan refused-plan
+  turned-number d = rw (ne-eqb (plan-refusal n o ts hs ls ws ds ps tr ms .number) 0 d)
 
-  routed-so : ground n o ts hs ls ws ds ps tr ms .number ≡ 0 → plan n o ts hs ls ws ds ps tr ms ≡ routed (table-of n o ts hs ls) ws
+  routed-so : plan-refusal n o ts hs ls ws ds ps tr ms .number ≡ 0 → plan n o ts hs ls ws ds ps tr ms ≡ routes-of (table-of n o ts hs ls) ws
   unfolding plan
-  routed-so e = rw (eq-eqb (ground n o ts hs ls ws ds ps tr ms .number) 0 e)
+  routed-so e = rw (eq-eqb (plan-refusal n o ts hs ls ws ds ps tr ms .number) 0 e)
 
   pub of-the-auction : Below (2 ^ 32) ls → ((plan n o ts hs ls ws ds ps tr ms .number ≡ 0) ⊎ (plan n o ts hs ls ws ds ps tr ms .number ≡ 8)) →
-      (is-table (table-of n o ts hs ls) ws ≡ true) × (plan n o ts hs ls ws ds ps tr ms ≡ routed (table-of n o ts hs ls) ws)
+      (is-table (table-of n o ts hs ls) ws ≡ true) × (plan n o ts hs ls ws ds ps tr ms ≡ routes-of (table-of n o ts hs ls) ws)
   of-the-auction low e =
       ⊎-elim
-      (λ (z : ground n o ts hs ls ws ds ps tr ms .number ≡ 0). (fine n o ts hs ls ws ds ps tr ms low z .table-good, routed-so z))
-      (λ (z : ground n o ts hs ls ws ds ps tr ms .number ≡ 0 → ⊥).
+      (λ (z : plan-refusal n o ts hs ls ws ds ps tr ms .number ≡ 0). (fine n o ts hs ls ws ds ps tr ms low z .table-good, routed-so z))
+      (λ (z : plan-refusal n o ts hs ls ws ds ps tr ms .number ≡ 0 → ⊥).
       absurd
       (⊎-elim (λ (q : plan n o ts hs ls ws ds ps tr ms .number ≡ 0). z (sym (turned-number z) ∙ q))
       (λ (q : plan n o ts hs ls ws ds ps tr ms .number ≡ 8). omega (arith, turned-number z, q, ground-low))
       e))
-      (same-or (ground n o ts hs ls ws ds ps tr ms .number) 0)
+      (same-or (plan-refusal n o ts hs ls ws ds ps tr ms .number) 0)

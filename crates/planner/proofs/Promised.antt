@@ -6,18 +6,19 @@ use mathlib.Core.Logic.{_⊎_, inl, inr, ⊎-elim}
 use Prim.Native.Nat.{ℕ}
 use borrow.Author.Tests.{eq-eqb, ne-eqb}
 use Rattle.table.specs.Table.{Table, table-of}
-use Rattle.table.specs.Grounds.{refusal, no-refusal}
+use Rattle.table.specs.Refusals.{refusal, no-refusal}
 use Rattle.auction.specs.Auction.{auction}
 use Rattle.auction.specs.HandOver.{Answer, handed-over, route-refusal}
 use Rattle.auction.specs.Demands.{Demands, Demands-met}
-use Rattle.auction.proofs.Basics.{true-or}
+use Rattle.table.proofs.Basics.{true-or}
 use Rattle.auction.proofs.Demanded.{demands-met}
-use Rattle.planner.specs.Plan.{answered, ground, plan, routed, turned-down}
+use Rattle.auction.specs.Plan.{plan-refusal, plan, routes-of, refused-plan}
+use Rattle.planner.specs.Plan.{answered}
 use Rattle.planner.specs.Promise.{Plans-kept, Refusals-touch-nothing}
 use Rattle.planner.proofs.Planning.{of-the-auction}
 
 pub plans-kept : Plans-kept
-unfolding Plans-kept Demands-met answered routed
+unfolding Plans-kept Demands-met answered routes-of
 plans-kept n o ts hs ls ws ds ps tr ms ds′ ps′ tr′ ms′ r fits e number =
     let t = table-of n o ts hs ls in
     let same : plan n o ts hs ls ws ds ps tr ms .number ≡ r .number = ap (λ (a : Answer). a .number) (sym e) in
@@ -27,23 +28,23 @@ plans-kept n o ts hs ls ws ds ps tr ms ds′ ps′ tr′ ms′ r fits e number =
     subst (λ (a : Answer). Demands t ws a) (sym (e ∙ q .1)) (demands-met t ws (q .0))
 
 -- a table that is not turned down gives number 0 or 8
-route-number : (t : Table) (ws : List ℕ) → (routed t ws .number ≡ 0) ⊎ (routed t ws .number ≡ 8)
-unfolding routed handed-over route-refusal no-refusal refusal
+route-number : (t : Table) (ws : List ℕ) → (routes-of t ws .number ≡ 0) ⊎ (routes-of t ws .number ≡ 8)
+unfolding routes-of handed-over route-refusal no-refusal refusal
 route-number t ws =
     ⊎-elim (λ (r : auction t ws .routed ≡ true). inl (rw r)) (λ (r : auction t ws .routed ≡ false). inr (rw r)) (true-or (auction t ws .routed))
 
 pub refusals-touch-nothing : Refusals-touch-nothing
-unfolding Refusals-touch-nothing answered plan turned-down
+unfolding Refusals-touch-nothing answered plan refused-plan
 refusals-touch-nothing n o ts hs ls ws ds ps tr ms ds′ ps′ tr′ ms′ r e not-zero not-eight =
-    let f = ground n o ts hs ls ws ds ps tr ms in
+    let f = plan-refusal n o ts hs ls ws ds ps tr ms in
     let t = table-of n o ts hs ls in
     let refused : f .number ≡ 0 → ⊥ =
     λ z.
-    let same : answered r ds′ ps′ tr′ ms′ ≡ routed t ws = e ∙ ap (λ (b : Bool). cond b (routed t ws) (turned-down f ds ps tr ms)) (eq-eqb (f .number) 0 z) in
-    let number : r .number ≡ routed t ws .number = ap (λ (a : Answer). a .number) same in
-    ⊎-elim (λ (q : routed t ws .number ≡ 0). not-zero (number ∙ q)) (λ (q : routed t ws .number ≡ 8). not-eight (number ∙ q)) (route-number t ws) in
-    let so : answered r ds′ ps′ tr′ ms′ ≡ turned-down f ds ps tr ms =
-    e ∙ ap (λ (b : Bool). cond b (routed t ws) (turned-down f ds ps tr ms)) (ne-eqb (f .number) 0 refused) in
+    let same : answered r ds′ ps′ tr′ ms′ ≡ routes-of t ws = e ∙ ap (λ (b : Bool). cond b (routes-of t ws) (refused-plan f ds ps tr ms)) (eq-eqb (f .number) 0 z) in
+    let number : r .number ≡ routes-of t ws .number = ap (λ (a : Answer). a .number) same in
+    ⊎-elim (λ (q : routes-of t ws .number ≡ 0). not-zero (number ∙ q)) (λ (q : routes-of t ws .number ≡ 8). not-eight (number ∙ q)) (route-number t ws) in
+    let so : answered r ds′ ps′ tr′ ms′ ≡ refused-plan f ds ps tr ms =
+    e ∙ ap (λ (b : Bool). cond b (routes-of t ws) (refused-plan f ds ps tr ms)) (ne-eqb (f .number) 0 refused) in
     record {
       distances-stay = ap (λ (a : Answer). a .distances) so;
       prices-stay = ap (λ (a : Answer). a .prices) so;

@@ -4,7 +4,8 @@ use mathlib.Core.List.{List}
 use Prim.Native.Nat.{ℕ, _≤_, _<_}
 use lib.ListN.{length, getD}
 use Rattle.table.specs.Table.{Table, arc-count, tail-at, head-at, no-distance, most-nodes, most-arcs}
-use Rattle.table.specs.Grounds.{Refusal, refusal}
+use Rattle.table.specs.declared.Refusal.{Refusal}
+use Rattle.table.specs.Refusals.{refusal}
 use Rattle.planner.specs.declared.grounds.Fault.{Fault}
 
 -- a ground's number and place, as the code has them

@@ -9,7 +9,8 @@ use Prim.Native.Nat.{ℕ, _^_}
 use Rattle.table.specs.Table.{table-of, Below}
 use Rattle.auction.specs.Demands.{Demands}
 use Rattle.planner.specs.declared.Planned.{Planned}
-use Rattle.planner.specs.Plan.{answered, plan}
+use Rattle.auction.specs.Plan.{plan}
+use Rattle.planner.specs.Plan.{answered}
 
 -- `Below` is what the length column's type says; the equation is plan_routes' contract.
 unfoldable pub Plans-kept : Type 0

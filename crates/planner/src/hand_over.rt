@@ -6,12 +6,13 @@ ghost use Prim.Native.Nat.{ℕ, max, _+_, _≤_, _<_};
 ghost use lib.Dec.{ltb, eqb};
 ghost use lib.ListN.{length, getD};
 ghost use Rattle.table.specs.Table.{Table, arc-count, tail-at, head-at, no-arc, no-distance};
-ghost use Rattle.table.specs.Grounds.{no-refusal, refusal};
+ghost use Rattle.table.specs.Refusals.{no-refusal, refusal};
 ghost use Rattle.auction.specs.HandOver.{horizon, reached-count, distances, prices, tree, marks, mark-number};
 ghost use Rattle.solver.specs.declared.state.Progress.{Progress};
 ghost use Rattle.solver.specs.Seen.{seen, too-many};
 ghost use Rattle.solver.specs.Steps.{Ran};
-ghost use Rattle.planner.specs.Plan.{answered, routed};
+ghost use Rattle.auction.specs.Plan.{routes-of};
+ghost use Rattle.planner.specs.Plan.{answered};
 ghost use Rattle.planner.specs.Lent.{Known, Ends, Fitting, Columns, refusal-of};
 use super::Planned;
 use super::grounds::Fault;
@@ -209,7 +210,7 @@ pub fn hand_over(
     requires { ⌜ Ends (now tails) (now heads) (now kept) (now status) ⌝ }
     requires { ⌜ Fitting (length (now status)) (length (now heads)) (now distances) (now prices) (now tree) (now marks) ⌝ }
     requires { ⌜ (end .missing ≤ 1024) × (end .progress .contractions + end .progress .extensions + end .progress .deletions < too-many) ⌝ }
-    ensures { λ r. ⌜ ((t : Table) (ws path price : List ℕ) → Columns t (length (now (status .entry))) (now (tails .entry)) (now (heads .entry)) → length ws ≡ wanted → Ran t ws (end .missing) (seen path price (now (bound .entry)) (now (kept .entry)) (now (status .entry)) (end .progress)) → answered r (now (distances .exit)) (now (prices .exit)) (now (tree .exit)) (now (marks .exit)) ≡ routed t ws) ⌝ }
+    ensures { λ r. ⌜ ((t : Table) (ws path price : List ℕ) → Columns t (length (now (status .entry))) (now (tails .entry)) (now (heads .entry)) → length ws ≡ wanted → Ran t ws (end .missing) (seen path price (now (bound .entry)) (now (kept .entry)) (now (status .entry)) (end .progress)) → answered r (now (distances .exit)) (now (prices .exit)) (now (tree .exit)) (now (marks .exit)) ≡ routes-of t ws) ⌝ }
 {
     let fault = route_fault(end.missing, wanted);
     let reached = count_reached(status);

@@ -5,7 +5,8 @@ ghost use lib.ListN.{length};
 ghost use Rattle.table.specs.Table.{table-of, is-table};
 ghost use Rattle.auction.specs.Auction.{fresh};
 ghost use Rattle.solver.specs.Seen.{seen, Sized};
-ghost use Rattle.planner.specs.Plan.{answered, routed, plan};
+ghost use Rattle.auction.specs.Plan.{routes-of, plan};
+ghost use Rattle.planner.specs.Plan.{answered};
 ghost use Rattle.planner.specs.Lent.{Fitting};
 use grounds::table_fault;
 use hand_over::hand_over;
@@ -52,7 +53,7 @@ fn run_lent(
     requires { ⌜ (length (now path) ≡ length (now status)) × Sized (length (now status)) (now price) (now bound) (now kept) (now status) ⌝ }
     requires { ⌜ seen (now path) (now price) (now bound) (now kept) (now status) progress ≡ fresh (table-of (length (now status)) origin (now tails) (now heads) (now lengths)) ⌝ }
     requires { ⌜ Fitting (length (now status)) (length (now heads)) (now distances) (now prices) (now tree) (now marks) ⌝ }
-    ensures { λ r. ⌜ answered r (now (distances .exit)) (now (prices .exit)) (now (tree .exit)) (now (marks .exit)) ≡ routed (table-of (length (now (status .entry))) origin (now (tails .entry)) (now (heads .entry)) (now (lengths .entry))) (now (wanted .entry)) ⌝ }
+    ensures { λ r. ⌜ answered r (now (distances .exit)) (now (prices .exit)) (now (tree .exit)) (now (marks .exit)) ≡ routes-of (table-of (length (now (status .entry))) origin (now (tails .entry)) (now (heads .entry)) (now (lengths .entry))) (now (wanted .entry)) ⌝ }
 {
     let end = run(
         progress,
@@ -98,7 +99,7 @@ fn plan_table(
     requires { ⌜ (length (now heads) ≡ length (now tails)) × (length (now lengths) ≡ length (now tails)) ⌝ }
     requires { ⌜ is-table (table-of n origin (now tails) (now heads) (now lengths)) (now wanted) ≡ true ⌝ }
     requires { ⌜ Fitting n (length (now heads)) (now distances) (now prices) (now tree) (now marks) ⌝ }
-    ensures { λ r. ⌜ answered r (now (distances .exit)) (now (prices .exit)) (now (tree .exit)) (now (marks .exit)) ≡ routed (table-of n origin (now (tails .entry)) (now (heads .entry)) (now (lengths .entry))) (now (wanted .entry)) ⌝ }
+    ensures { λ r. ⌜ answered r (now (distances .exit)) (now (prices .exit)) (now (tree .exit)) (now (marks .exit)) ≡ routes-of (table-of n origin (now (tails .entry)) (now (heads .entry)) (now (lengths .entry))) (now (wanted .entry)) ⌝ }
 {
     let state = State::fresh(origin);
     let mut path = state.path;

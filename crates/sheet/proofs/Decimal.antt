@@ -6,7 +6,7 @@ use native.Mathlib.Omega.{arith}
 use native.Mathlib.Nat.{pow-le-pow-right, le-trans}
 use borrow.Author.Tests.{lt-ltb, le-ltb}
 use Rattle.io.specs.Digits.{digits, Fewest}
-use Rattle.auction.proofs.Basics.{same-or, below-or}
+use Rattle.table.proofs.Basics.{same-or, below-or}
 use Rattle.sheet.specs.Text.{places-from, places, decimal}
 
 tens-rise : (a b : ℕ) → a ≤ b → 10 ^ a ≤ 10 ^ b

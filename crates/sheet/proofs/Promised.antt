@@ -6,7 +6,7 @@ use Prim.Native.Nat.{ℕ, zero, suc, _+_, _≤_, _<_}
 use native.Mathlib.Omega.{arith}
 use borrow.Author.Tests.{eq-eqb, ne-eqb}
 use Rattle.paths.specs.Listing.{entry, node-before, leads-back, back-to, path, listed, refused, count-bad, ends-bad, early-ground, ground-of, into, listing}
-use Rattle.auction.proofs.Basics.{same-or, true-or, not-both}
+use Rattle.table.proofs.Basics.{same-or, true-or, not-both}
 use Rattle.sheet.specs.Text.{places-from, places, decimal, spaced}
 use Rattle.sheet.specs.Sheet.{refused-line, reached-line, counts-line, arc-text, node-line, path-line, node-count, has-distance, holds, has-path, with-node, passing, node-lines, path-lines, paths-from, nodes-from, from-counts, from-reached, from-refusal, sheet}
 use Rattle.sheet.specs.Promises.{occurrences, path-nodes, Each-once}

@@ -13,7 +13,7 @@ use borrow.Author.Tests.{ltb-false, lt-ltb, le-ltb, eq-eqb, ne-eqb}
 use Rattle.table.specs.Table.{no-arc, most-nodes}
 use Rattle.paths.specs.declared.Listed.{Listed}
 use Rattle.paths.specs.Listing.{Tree, Listing, Lists, listing, into, listed, refused, path, ground-of, tree-in}
-use Rattle.auction.proofs.Basics.{true-or}
+use Rattle.table.proofs.Basics.{true-or}
 use Rattle.sheet.specs.declared.lines.Cursor.{Cursor}
 use Rattle.sheet.specs.declared.lines.Cursor.the-variants.{Start, Node, Path}
 use Rattle.sheet.specs.declared.lines.Line.{Line}

@@ -11,7 +11,7 @@ use lib.ListN.{getD}
 use borrow.Author.Tests.{eq-eqb, ne-eqb, leb-true, leb-false, le-leb, lt-leb}
 use Rattle.table.specs.Table.{Table, arc-count, tail-at, head-at, length-at, no-arc, most-arcs}
 use Rattle.auction.specs.Auction.{State, Bid, bid, offer, offers, takes, best-from, to-child, with-bid, lower-bid, price-at}
-use Rattle.auction.proofs.Basics.{same-or, true-or}
+use Rattle.table.proofs.Basics.{same-or, true-or}
 use Rattle.solver.specs.Lists.{next-out, Listed, Some-table}
 use Rattle.solver.specs.Steps.{lower-of}
 

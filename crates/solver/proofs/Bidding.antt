@@ -11,7 +11,7 @@ use lib.ListN.{length, getD}
 use borrow.Author.Tests.{le-leb, lt-leb, eq-eqb, ne-eqb}
 use Rattle.table.specs.Table.{Table, arc-count, tail-at, head-at, length-at, no-arc}
 use Rattle.auction.specs.Auction.{State, Bid, bid, best, best-from, to-child, with-bid, lower-bid, is-kept, is-deleted, price-at}
-use Rattle.auction.proofs.Basics.{same-or}
+use Rattle.table.proofs.Basics.{same-or}
 use Rattle.solver.specs.declared.state.Progress.{Progress}
 use Rattle.solver.specs.Seen.{arc-of, bid-of, seen}
 use Rattle.solver.specs.Lists.{Listed}

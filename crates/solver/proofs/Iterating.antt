@@ -12,7 +12,7 @@ use borrow.Author.Tests.{eq-eqb, ne-eqb}
 use Rattle.table.specs.Table.{Table, arc-count, head-at, no-arc, no-distance, most-nodes}
 use Rattle.auction.specs.Auction.{State, state, bid, best, next, iteration, terminal, bound-at, was-reached, all-reached, iterations, most-iterations, start, offer, takes, offers, with-kept, with-status, reach, longer, extension}
 use Rattle.auction.specs.HandOver.{first-missing}
-use Rattle.auction.proofs.Basics.{same-or, true-or}
+use Rattle.table.proofs.Basics.{same-or, true-or}
 use Rattle.auction.proofs.Good.{wanted-in}
 use Rattle.auction.proofs.Effects.{reached-status, status-reached, known-distance}
 use Rattle.auction.proofs.Bids.{best-bid}

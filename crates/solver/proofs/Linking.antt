@@ -8,7 +8,7 @@ use lib.ListN.{length, getD, set, length-set}
 use lib.Seq.{getD-set-same, getD-set-other}
 use borrow.Author.Tests.{eq-eqb, ne-eqb}
 use Rattle.table.specs.Table.{Table, arc-count, tail-at, no-arc}
-use Rattle.auction.proofs.Basics.{same-or}
+use Rattle.table.proofs.Basics.{same-or}
 use Rattle.solver.specs.Lists.{next-out, Tails, Linked}
 
 pub record Linked-from (t : Table) (p : ℕ) (first next : List ℕ) : Type 0 where

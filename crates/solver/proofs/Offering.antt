@@ -11,7 +11,7 @@ use lib.Seq.{getD-set-other}
 use borrow.Author.Tests.{lt-ltb, le-ltb, eq-eqb, ne-eqb}
 use Rattle.table.specs.Table.{Table, arc-count, tail-at, head-at, length-at, no-arc, no-distance}
 use Rattle.auction.specs.Auction.{State, improves, takes, offer, offers, distance, was-reached, bound-at, kept-at, with-kept, or-zero}
-use Rattle.auction.proofs.Basics.{same-or}
+use Rattle.table.proofs.Basics.{same-or}
 use Rattle.solver.specs.declared.state.Progress.{Progress}
 use Rattle.solver.specs.Seen.{bound-of, arc-of, seen}
 use Rattle.solver.specs.Lists.{Listed}

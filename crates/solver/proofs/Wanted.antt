@@ -11,7 +11,7 @@ use lib.Seq.{drop-cons}
 use borrow.Author.Tests.{lt-ltb, le-ltb}
 use Rattle.auction.specs.Auction.{State, was-reached, status-at, all-reached}
 use Rattle.auction.specs.HandOver.{first-missing}
-use Rattle.auction.proofs.Basics.{true-or}
+use Rattle.table.proofs.Basics.{true-or}
 use Rattle.solver.specs.Steps.{First-from}
 
 -- ONE INDEX AFTER THE OTHER

@@ -96,7 +96,7 @@ unfoldable pub arcs-good : (n : ℕ) → List Arc → Bool
 arcs-good n [] = true
 arcs-good n (a ∷ more) = arc-good n a && arcs-good n more
 
--- a table with its wanted list as 01 has them: what no ground of Grounds.antt turns down
+-- a table with its wanted list as 01 has them: what Refusals.antt does not refuse
 unfoldable pub is-table : Table → (wanted : List ℕ) → Bool
 is-table t ws =
     ((leb 1 (t .n) && leb (t .n) most-nodes) && (ltb (t .origin) (t .n) && leb (arc-count t) most-arcs))

@@ -1,6 +1,6 @@
 -- `not_written` meets its contract: the definition is the code. Assumes nothing.
 use mathlib.Core.Path.{refl}
-use Rattle.table.specs.Grounds.{refusal}
+use Rattle.table.specs.Refusals.{refusal}
 use Rattle.link_file.specs.Entries.{write-answer}
 use Rattle.link_file.proofs.not_written.Statement.{statement}
 use Rattle.link_file.proofs.not_written.Tie as tie

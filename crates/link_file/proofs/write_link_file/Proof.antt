@@ -9,7 +9,7 @@ use borrow.Author.Tests.{ltb-false}
 use denote.Ref.{now}
 use lib.Dec.{eqb, ltb}
 use lib.ListN.{length}
-use Rattle.table.specs.Grounds.{columns-bad}
+use Rattle.table.specs.Refusals.{columns-bad}
 use Rattle.table.specs.Table.{most-nodes}
 use Rattle.link_file.specs.Entries.{file-of}
 use Rattle.link_file.proofs.Booleans.{or-false-second}
@@ -42,7 +42,7 @@ fine c = sym (c .before .bad-count .ensures) ∙ c .if1 .left
 low : (c : tie.Else1) → c .before .before .before .before .before .before .before .args .n ≤ most-nodes
 low c = let n = c .before .before .before .before .before .before .before .args .n in ltb-false most-nodes n (or-false-second (eqb n 0) _ (fine c))
 
-equal : (c : tie.Else2) → let s = c .before .before .before .before .before .before .before .before .before in columns-bad (ts s) (hs s) (ls s) ≡ false
+equal : (c : tie.Else2) → let s = c .before .before .before .before .before .before .before .before .before in columns-bad (length (ts s)) (length (hs s)) (length (ls s)) ≡ false
 unfolding columns-bad
 equal c = sym (c .before .bad-columns .ensures) ∙ c .if2 .left
 

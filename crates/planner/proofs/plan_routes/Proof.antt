@@ -1,8 +1,10 @@
 -- A ground turns the table down, or none applies and the table is planned. Assumes nothing.
 use mathlib.Core.Path.{ap, sym, _∙_}
 use Rattle.table.specs.Table.{Below}
-use Rattle.table.specs.Grounds.{Refusal, refusal}
-use Rattle.planner.specs.Plan.{answered, ground}
+use Rattle.table.specs.declared.Refusal.{Refusal}
+use Rattle.table.specs.Refusals.{refusal}
+use Rattle.auction.specs.Plan.{plan-refusal}
+use Rattle.planner.specs.Plan.{answered}
 use Rattle.planner.specs.Lent.{refusal-of}
 use Rattle.planner.proofs.Planning.{fine, turned, planned}
 use borrow.Author.Needs.{needs}
@@ -13,14 +15,14 @@ table-fault-requires : tie.Need-table-fault-requires
 table-fault-requires c κs = search needs
 
 returns : tie.Need-returns
-unfolding answered ground
+unfolding answered plan-refusal
 returns c =
     let a = c .before .before .before .before .before .before .before .before .before .before .before .args in
     turned (a .n) (a .origin) (a .tails .now) (a .heads .now) (a .lengths .now) (a .wanted .now) (a .distances .now) (a .prices .now) (a .tree .now) (a .marks .now)
     (c .before .before .table-fault .result) (c .before .before .table-fault .ensures) (c .if1 .taken)
 
 plan-table-requires : tie.Need-plan-table-requires
-unfolding ground Below refusal-of refusal
+unfolding plan-refusal Below refusal-of refusal
 plan-table-requires c κs =
     let a = c .before .before .before .before .before .before .before .before .before .before .before .before .before .before .before .args in
     let known = c .before .before .before .before .before .before .before .before .before .before .before .before .shared-slice-known3 .given in
@@ -43,7 +45,7 @@ same-length-4 : tie.Need-same-length-4
 same-length-4 c = search needs
 
 returns-2 : tie.Need-returns-2
-unfolding ground
+unfolding plan-refusal
 returns-2 c =
     let a = c .before .before .before .before .before .before .before .before .before .before .before .before .before .before .before .before .before .before .before .before .before .before .before .before .args in
     planned (a .n) (a .origin) (a .tails .now) (a .heads .now) (a .lengths .now) (a .wanted .now) (a .distances .now) (a .prices .now) (a .tree .now) (a .marks .now)

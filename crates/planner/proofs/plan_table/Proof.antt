@@ -7,7 +7,7 @@ use lib.ListN.{length, take}
 use Rattle.table.specs.Table.{table-of, is-table, most-nodes}
 use Rattle.auction.specs.Auction.{fresh}
 use Rattle.solver.specs.Seen.{seen, Sized}
-use Rattle.planner.specs.Plan.{routed}
+use Rattle.auction.specs.Plan.{routes-of}
 use Rattle.planner.specs.Lent.{Fitting}
 use Rattle.planner.proofs.Planning.{origin-low, fresh-so, part-fits, part-long}
 use borrow.Author.Needs.{needs}
@@ -109,7 +109,7 @@ returns c =
     let a = c .before .before .before .before .before .before .before .before .before .before .before .before .before .before .before .before .before .before .before .before .before .before .before .before .before .before .before .before .before .before .before .before .before .before .before .before .before .before .args in
     let x = c .before .before .before .before .before .before .before .before .before .before .before .before .before .before .before .before .before .before .before .before .before .before .before .before .before .before .before .before .before .fresh in
     c .before .before .before .before .before .before .before .before .before .before .before .before .before .run-lent .ensures
-    ∙ ap (λ m. routed (table-of m (a .origin) (a .tails .now) (a .heads .now) (a .lengths .now)) (a .wanted .now))
+    ∙ ap (λ m. routes-of (table-of m (a .origin) (a .tails .now) (a .heads .now) (a .lengths .now)) (a .wanted .now))
     (sym (part-long (x .result .status) (a .n) (x .ensures .1 .1 .statuses) (few (c .before .before .before .before .before .before .before .before .before .before .before .before .before .before .before .before .before .before .before .before .before .before .before .before .before .before .before .before .before .before .before .before .before .before .before .before .before .before))))
 
 pub plan-table-spec : {M : Type 1} → statement M

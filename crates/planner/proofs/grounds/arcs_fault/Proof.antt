@@ -5,7 +5,7 @@ use borrow.Author.Needs.{needs}
 use native.Mathlib.Omega.{arith}
 use lib.ListN.{length, drop}
 use Rattle.table.specs.Table.{arcs-of}
-use Rattle.table.specs.Grounds.{arcs-from, arcs-refusal}
+use Rattle.table.specs.Refusals.{arcs-from, arcs-refusal}
 use Rattle.planner.specs.Lent.{refusal-of}
 use Rattle.planner.proofs.Faults.{no-fault, arc-good, arc-bad, arcs-done}
 use Rattle.planner.proofs.grounds.arcs_fault.Statement.{statement}

@@ -7,8 +7,8 @@ use lib.Dec.{ltb, eqb}
 use lib.ListN.{length}
 use borrow.Author.Tests.{eq-eqb, ne-eqb, eqb-true, not-false, ltb-false}
 use Rattle.table.specs.Table.{most-nodes}
-use Rattle.table.specs.Grounds.{columns-bad, rooms-fit, refusal}
-use Rattle.planner.specs.Plan.{rooms}
+use Rattle.table.specs.Refusals.{columns-bad, rooms-fit, refusal}
+use Rattle.auction.specs.Plan.{rooms}
 use Rattle.planner.specs.Lent.{refusal-of}
 use Rattle.planner.proofs.Faults.{either-first, either-second, neither, columns-differ, too-many-arcs, columns-fine, rooms-1, rooms-2, rooms-3, rooms-4, rooms-fine, at-1, at-2, at-3, at-4, at-5, at-6}
 use borrow.Author.Needs.{needs}
@@ -19,7 +19,7 @@ use Rattle.planner.proofs.grounds.table_fault.Tie as tie
 nodes-fine : (c : tie.Else2) → (eqb (c .before .before .before .before .before .before .args .n) 0 || ltb most-nodes (c .before .before .before .before .before .before .args .n)) ≡ false
 nodes-fine c = neither _ _ (ne-eqb (c .before .before .before .before .before .before .args .n) 0 (c .before .if1 .left)) (c .if2 .left)
 
-arcs-fine : (c : tie.Else5) → let a = c .before .before .before .before .before .before .before .before .before .args in columns-bad (a .tails .now) (a .heads .now) (a .lengths .now) ≡ false
+arcs-fine : (c : tie.Else5) → let a = c .before .before .before .before .before .before .before .before .before .args in columns-bad (length (a .tails .now)) (length (a .heads .now)) (length (a .lengths .now)) ≡ false
 arcs-fine c =
     let a = c .before .before .before .before .before .before .before .before .before .args in columns-fine (a .tails .now) (a .heads .now) (a .lengths .now) (c .before .before .if3 .left) (c .before .if4 .left) (c .if5 .left)
 

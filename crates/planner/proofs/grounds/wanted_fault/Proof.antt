@@ -5,7 +5,7 @@ use borrow.Author.Needs.{needs}
 use native.Mathlib.Omega.{arith}
 use lib.ListN.{length, drop}
 use Rattle.table.specs.Table.{most-wanted}
-use Rattle.table.specs.Grounds.{wanted-from, wanted-refusal}
+use Rattle.table.specs.Refusals.{wanted-from, wanted-refusal}
 use Rattle.planner.specs.Lent.{refusal-of}
 use Rattle.planner.proofs.Faults.{no-fault, too-many, few-enough, wanted-good, wanted-bad, wanted-done}
 use Rattle.planner.proofs.grounds.wanted_fault.Statement.{statement}

@@ -6,7 +6,7 @@ use Rattle.auction.specs.Auction.{state, iterations}
 use Rattle.solver.specs.Seen.{seen}
 use mathlib.Core.Bool.{cond}
 use lib.Dec.{eqb}
-use Rattle.table.specs.Grounds.{no-refusal, refusal}
+use Rattle.table.specs.Refusals.{no-refusal, refusal}
 use Rattle.planner.specs.Plan.{answered}
 use Rattle.planner.specs.Lent.{refusal-of}
 use Rattle.planner.proofs.Handing.{assembled}

@@ -1,15 +1,13 @@
--- The grounds 1 to 7 on which a table is turned down, in the order in which they are tested. Assumes nothing: these are definitions.
+-- The grounds 1 to 7 on which a table is refused, in the order in which they are tested. Assumes nothing: these are definitions.
+--
+-- A REFUSAL is the code's own struct: a number, which is document 01's, and a place, 0 where none is named. Number 0 is no refusal.
 use mathlib.Core.Bool.{Bool, true, _&&_, _||_, not, cond}
 use mathlib.Core.List.{List, [], _∷_}
 use Prim.Native.Nat.{ℕ, suc}
 use lib.Dec.{ltb, leb, eqb}
 use lib.ListN.{length}
+use Rattle.table.specs.declared.Refusal.{Refusal}
 use Rattle.table.specs.Table.{Arc, arcs-of, most-nodes, most-arcs, most-wanted}
-
--- the ground's number and a place, 0 where none is named; number 0 is no refusal
-pub record Refusal : Type 0 where
-  pub number : ℕ
-  pub place : ℕ
 
 unfoldable pub refusal : (number place : ℕ) → Refusal
 refusal n p = record { number = n; place = p }
@@ -20,9 +18,13 @@ no-refusal = refusal 0 0
 unfoldable pub or-else : Refusal → Refusal → Refusal
 or-else a b = cond (eqb (a .number) 0) b a
 
--- 2: columns unequal, or too many arcs
-unfoldable pub columns-bad : (tails heads lengths : List ℕ) → Bool
-columns-bad ts hs ls = not (eqb (length ts) (length hs) && eqb (length hs) (length ls)) || ltb most-arcs (length ts)
+-- 1: n is 0 or above the most nodes
+unfoldable pub count-bad : (n : ℕ) → Bool
+count-bad n = eqb n 0 || ltb most-nodes n
+
+-- 2: columns of these lengths are unequal, or have too many arcs
+unfoldable pub columns-bad : (tails heads lengths : ℕ) → Bool
+columns-bad t h l = not (eqb t h && eqb h l) || ltb most-arcs t
 
 -- 3: a buffer's length and the one it needs
 pub record Room : Type 0 where
@@ -58,7 +60,7 @@ arcs-refusal n arcs = arcs-from 0 n arcs
 -- 1 to 7 of a table given by its columns, with the buffers lent for the answer
 unfoldable pub table-refusal : (n origin : ℕ) → (tails heads lengths wanted : List ℕ) → List Room → Refusal
 table-refusal n o ts hs ls ws rooms =
-    cond (eqb n 0 || ltb most-nodes n) (refusal 1 0)
-    (cond (columns-bad ts hs ls) (refusal 2 0)
+    cond (count-bad n) (refusal 1 0)
+    (cond (columns-bad (length ts) (length hs) (length ls)) (refusal 2 0)
     (cond (not (rooms-fit rooms)) (refusal 3 0)
     (cond (leb n o) (refusal 4 0) (or-else (wanted-refusal n ws) (arcs-refusal n (arcs-of ts hs ls))))))

@@ -1,8 +1,8 @@
--- Bools, options, numbers, and the elements of a list after a store. Assumes nothing.
-use mathlib.Core.Path.{_≡_, refl}
-use mathlib.Core.Bool.{Bool, true, false, _&&_, _||_}
+-- Laws that every crate above uses: Bools, options, numbers, and what is inside a list. Assumes nothing.
+use mathlib.Core.Path.{_≡_, refl, sym}
+use mathlib.Core.Bool.{Bool, true, false, _&&_, _||_, not}
 use mathlib.Core.List.{List, [], _∷_}
-use mathlib.Core.Logic.{_⊎_, inl, inr}
+use mathlib.Core.Logic.{_⊎_, inl, inr, ⊎-elim}
 use mathlib.Core.Option.{Option, none, some}
 use Prim.Native.Nat.{ℕ, zero, suc, _≤_, _<_}
 use native.Mathlib.Omega.{arith}
@@ -35,8 +35,39 @@ pub either-false : (a b : Bool) → (a || b) ≡ false → (a ≡ false) × (b �
 either-false true b e = let z : _≡_ {A = ℕ} 0 1 = cc in absurd (omega arith)
 either-false false b e = (refl, e)
 
+pub either-first : (a b : Bool) → a ≡ true → (a || b) ≡ true
+either-first a b e = rw e
+
+pub either-second : (a b : Bool) → b ≡ true → (a || b) ≡ true
+either-second true b e = refl
+either-second false b e = e
+
+pub neither : (a b : Bool) → a ≡ false → b ≡ false → (a || b) ≡ false
+neither a b p q = rw (p, q)
+
 pub not-both : (a : Bool) → a ≡ true → a ≡ false → ⊥
 not-both a p q = let z : _≡_ {A = ℕ} 0 1 = cc in absurd (omega arith)
+
+pub refuted : (a : Bool) → (a ≡ true → ⊥) → a ≡ false
+refuted true f = absurd (f refl)
+refuted false f = refl
+
+pub and-false : (a b : Bool) → b ≡ false → (a && b) ≡ false
+and-false true b e = e
+and-false false b e = refl
+
+pub not-and : (a b : Bool) → (a ≡ false) ⊎ (b ≡ false) → not (a && b) ≡ true
+not-and true true e = ⊎-elim (λ (z : true ≡ false). sym z) (λ (z : true ≡ false). sym z) e
+not-and true false e = refl
+not-and false b e = refl
+
+pub and-assoc : (a b c : Bool) → ((a && b) && c) ≡ (a && (b && c))
+and-assoc true b c = refl
+and-assoc false b c = refl
+
+pub and-true : (a : Bool) → (a && true) ≡ a
+and-true true = refl
+and-true false = refl
 
 pub option-or {ℓ} : {A : Type ℓ} (o : Option A) → (o ≡ none) ⊎ ((a : A) × (o ≡ some a))
 option-or none = inl refl
