@@ -18,3 +18,4 @@ pub mod Run
 pub mod Walks
 pub mod Promised
 pub mod Demanded
+pub mod Made
