@@ -143,12 +143,17 @@ Never-above =
     (t : Table) (k : ℕ) (x : State) (b : Bid) → is-table t [] ≡ true → after k t ≡ some x → best t (terminal x) x ≡ some b →
     price-at x (terminal x) ≤ b .value
 
--- Nodes are reached in ascending distance, equals allowed, and a distance once reached stays.
+-- A reached node stays reached, at the same distance.
+unfoldable pub Distances-stay : Type 0
+Distances-stay =
+    (t : Table) (k : ℕ) (x y : State) (v : ℕ) → is-table t [] ≡ true → after k t ≡ some x → next t x ≡ some y →
+    was-reached x v ≡ true → (was-reached y v ≡ true) × (distance y v ≡ distance x v)
+
+-- Nodes are reached in ascending distance, equals allowed: one that an iteration reaches is at least as far as every node reached before.
 unfoldable pub Ascending : Type 0
 Ascending =
     (t : Table) (k : ℕ) (x y : State) (u v : ℕ) → is-table t [] ≡ true → after k t ≡ some x → next t x ≡ some y →
-    was-reached x u ≡ true → was-reached x v ≡ false → was-reached y v ≡ true →
-    (distance y u ≡ distance x u) × (distance y u ≤ distance y v)
+    was-reached x u ≡ true → was-reached x v ≡ false → was-reached y v ≡ true → distance y u ≤ distance y v
 
 -- A reached distance is at most (n − 1)(2³² − 1), so it is never 2⁶⁴ − 1; price and bound of a node together are at most n(2³² − 1). So no sum of
 -- the run passes 64 bits.
@@ -184,6 +189,7 @@ pub record Promises : Type 0 where
   pub iterations-counted : Iterations-counted
   pub earliest-link : Earliest-link
   pub never-above : Never-above
+  pub distances-stay : Distances-stay
   pub ascending : Ascending
   pub small-distances : Small-distances
   pub small-sums : Small-sums
