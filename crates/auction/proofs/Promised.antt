@@ -12,10 +12,9 @@ use borrow.Author.Tests.{eqb-true, eq-eqb}
 use Rattle.table.specs.Table.{Table, is-table, is-walk, arc-count, tail-at, head-at, length-at, longest}
 use Rattle.auction.specs.Auction.{State, Bid, Ended, auction, ended, next, iteration, deletion, after, best, terminal, all-reached, was-reached, distance, iterations}
 use Rattle.auction.specs.HandOver.{prices, first-missing}
-use Rattle.auction.specs.Promises.{Promises, last-state, route, price, link, Walk-shortest, Walk-given, Prices-fit, equal-along, Prices-show, Has-walk, No-walk, First-without-walk, Route-to-all, No-route, Few-iterations, Fewer-iterations, Ends-by-itself, Iterations-counted, Attains, Earliest-link, Never-above, Distances-stay, Ascending, Small-distances, Small-sums, Not-turned-down}
+use Rattle.auction.specs.Promises.{Promises, last-state, route, price, link, Walk-shortest, Walk-given, Prices-fit, equal-along, Prices-show, Has-walk, No-walk, First-without-walk, Route-to-all, No-route, Few-iterations, Fewer-iterations, Ends-by-itself, Iterations-counted, Attains, Earliest-link, Never-above, Distances-stay, Ascending, Small-distances, Small-sums}
 use Rattle.table.proofs.Basics.{true-or, both-true, true-both, some-none, not-both}
-use Rattle.auction.proofs.Good.{Good, good}
-use Rattle.auction.proofs.Good as bridge
+use Rattle.auction.proofs.Good.{Good, good, unrefused-is-table, table-is-unrefused, longest-of-32-bits, lengths-of-32-bits}
 use Rattle.auction.proofs.Effects.{estimate, known-distance, reached-status, status-reached, unreached-status}
 use Rattle.auction.proofs.Bids.{Child, no-child, best-bid}
 use Rattle.auction.proofs.Sound.{Sound, reached-low}
@@ -299,10 +298,6 @@ small-sums t k x v d e p b =
     let n = passed t (good t [] e) k x p .0 .sound .nodes in
     omega (arith, n .small-estimate v, known-distance x v d b)
 
--- FOR EVERY TABLE NOT TURNED DOWN
-pub not-turned-down : Not-turned-down
-not-turned-down = bridge.not-turned-down
-
 pub promised : Promises
 promised =
     record {
@@ -322,5 +317,8 @@ promised =
       ascending = ascending;
       small-distances = small-distances;
       small-sums = small-sums;
-      not-turned-down = not-turned-down;
+      unrefused-is-table = unrefused-is-table;
+      table-is-unrefused = table-is-unrefused;
+      longest-of-32-bits = longest-of-32-bits;
+      lengths-of-32-bits = lengths-of-32-bits;
     }

@@ -10,9 +10,9 @@ use borrow.Author.Tests.{eqb-true, not-false}
 use Rattle.table.specs.Table.{table, table-of, is-walk, most-nodes, most-arcs}
 use Rattle.table.specs.Refusals.{Room, refusal, columns-bad, table-refusal}
 use Rattle.auction.specs.HandOver.{tree}
-use Rattle.auction.specs.Promises.{last-state, route, Walk-shortest, Not-turned-down}
+use Rattle.auction.specs.Promises.{last-state, route, Walk-shortest, Unrefused-is-table}
 use Rattle.table.proofs.Basics.{both-true}
-use Rattle.auction.proofs.Good.{good, not-turned-down}
+use Rattle.auction.proofs.Good.{good, unrefused-is-table}
 use Rattle.auction.proofs.Sums.{entries-length}
 use Rattle.auction.proofs.Promised.{walk-shortest}
 use Rattle.paths.specs.Promises.{Routes-listed, Plans-listed}
@@ -42,7 +42,7 @@ columns-equal n o ts hs ls ws rooms e =
     (eqb-true (length ts) (length hs) (c .0), eqb-true (length hs) (length ls) (c .1))
 
 pub plans-listed : Plans-listed
-unfolding Plans-listed Routes-listed Not-turned-down
+unfolding Plans-listed Routes-listed Unrefused-is-table
 plans-listed n o tails heads lengths wanted rooms v fits e reached =
     let equal = columns-equal n o tails heads lengths wanted rooms e in
-    routes-listed n o tails heads lengths wanted v (equal .0) (equal .1) (not-turned-down n o tails heads lengths wanted rooms fits e) reached
+    routes-listed n o tails heads lengths wanted v (equal .0) (equal .1) (unrefused-is-table n o tails heads lengths wanted rooms fits e) reached
