@@ -7,7 +7,7 @@ use mathlib.Core.Option.{none, some}
 use Prim.Native.Nat.{ℕ, zero, suc, _≤_, _<_}
 use native.Mathlib.Omega.{arith}
 use lib.ListN.{getD}
-use Rattle.table.specs.Table.{Table, is-table, walk-length, no-distance}
+use Rattle.table.specs.Table.{Table, is-table, tail-at, walk-length, no-distance}
 use Rattle.table.specs.Refusals.{refusal, no-refusal}
 use Rattle.auction.specs.Auction.{State, auction, next, after, then-next, was-reached, distance, iterations}
 use Rattle.auction.specs.HandOver.{Answer, handed-over, distances, first-missing, route-refusal}
@@ -16,13 +16,24 @@ use Rattle.auction.specs.Promises.{Has-walk, No-walk, last-state, route,
 use Rattle.auction.specs.Demands.{distance-of, price-of, link-of, walk-of, Given, Demands, Demands-met, Same-counts, Counts-pinned, hollow, Hollow-fails}
 use Rattle.table.proofs.Basics.{same-or, true-or, below-or, not-both, some-none, some-same}
 use Rattle.auction.proofs.Sums.{column, past-column}
-use Rattle.auction.proofs.Good.{good}
-use Rattle.auction.proofs.Effects.{estimate, status-in, reached-status}
+use Rattle.auction.proofs.Good.{Good, good}
+use Rattle.auction.proofs.Effects.{estimate, status-in, reached-status, status-reached}
+use Rattle.auction.proofs.Sound.{Sound}
+use Rattle.auction.proofs.Walks.{kept-link, tree-origin}
 use Rattle.auction.proofs.Promised.{walk-shortest, walk-given, prices-fit, prices-show, route-to-all, no-route, few-iterations, fewer-iterations, ends-by-itself, iterations-counted, earliest-link, invariant}
 
 module _ (t : Table) (ws : List ℕ) (e : is-table t ws ≡ true) where
   abbrev x : State
   x = last-state t ws
+
+  abbrev g : Good t
+  g = good t ws e
+
+  abbrev dep : ℕ → ℕ
+  dep = invariant t ws e .depth
+
+  abbrev sound : Sound t x dep
+  sound = invariant t ws e .sound
 
   abbrev a : Answer
   a = routes-of t ws
@@ -71,11 +82,17 @@ module _ (t : Table) (ws : List ℕ) (e : is-table t ws ≡ true) where
       record {
         given = λ k walk h w. reached-given (getD ws k 0) (walk-given t ws k walk e h w);
         walk = λ v h. shortest v h .walk;
+        short = λ v h. shortest v h .short;
         as-long = λ v h. shortest v h .as-long ∙ at v h;
         least = λ v h other w. subst (λ (d : ℕ). d ≤ walk-length t other) (at v h) (shortest v h .least other w);
         attains = λ v h d. subst (λ (k : ℕ). Attains t v k (link t ws v)) (at v h) (earliest-link t ws v e (given-reached v h) d .attains);
         earliest =
             λ v h d i q. earliest-link t ws v e (given-reached v h) d .first i (subst (λ (k : ℕ). Attains t v k i) (sym (at v h)) q);
+        near-end =
+            λ v h d.
+            let l = kept-link t g x dep sound v (given-reached v h) d in
+            subst (λ (i : ℕ). Given a (tail-at t i)) (sym (l .entry)) (reached-given (tail-at t (l .position)) (status-reached x (tail-at t (l .position)) (l .arc .from-reached)));
+        no-link = tree-origin t g x dep sound;
         prices-fit = λ i h. prices-fit t ws i e h;
         prices-equal = λ v h. shown v h .equal;
         prices-show = λ v h. shown v h .difference;

@@ -15,6 +15,8 @@ pub mod Deleting
 pub mod Extending
 pub mod Starting
 pub mod Run
+pub mod Back
 pub mod Walks
 pub mod Promised
 pub mod Demanded
+pub mod Stability

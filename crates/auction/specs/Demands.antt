@@ -33,14 +33,17 @@ Given a v = distance-of a v ≡ no-distance → ⊥
 pub record Demands (t : Table) (ws : List ℕ) (a : Answer) : Type 0 where
   -- Each wanted node that has a walk is given one.
   pub given : (k : ℕ) (walk : List ℕ) → k < length ws → is-walk t walk (getD ws k 0) ≡ true → Given a (getD ws k 0)
-  -- The walk returned to a node is a walk from the origin to it, as long as the node's distance,
+  -- The walk returned to a node is a walk from the origin to it, of fewer than n links, as long as the node's distance,
   pub walk : (v : ℕ) → Given a v → is-walk t (walk-of t a v) v ≡ true
+  pub short : (v : ℕ) → Given a v → length (walk-of t a v) < t .n
   pub as-long : (v : ℕ) → Given a v → walk-length t (walk-of t a v) ≡ distance-of a v
   -- and no other walk there is shorter.
   pub least : (v : ℕ) → Given a v → (other : List ℕ) → is-walk t other v ≡ true → distance-of a v ≤ walk-length t other
-  -- Its link attains the distance, and is the earliest listed of all that do.
+  -- Its link attains the distance, and is the earliest listed of all that do; the link's near end is given a walk too. The origin has no link.
   pub attains : (v : ℕ) → Given a v → (v ≡ t .origin → ⊥) → Attains t v (distance-of a v) (link-of a v)
   pub earliest : (v : ℕ) → Given a v → (v ≡ t .origin → ⊥) → (i : ℕ) → Attains t v (distance-of a v) i → link-of a v ≤ i
+  pub near-end : (v : ℕ) → Given a v → (v ≡ t .origin → ⊥) → Given a (tail-at t (link-of a v))
+  pub no-link : link-of a (t .origin) ≡ no-arc
   -- The prices show it: on every link the near end's price is at most the link's length plus the far end's price,
   pub prices-fit : (i : ℕ) → i < arc-count t → price-of a (tail-at t i) ≤ length-at t i + price-of a (head-at t i)
   -- equal along the walks returned, and the origin's price less the node's is the walk's length.
