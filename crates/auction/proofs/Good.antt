@@ -14,13 +14,17 @@ use Rattle.table.specs.Refusals.{refusal, no-refusal, or-else, table-refusal, c
 use Rattle.auction.specs.Promises.{Longest-of-32-bits, Lengths-of-32-bits, Unrefused-is-table, Table-is-unrefused}
 use Rattle.table.proofs.Basics.{either-false, both-true, true-both, true-or}
 
+-- A TABLE THAT IS NOT REFUSED
 pub record Good (t : Table) : Type 0 where
+  -- it has 1 to 1,024 nodes, one of them the origin, and at most 6,000 arcs;
   pub some-node : 1 ≤ t .n
   pub few-nodes : t .n ≤ 1024
   pub origin-in : t .origin < t .n
   pub few-arcs : arc-count t ≤ 6000
+  -- every arc leads from a node to a node,
   pub tail-in : (i : ℕ) → i < arc-count t → tail-at t i < t .n
   pub head-in : (i : ℕ) → i < arc-count t → head-at t i < t .n
+  -- and its length is at least 1 and at most the greatest
   pub positive : (i : ℕ) → i < arc-count t → 1 ≤ length-at t i
   pub not-long : (i : ℕ) → i < arc-count t → length-at t i ≤ longest
 

@@ -10,7 +10,7 @@ use lib.Dec.{ltb, eqb}
 use lib.ListN.{length, getD}
 use borrow.Author.Tests.{eqb-true, lt-ltb, eq-eqb}
 use Rattle.table.specs.Table.{Table, arc-count, tail-at, head-at, length-at, leads, is-walk, walk-length, no-arc}
-use Rattle.auction.specs.Auction.{State, bound-at, kept-at, status-at, distance, or-zero, was-reached, price-at}
+use Rattle.auction.specs.Auction.{State, bound-at, kept-at, status-at, distance, or-zero, was-reached, price-at, deleted}
 use Rattle.auction.specs.HandOver.{horizon, prices, tree, arc-or-none, back-from, returned}
 use Rattle.table.proofs.Basics.{same-or, below-or, true-or, true-both, option-or}
 use Rattle.auction.proofs.Sums.{column, past-column, greatest-bound, greatest-least}
@@ -291,7 +291,7 @@ module _ (t : Table) (g : Good t) (x : State) (dep : ℕ → ℕ) (s : Sound t x
   -- THE ORIGIN WITHOUT CHILDREN: every node with a bound has been reached, so no walk leaves the reached nodes
   module _ (childless : (i : ℕ) → i < arc-count t → Child t (t .origin) i x → ⊥) where
     -- a node that is not deleted hangs on one that is not either, up to the origin
-    none-alive : (k v a : ℕ) → dep v ≡ k → kept-at x v ≡ some a → (status-at x v ≡ 2 → ⊥) → ⊥
+    none-alive : (k v a : ℕ) → dep v ≡ k → kept-at x v ≡ some a → (status-at x v ≡ deleted → ⊥) → ⊥
     none-alive zero v a e q alive = omega (arith, e, nodes .kept v a q .deeper)
     none-alive (suc k) v a e q alive =
         let arc = nodes .kept v a q in
@@ -303,7 +303,7 @@ module _ (t : Table) (g : Good t) (x : State) (dep : ℕ → ℕ) (s : Sound t x
         (record { leaves = o; kept = ap (kept-at x) (arc .into) ∙ q; undeleted = λ z. alive (ap (status-at x) (sym (arc .into)) ∙ z) }))
         (λ (o : u ≡ t .origin → ⊥).
         let l = kept-link u (status-reached x u (arc .from-reached)) o in
-        none-alive k u (l .position) (omega (arith, e, arc .deeper)) (l .kept) (λ (z : status-at x u ≡ 2). omega (arith, live .tail-live, z)))
+        none-alive k u (l .position) (omega (arith, e, arc .deeper)) (l .kept) (λ (z : status-at x u ≡ deleted). omega (arith, live .tail-live, z)))
         (same-or u (t .origin))
 
     bounded-reached : (v : ℕ) → (bound-at x v ≡ none → ⊥) → was-reached x v ≡ true
@@ -313,7 +313,7 @@ module _ (t : Table) (g : Good t) (x : State) (dep : ℕ → ℕ) (s : Sound t x
         let z = unreached-status x v r in
         let d : v ≡ t .origin → ⊥ = λ e. omega (arith, z, nodes .origin-status, ap (status-at x) e) in
         ⊎-elim (λ (n : kept-at x v ≡ none). absurd (b (nodes .unkept v n d)))
-        (λ (a : (a : ℕ) × (kept-at x v ≡ some a)). absurd (none-alive (dep v) v (a .0) refl (a .1) (λ (q : status-at x v ≡ 2). omega (arith, z, q))))
+        (λ (a : (a : ℕ) × (kept-at x v ≡ some a)). absurd (none-alive (dep v) v (a .0) refl (a .1) (λ (q : status-at x v ≡ deleted). omega (arith, z, q))))
         (option-or (kept-at x v)))
         (true-or (was-reached x v))
 
