@@ -8,7 +8,7 @@ use native.Mathlib.Omega.{arith}
 use lib.Dec.{leb, eqb}
 use borrow.Author.Tests.{leb-true, leb-false, eqb-true, eq-eqb, not-true}
 use Rattle.table.specs.Table.{Table, arc-count, tail-at, head-at, length-at}
-use Rattle.auction.specs.Auction.{State, Bid, bid, price-at, kept-at, status-at, is-kept, is-deleted, to-child, lower-bid, with-bid, best-from, best}
+use Rattle.auction.specs.Auction.{State, Bid, bid, price-at, kept-at, status-at, is-kept, is-deleted, to-child, lower-bid, with-bid, best-from, best, deleted}
 use Rattle.table.proofs.Basics.{same-or, true-or, both-true, not-both}
 use Rattle.auction.proofs.Effects.{undeleted-status, deleted-status}
 
@@ -16,7 +16,7 @@ use Rattle.auction.proofs.Effects.{undeleted-status, deleted-status}
 pub record Child (t : Table) (v i : ℕ) (x : State) : Type 0 where
   pub leaves : tail-at t i ≡ v
   pub kept : kept-at x (head-at t i) ≡ some i
-  pub undeleted : status-at x (head-at t i) ≡ 2 → ⊥
+  pub undeleted : status-at x (head-at t i) ≡ deleted → ⊥
 
 unfoldable pub bid-at : Table → State → (i : ℕ) → ℕ
 bid-at t x i = length-at t i + price-at x (head-at t i)

@@ -8,7 +8,7 @@ use native.Mathlib.Omega.{arith}
 use lib.ListN.{length, getD}
 use borrow.Author.Tests.{eq-eqb, ne-eqb}
 use Rattle.table.specs.Table.{Table, arc-count, tail-at, head-at, length-at}
-use Rattle.auction.specs.Auction.{State, Bid, state, price-at, kept-at, status-at, or-zero, terminal, without-terminal, contraction, best, iterations}
+use Rattle.auction.specs.Auction.{State, Bid, state, price-at, kept-at, status-at, or-zero, terminal, without-terminal, contraction, best, iterations, unreached, reached, deleted}
 use Rattle.table.proofs.Basics.{same-or}
 use Rattle.auction.proofs.Sums.{total, total-same, total-trade}
 use Rattle.auction.proofs.Good.{Good}
@@ -34,7 +34,7 @@ module _ (t : Table) (g : Good t) (x : State) (dep : ℕ → ℕ) (s : Sound t x
   abbrev child : ℕ
   child = head-at t (b .by-arc)
 
-  v-status : status-at x v ≡ 1
+  v-status : status-at x v ≡ reached
   unfolding terminal
   v-status = top-status nodes (x .path) (s .chain)
 
@@ -75,11 +75,11 @@ module _ (t : Table) (g : Good t) (x : State) (dep : ℕ → ℕ) (s : Sound t x
   shallower : (u : ℕ) → dep u < dep v → u ≡ v → ⊥
   shallower u h e = omega (arith, ap dep e)
 
-  contracted-live : (u i : ℕ) → kept-at y u ≡ some i → (status-at y u ≡ 2 → ⊥) → Live-arc t y u i
+  contracted-live : (u i : ℕ) → kept-at y u ≡ some i → (status-at y u ≡ deleted → ⊥) → Live-arc t y u i
   contracted-live u i e h =
       let e′ = sym (effect .kepts u) ∙ e in
       let a = nodes .kept u i e′ in
-      let undeleted : status-at x u ≡ 2 → ⊥ = λ q. h (effect .statuses u ∙ q) in
+      let undeleted : status-at x u ≡ deleted → ⊥ = λ q. h (effect .statuses u ∙ q) in
       let l = nodes .live u i e′ undeleted in
       record {
         tail-live = effect .statuses (tail-at t i) ∙ l .tail-live;
@@ -123,7 +123,7 @@ module _ (t : Table) (g : Good t) (x : State) (dep : ℕ → ℕ) (s : Sound t x
         unbounded = λ u e. effect .statuses u ∙ nodes .unbounded u (sym (effect .bounds u) ∙ e);
         unpriced =
             λ u e.
-            let z : status-at x u ≡ 0 = sym (effect .statuses u) ∙ e in
+            let z : status-at x u ≡ unreached = sym (effect .statuses u) ∙ e in
             effect .others u (λ (q : u ≡ v). omega (arith, v-status, ap (status-at x) q)) .price ∙ nodes .unpriced u z;
         live = contracted-live;
         level =
@@ -140,7 +140,7 @@ module _ (t : Table) (g : Good t) (x : State) (dep : ℕ → ℕ) (s : Sound t x
             (same-or u v);
       }
 
-  contracted-relaxed : (i : ℕ) → i < arc-count t → 0 < status-at y (tail-at t i) → Relaxed t y i
+  contracted-relaxed : (i : ℕ) → i < arc-count t → unreached < status-at y (tail-at t i) → Relaxed t y i
   contracted-relaxed i h r =
       let old = s .relaxed i h (omega (arith, effect .statuses (tail-at t i), r)) in
       let there = same-distance x y (head-at t i) (effect .bounds (head-at t i)) in
@@ -208,9 +208,9 @@ module _ (t : Table) (g : Good t) (x : State) (dep : ℕ → ℕ) (s : Sound t x
         extended = omega (arith, k .extended, path-length);
       }
 
-  pub contracted : Stepped t x y
+  pub by-contraction : Stepped t x y
   unfolding contraction state iterations
-  contracted =
+  by-contraction =
       record {
         invariant = record { depth = dep; sound = contracted-sound; counts = contracted-counts };
         counted = omega arith;

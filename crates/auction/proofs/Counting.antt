@@ -8,7 +8,7 @@ use lib.Dec.{eqb}
 use lib.ListN.{length}
 use borrow.Author.Tests.{eq-eqb, ne-eqb}
 use Rattle.table.specs.Table.{Table}
-use Rattle.auction.specs.Auction.{State, price-at, status-at, distance, terminal, iterations, most-iterations}
+use Rattle.auction.specs.Auction.{State, price-at, status-at, distance, terminal, iterations, most-iterations, unreached, deleted}
 use Rattle.auction.specs.HandOver.{reached-count}
 use Rattle.table.proofs.Basics.{same-or}
 use Rattle.auction.proofs.Sums.{total, total-le, total-const, total-one, only-at, only-same, only-other}
@@ -19,40 +19,50 @@ use Rattle.auction.proofs.Stages.{stages-most, sharper, demanded}
 
 -- 1 for a deleted node, else 0
 unfoldable pub one-if-deleted : State → (v : ℕ) → ℕ
-one-if-deleted x v = cond (eqb (status-at x v) 2) 1 0
+one-if-deleted x v = cond (eqb (status-at x v) deleted) 1 0
 
-pub deleted-one : (x : State) (v : ℕ) → status-at x v ≡ 2 → one-if-deleted x v ≡ 1
+pub deleted-one : (x : State) (v : ℕ) → status-at x v ≡ deleted → one-if-deleted x v ≡ 1
 unfolding one-if-deleted
-deleted-one x v e = rw (eq-eqb (status-at x v) 2 e)
+deleted-one x v e = rw (eq-eqb (status-at x v) deleted e)
 
-pub undeleted-none : (x : State) (v : ℕ) → (status-at x v ≡ 2 → ⊥) → one-if-deleted x v ≡ 0
+pub undeleted-none : (x : State) (v : ℕ) → (status-at x v ≡ deleted → ⊥) → one-if-deleted x v ≡ 0
 unfolding one-if-deleted
-undeleted-none x v h = rw (ne-eqb (status-at x v) 2 h)
+undeleted-none x v h = rw (ne-eqb (status-at x v) deleted h)
 
 pub same-deleted : (x y : State) (v : ℕ) → status-at y v ≡ status-at x v → one-if-deleted y v ≡ one-if-deleted x v
 unfolding one-if-deleted
 same-deleted x y v e = rw e
 
+-- WHAT THE COUNTS COME TO
 pub record Counts (t : Table) (x : State) (dep : ℕ → ℕ) : Type 0 where
-  -- contractions so far, and those that the slack left allows
+  -- the contractions so far and those that the slack left allows are at most what so many reached nodes allow
   pub contracted : x .contractions + total (t .n) (slack t x dep) ≤ stages (t .n) (reached-count t x)
+  -- there were as many deletions as there are deleted nodes
   pub deleted : x .deletions ≡ total (t .n) (one-if-deleted x)
   -- each extension is undone by a contraction or a deletion, or still on the path
   pub extended : suc (x .extensions) ≤ length (x .path) + (x .contractions + x .deletions)
 
--- the invariant and the counts, with the depths that they speak of
+-- THE INVARIANT AND THE COUNTS
 pub record Invariant (t : Table) (x : State) : Type 0 where
+  -- the depths of which they speak
   pub depth : ℕ → ℕ
+  -- the state is sound,
   pub sound : Sound t x depth
+  -- and its counts are bounded
   pub counts : Counts t x depth
 
--- what a step from x to y does: it is counted, reached nodes keep their distance, and a node that is reached is at the origin's price
+-- WHAT A STEP FROM X TO Y DOES
 pub record Stepped (t : Table) (x y : State) : Type 0 where
+  -- it keeps the invariant,
   pub invariant : Invariant t y
+  -- and is one iteration;
   pub counted : iterations y ≡ suc (iterations x)
-  pub stays : (v : ℕ) → 0 < status-at x v → 0 < status-at y v
-  pub distances : (v : ℕ) → 0 < status-at x v → distance y v ≡ distance x v
-  pub arrives : (v : ℕ) → status-at x v ≡ 0 → 0 < status-at y v → distance y v ≡ price-at x (t .origin)
+  -- a node that was reached stays so,
+  pub stays : (v : ℕ) → unreached < status-at x v → unreached < status-at y v
+  -- at the same distance,
+  pub distances : (v : ℕ) → unreached < status-at x v → distance y v ≡ distance x v
+  -- and one that is reached now is as far as the origin's price
+  pub arrives : (v : ℕ) → status-at x v ≡ unreached → unreached < status-at y v → distance y v ≡ price-at x (t .origin)
 
 module _ {t : Table} (g : Good t) {x : State} {dep : ℕ → ℕ} (s : Sound t x dep) (c : Counts t x dep) where
   deletions-low : suc (x .deletions) ≤ t .n
@@ -64,11 +74,11 @@ module _ {t : Table} (g : Good t) {x : State} {dep : ℕ → ℕ} (s : Sound t x
       ⊎-elim
       (λ (e : v ≡ o).
       omega
-      (arith, only-same o 1 v e, undeleted-none x v (λ (d : status-at x v ≡ 2). omega (arith, ap (status-at x) e, s .nodes .origin-status))))
+      (arith, only-same o 1 v e, undeleted-none x v (λ (d : status-at x v ≡ deleted). omega (arith, ap (status-at x) e, s .nodes .origin-status))))
       (λ (d : v ≡ o → ⊥).
-      ⊎-elim (λ (q : status-at x v ≡ 2). omega (arith, only-other o 1 v d, deleted-one x v q))
-      (λ (q : status-at x v ≡ 2 → ⊥). omega (arith, only-other o 1 v d, undeleted-none x v q))
-      (same-or (status-at x v) 2))
+      ⊎-elim (λ (q : status-at x v ≡ deleted). omega (arith, only-other o 1 v d, deleted-one x v q))
+      (λ (q : status-at x v ≡ deleted → ⊥). omega (arith, only-other o 1 v d, undeleted-none x v q))
+      (same-or (status-at x v) deleted))
       (same-or v o)) in
       omega (arith, a, c .deleted, total-one (t .n) (one-if-deleted x) o 1 (g .origin-in), total-const (t .n) 1)
 

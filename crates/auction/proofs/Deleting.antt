@@ -5,7 +5,7 @@ use mathlib.Core.Option.{none, some}
 use Prim.Native.Nat.{ℕ, _+_, _<_}
 use native.Mathlib.Omega.{arith}
 use Rattle.table.specs.Table.{Table, tail-at, head-at, length-at}
-use Rattle.auction.specs.Auction.{State, state, kept-at, status-at, or-zero, terminal, deletion, best, iterations}
+use Rattle.auction.specs.Auction.{State, state, kept-at, status-at, or-zero, terminal, deletion, best, iterations, unreached, reached, deleted}
 use Rattle.auction.specs.HandOver.{reached-count}
 use Rattle.table.proofs.Basics.{same-or}
 use Rattle.auction.proofs.Sums.{total-le, total-same, total-one, only-at, only-same, only-other}
@@ -29,14 +29,14 @@ module _ (t : Table) (g : Good t) (x : State) (dep : ℕ → ℕ) (s : Sound t x
   abbrev before : Nodes t x dep
   before = s .nodes
 
-  gone-status : status-at x gone ≡ 1
+  gone-status : status-at x gone ≡ reached
   unfolding terminal
   gone-status = top-status before (x .path) (s .chain)
 
   gone-in : gone < t .n
   gone-in = status-in gone (before .sizes) (omega (arith, gone-status))
 
-  change : Restatused t x gone 2 left
+  change : Restatused t x gone deleted left
   change = deletion-effect t x gone (before .sizes) gone-in
 
   alike : (u : ℕ) → (u ≡ gone → ⊥) → Same x left u
@@ -47,15 +47,15 @@ module _ (t : Table) (g : Good t) (x : State) (dep : ℕ → ℕ) (s : Sound t x
   unfolding estimate
   estimates u = omega (arith, change .prices u, same-distance x left u (change .bounds u))
 
-  still : (u : ℕ) → 0 < status-at x u → 0 < status-at left u
+  still : (u : ℕ) → unreached < status-at x u → unreached < status-at left u
   still u h =
       ⊎-elim (λ (e : u ≡ gone). omega (arith, change .here, ap (status-at left) e)) (λ (d : u ≡ gone → ⊥). omega (arith, change .elsewhere u d, h)) (same-or u gone)
 
-  earlier : (u : ℕ) → 0 < status-at left u → 0 < status-at x u
+  earlier : (u : ℕ) → unreached < status-at left u → unreached < status-at x u
   earlier u h =
       ⊎-elim (λ (e : u ≡ gone). omega (arith, gone-status, ap (status-at x) e)) (λ (d : u ≡ gone → ⊥). omega (arith, change .elsewhere u d, h)) (same-or u gone)
 
-  never : (u : ℕ) → status-at left u ≡ 0 → status-at x u ≡ 0
+  never : (u : ℕ) → status-at left u ≡ unreached → status-at x u ≡ unreached
   never u e =
       ⊎-elim (λ (q : u ≡ gone). absurd (omega (arith, change .here, ap (status-at left) q))) (λ (d : u ≡ gone → ⊥). sym (change .elsewhere u d) ∙ e) (same-or u gone)
 
@@ -67,12 +67,12 @@ module _ (t : Table) (g : Good t) (x : State) (dep : ℕ → ℕ) (s : Sound t x
       (same-or u gone))
       still
 
-  deleted-live : (u i : ℕ) → kept-at left u ≡ some i → (status-at left u ≡ 2 → ⊥) → Live-arc t left u i
+  deleted-live : (u i : ℕ) → kept-at left u ≡ some i → (status-at left u ≡ deleted → ⊥) → Live-arc t left u i
   deleted-live u i e h =
       let e′ = sym (change .kepts u) ∙ e in
       let a = before .kept u i e′ in
       let d : u ≡ gone → ⊥ = λ q. h (ap (status-at left) q ∙ change .here) in
-      let undeleted : status-at x u ≡ 2 → ⊥ = λ q. h (change .elsewhere u d ∙ q) in
+      let undeleted : status-at x u ≡ deleted → ⊥ = λ q. h (change .elsewhere u d ∙ q) in
       let l = before .live u i e′ undeleted in
       let apart : tail-at t i ≡ gone → ⊥ =
       λ q.
@@ -158,7 +158,7 @@ module _ (t : Table) (g : Good t) (x : State) (dep : ℕ → ℕ) (s : Sound t x
         arith,
         only-same gone 1 u e,
         deleted-one left u (ap (status-at left) e ∙ change .here),
-        undeleted-none x u (λ (q : status-at x u ≡ 2). omega (arith, gone-status, ap (status-at x) e)),
+        undeleted-none x u (λ (q : status-at x u ≡ deleted). omega (arith, gone-status, ap (status-at x) e)),
       ))
       (λ (d : u ≡ gone → ⊥). omega (arith, only-other gone 1 u d, same-deleted x left u (change .elsewhere u d)))
       (same-or u gone)) in
@@ -168,9 +168,9 @@ module _ (t : Table) (g : Good t) (x : State) (dep : ℕ → ℕ) (s : Sound t x
         extended = omega (arith, k .extended, shorter (x .path));
       }
 
-  pub deleted : Stepped t x left
+  pub by-deletion : Stepped t x left
   unfolding deletion state iterations
-  deleted =
+  by-deletion =
       record {
         invariant = record { depth = dep; sound = deleted-sound; counts = deleted-counts };
         counted = omega arith;

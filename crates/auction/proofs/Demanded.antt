@@ -1,42 +1,55 @@
--- The promises, carried over to what is handed over. Assumes nothing.
-use mathlib.Core.Path.{_≡_, refl, sym, subst, _∙_}
+-- The promises, carried over to what is handed over; and the demands pin the counts. Assumes nothing.
+use mathlib.Core.Path.{_≡_, refl, sym, ap, subst, _∙_}
 use mathlib.Core.Bool.{true, false, cond}
 use mathlib.Core.List.{List}
 use mathlib.Core.Logic.{inl, inr, ⊎-elim}
-use Prim.Native.Nat.{ℕ, _≤_, _<_}
+use mathlib.Core.Option.{none, some}
+use Prim.Native.Nat.{ℕ, zero, suc, _≤_, _<_}
 use native.Mathlib.Omega.{arith}
 use lib.ListN.{getD}
-use Rattle.table.specs.Table.{Table, is-table, walk-length, no-distance}
+use Rattle.table.specs.Table.{Table, is-table, tail-at, walk-length, no-distance}
 use Rattle.table.specs.Refusals.{refusal, no-refusal}
-use Rattle.auction.specs.Auction.{State, auction, was-reached, distance, iterations}
+use Rattle.auction.specs.Auction.{State, auction, next, after, then-next, was-reached, distance, iterations}
 use Rattle.auction.specs.HandOver.{Answer, handed-over, distances, first-missing, route-refusal}
-use Rattle.auction.specs.Promises.{last-state, route, price, link, Shortest, Shown, Walk-shortest, Walk-given, Prices-fit, Prices-show, Route-to-all, No-route, First-without-walk, Few-iterations, Fewer-iterations, Iterations-counted, Attains, Earliest-link}
-use Rattle.auction.specs.Demands.{distance-of, price-of, link-of, walk-of, Given, Demands, Demands-met}
-use Rattle.table.proofs.Basics.{true-or, below-or}
+use Rattle.auction.specs.Plan.{routes-of}
+use Rattle.auction.specs.Promises.{Has-walk, No-walk, last-state, route, price, link, Shortest, Shown, Walk-shortest, Walk-given, Prices-fit, Prices-show, Route-to-all, No-route, First-without-walk, Few-iterations, Fewer-iterations, Ends-by-itself, Iterations-counted, Attains, Earliest-link}
+use Rattle.auction.specs.Demands.{distance-of, price-of, link-of, walk-of, Given, Demands, Demands-met, Same-counts, Counts-pinned, hollow, Hollow-fails}
+use Rattle.table.proofs.Basics.{same-or, true-or, below-or, not-both, some-none, some-same}
 use Rattle.auction.proofs.Sums.{column, past-column}
-use Rattle.auction.proofs.Good.{good}
-use Rattle.auction.proofs.Effects.{estimate, status-in, reached-status}
-use Rattle.auction.proofs.Promised.{walk-shortest, walk-given, prices-fit, prices-show, route-to-all, no-route, few-iterations, fewer-iterations, iterations-counted, earliest-link, invariant}
+use Rattle.auction.proofs.Good.{Good, good}
+use Rattle.auction.proofs.Effects.{estimate, status-in, reached-status, status-reached}
+use Rattle.auction.proofs.Sound.{Sound}
+use Rattle.auction.proofs.Walks.{kept-link, tree-origin}
+use Rattle.auction.proofs.Promised.{walk-shortest, walk-given, prices-fit, prices-show, route-to-all, no-route, few-iterations, fewer-iterations, ends-by-itself, iterations-counted, earliest-link, invariant}
 
 module _ (t : Table) (ws : List ℕ) (e : is-table t ws ≡ true) where
   abbrev x : State
   x = last-state t ws
 
+  abbrev g : Good t
+  g = good t ws e
+
+  abbrev dep : ℕ → ℕ
+  dep = invariant t ws e .depth
+
+  abbrev sound : Sound t x dep
+  sound = invariant t ws e .sound
+
   abbrev a : Answer
-  a = handed-over t ws (auction t ws)
+  a = routes-of t ws
 
   -- the distance column: a reached node's distance, 2⁶⁴ − 1 for any other
   entry : ℕ → ℕ
   entry v = cond (was-reached x v) (distance x v) no-distance
 
   reached-entry : (v : ℕ) → was-reached x v ≡ true → distance-of a v ≡ distance x v
-  unfolding distance-of handed-over distances last-state entry
+  unfolding distance-of routes-of handed-over distances last-state entry
   reached-entry v r =
       let here : entry v ≡ distance x v = rw r in
       column (t .n) v entry no-distance (status-in v (invariant t ws e .sound .nodes .sizes) (reached-status x v r)) ∙ here
 
   unreached-entry : (v : ℕ) → was-reached x v ≡ false → distance-of a v ≡ no-distance
-  unfolding distance-of handed-over distances last-state entry
+  unfolding distance-of routes-of handed-over distances last-state entry
   unreached-entry v r =
       let here : entry v ≡ no-distance = rw r in
       ⊎-elim (λ (h : v < t .n). column (t .n) v entry no-distance h ∙ here) (λ (h : t .n ≤ v). past-column (t .n) v entry no-distance h)
@@ -53,15 +66,15 @@ module _ (t : Table) (ws : List ℕ) (e : is-table t ws ≡ true) where
 
   -- number 8 exactly where the run ended without every wanted node
   number-zero : auction t ws .routed ≡ true → a .number ≡ 0
-  unfolding handed-over route-refusal no-refusal refusal
+  unfolding routes-of handed-over route-refusal no-refusal refusal
   number-zero r = rw r
 
   number-eight : auction t ws .routed ≡ false → (a .number ≡ 8) × (a .place ≡ first-missing 0 ws x)
-  unfolding handed-over route-refusal refusal last-state
+  unfolding routes-of handed-over route-refusal refusal last-state
   number-eight r = (rw r, rw r)
 
   demands : Demands t ws a
-  unfolding handed-over last-state price-of link-of walk-of iterations Walk-shortest Walk-given Prices-fit Prices-show Route-to-all No-route Few-iterations Fewer-iterations Iterations-counted Earliest-link route price link
+  unfolding routes-of handed-over last-state price-of link-of walk-of iterations Walk-shortest Walk-given Prices-fit Prices-show Route-to-all No-route Few-iterations Fewer-iterations Ends-by-itself Iterations-counted Earliest-link route price link
   demands =
       let shortest : (v : ℕ) → Given a v → Shortest t ws v = λ v h. walk-shortest t ws v e (given-reached v h) in
       let shown : (v : ℕ) → Given a v → Shown t ws v = λ v h. prices-show t ws v e (given-reached v h) in
@@ -69,11 +82,17 @@ module _ (t : Table) (ws : List ℕ) (e : is-table t ws ≡ true) where
       record {
         given = λ k walk h w. reached-given (getD ws k 0) (walk-given t ws k walk e h w);
         walk = λ v h. shortest v h .walk;
+        short = λ v h. shortest v h .short;
         as-long = λ v h. shortest v h .as-long ∙ at v h;
         least = λ v h other w. subst (λ (d : ℕ). d ≤ walk-length t other) (at v h) (shortest v h .least other w);
         attains = λ v h d. subst (λ (k : ℕ). Attains t v k (link t ws v)) (at v h) (earliest-link t ws v e (given-reached v h) d .attains);
         earliest =
             λ v h d i q. earliest-link t ws v e (given-reached v h) d .first i (subst (λ (k : ℕ). Attains t v k i) (sym (at v h)) q);
+        near-end =
+            λ v h d.
+            let l = kept-link t g x dep sound v (given-reached v h) d in
+            subst (λ (i : ℕ). Given a (tail-at t i)) (sym (l .entry)) (reached-given (tail-at t (l .position)) (status-reached x (tail-at t (l .position)) (l .arc .from-reached)));
+        no-link = tree-origin t g x dep sound;
         prices-fit = λ i h. prices-fit t ws i e h;
         prices-equal = λ v h. shown v h .equal;
         prices-show = λ v h. shown v h .difference;
@@ -93,6 +112,16 @@ module _ (t : Table) (ws : List ℕ) (e : is-table t ws ≡ true) where
         last = x;
         steps = iterations-counted t ws e .steps;
         counted = (refl, refl, refl);
+        found =
+            λ z.
+            ⊎-elim (λ (r : auction t ws .routed ≡ true). ends-by-itself t ws e .found r)
+            (λ (r : auction t ws .routed ≡ false). absurd (omega (arith, z, number-eight r .0)))
+            (true-or (auction t ws .routed));
+        stuck =
+            λ z.
+            ⊎-elim (λ (r : auction t ws .routed ≡ true). absurd (omega (arith, z, number-zero r)))
+            (λ (r : auction t ws .routed ≡ false). ends-by-itself t ws e .stuck r)
+            (true-or (auction t ws .routed));
         not-before = iterations-counted t ws e .not-before;
         few = few-iterations t ws e;
         fewer = fewer-iterations t ws e;
@@ -101,3 +130,58 @@ module _ (t : Table) (ws : List ℕ) (e : is-table t ws ≡ true) where
 pub demands-met : Demands-met
 unfolding Demands-met
 demands-met = demands
+
+-- THE COUNTS ARE PINNED. Once no iteration follows, none does later
+none-after : (t : Table) (k : ℕ) (y : State) → after k t ≡ some y → next t y ≡ none → (m : ℕ) → k < m → after m t ≡ none
+unfolding after then-next
+none-after t k y p n zero h = absurd (omega (arith, h))
+none-after t k y p n (suc m) h =
+    ⊎-elim (λ (s : k ≡ m). ap (λ (q : ℕ). then-next t (after q t)) (sym s) ∙ ap (then-next t) p ∙ n)
+    (λ (d : k ≡ m → ⊥). ap (then-next t) (none-after t k y p n m (omega (arith, h, d))))
+    (same-or k m)
+
+module _ {t : Table} {ws : List ℕ} where
+  -- number 0 and number 8 exclude each other
+  one-number : {a b : Answer} → Demands t ws a → Demands t ws b → a .number ≡ 0 → b .number ≡ 8 → ⊥
+  unfolding Has-walk No-walk
+  one-number da db z y =
+      let f = db .no-route y in
+      let w = da .route z _ (f .wanted) in
+      not-both _ (w .1) (f .without (w .0))
+
+  same-number : {a b : Answer} → Demands t ws a → Demands t ws b → a .number ≡ b .number
+  same-number {a} {b} da db =
+      ⊎-elim
+      (λ (z : a .number ≡ 0).
+      ⊎-elim (λ (y : b .number ≡ 0). z ∙ sym y) (λ (y : b .number ≡ 8). absurd (one-number da db z y)) (db .numbers))
+      (λ (z : a .number ≡ 8).
+      ⊎-elim (λ (y : b .number ≡ 0). absurd (one-number db da y z)) (λ (y : b .number ≡ 8). z ∙ sym y) (db .numbers))
+      (da .numbers)
+
+  -- the one cannot stop before the other
+  not-sooner : {a b : Answer} → Demands t ws a → Demands t ws b → a .iterations < b .iterations → ⊥
+  not-sooner {a} {b} da db h =
+      ⊎-elim (λ (z : a .number ≡ 0). not-both _ (da .found z) (db .not-before (a .iterations) (da .last) h (da .steps)))
+      (λ (z : a .number ≡ 8). some-none (db .steps) (none-after t (a .iterations) (da .last) (da .steps) (da .stuck z) (b .iterations) h))
+      (da .numbers)
+
+  same-counts : {a b : Answer} → Demands t ws a → Demands t ws b → Same-counts a b
+  same-counts {a} {b} da db =
+      let same : a .iterations ≡ b .iterations = omega (arith, not-sooner da db, not-sooner db da) in
+      let last : da .last ≡ db .last = some-same (da .steps) (ap (λ (k : ℕ). after k t) same ∙ db .steps) in
+      let by : (f : State → ℕ) → f (da .last) ≡ f (db .last) = λ f. ap f last in
+      record {
+        number = same-number da db;
+        iterations = same;
+        contractions = sym (da .counted .0) ∙ by (λ x. x .contractions) ∙ db .counted .0;
+        extensions = sym (da .counted .1) ∙ by (λ x. x .extensions) ∙ db .counted .1;
+        deletions = sym (da .counted .2) ∙ by (λ x. x .deletions) ∙ db .counted .2;
+      }
+
+pub counts-pinned : Counts-pinned
+unfolding Counts-pinned
+counts-pinned t ws a b = same-counts
+
+pub hollow-fails : Hollow-fails
+unfolding Hollow-fails hollow
+hollow-fails t ws e h d = omega (arith, h, same-counts (demands t ws e) d .iterations)

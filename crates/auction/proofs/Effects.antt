@@ -8,7 +8,7 @@ use lib.ListN.{length, length-set}
 use lib.Seq.{getD-set-same, getD-set-other}
 use borrow.Author.Tests.{ltb-true, ltb-false, lt-ltb, le-ltb, eqb-true, eqb-false}
 use Rattle.table.specs.Table.{Table}
-use Rattle.auction.specs.Auction.{State, state, price-at, bound-at, kept-at, status-at, distance, or-zero, was-reached, is-deleted, with-kept, with-status, deletion, contraction, longer}
+use Rattle.auction.specs.Auction.{State, state, price-at, bound-at, kept-at, status-at, distance, or-zero, was-reached, is-deleted, with-kept, with-status, deletion, contraction, longer, unreached, deleted}
 use Rattle.table.proofs.Basics.{inside, inside-some}
 
 -- price and bound together: the least length, as far as is known, of a walk through the node
@@ -46,32 +46,32 @@ unfolding distance or-zero
 zero-distance x v e = ap or-zero e
 
 -- the tests on a status
-pub reached-status : (x : State) (v : ℕ) → was-reached x v ≡ true → 0 < status-at x v
+pub reached-status : (x : State) (v : ℕ) → was-reached x v ≡ true → unreached < status-at x v
 unfolding was-reached
-reached-status x v e = ltb-true 0 (status-at x v) e
+reached-status x v e = ltb-true unreached (status-at x v) e
 
-pub status-reached : (x : State) (v : ℕ) → 0 < status-at x v → was-reached x v ≡ true
+pub status-reached : (x : State) (v : ℕ) → unreached < status-at x v → was-reached x v ≡ true
 unfolding was-reached
-status-reached x v h = lt-ltb 0 (status-at x v) h
+status-reached x v h = lt-ltb unreached (status-at x v) h
 
-pub unreached-status : (x : State) (v : ℕ) → was-reached x v ≡ false → status-at x v ≡ 0
+pub unreached-status : (x : State) (v : ℕ) → was-reached x v ≡ false → status-at x v ≡ unreached
 unfolding was-reached
-unreached-status x v e = omega (arith, ltb-false 0 (status-at x v) e)
+unreached-status x v e = omega (arith, ltb-false unreached (status-at x v) e)
 
-pub status-unreached : (x : State) (v : ℕ) → status-at x v ≡ 0 → was-reached x v ≡ false
+pub status-unreached : (x : State) (v : ℕ) → status-at x v ≡ unreached → was-reached x v ≡ false
 unfolding was-reached
-status-unreached x v e = le-ltb 0 (status-at x v) (omega arith)
+status-unreached x v e = le-ltb unreached (status-at x v) (omega arith)
 
-pub deleted-status : (x : State) (v : ℕ) → is-deleted x v ≡ true → status-at x v ≡ 2
+pub deleted-status : (x : State) (v : ℕ) → is-deleted x v ≡ true → status-at x v ≡ deleted
 unfolding is-deleted
-deleted-status x v e = eqb-true (status-at x v) 2 e
+deleted-status x v e = eqb-true (status-at x v) deleted e
 
-pub undeleted-status : (x : State) (v : ℕ) → is-deleted x v ≡ false → status-at x v ≡ 2 → ⊥
+pub undeleted-status : (x : State) (v : ℕ) → is-deleted x v ≡ false → status-at x v ≡ deleted → ⊥
 unfolding is-deleted
-undeleted-status x v e = eqb-false (status-at x v) 2 e
+undeleted-status x v e = eqb-false (status-at x v) deleted e
 
 -- a node with a status, a bound or a kept arc is below n
-pub status-in : {t : Table} {x : State} (v : ℕ) → Sizes t x → 0 < status-at x v → v < t .n
+pub status-in : {t : Table} {x : State} (v : ℕ) → Sizes t x → unreached < status-at x v → v < t .n
 unfolding status-at
 status-in {t} {x} v z h = omega (arith, inside (x .status) v h, z .statuses)
 
@@ -135,8 +135,8 @@ module _ (t : Table) (x : State) (j a : ℕ) where
         sizes =
             record
             { prices = z .prices; bounds = z .bounds; kepts = z .kepts; statuses = length-set (x .status) j a ∙ z .statuses };
-        here = getD-set-same (x .status) j a 0 (omega (arith, z .statuses));
-        elsewhere = λ v d. getD-set-other (x .status) j v a 0 d;
+        here = getD-set-same (x .status) j a unreached (omega (arith, z .statuses));
+        elsewhere = λ v d. getD-set-other (x .status) j v a unreached d;
         prices = λ v. refl;
         bounds = λ v. refl;
         kepts = λ v. refl;
@@ -166,10 +166,10 @@ module _ (t : Table) (x : State) (j a : ℕ) where
       }
 
 -- a deletion changes the status and shortens the path
-pub deletion-effect : (t : Table) (x : State) (j : ℕ) → Sizes t x → j < t .n → Restatused t x j 2 (deletion j x)
+pub deletion-effect : (t : Table) (x : State) (j : ℕ) → Sizes t x → j < t .n → Restatused t x j deleted (deletion j x)
 unfolding deletion with-status state price-at bound-at kept-at status-at
 deletion-effect t x j z h =
-    let r = restatused t x j 2 z h in
+    let r = restatused t x j deleted z h in
     record {
       sizes =
           record

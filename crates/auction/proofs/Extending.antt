@@ -8,7 +8,7 @@ use Prim.Native.Nat.{ℕ, suc, _+_, _≤_, _<_}
 use native.Mathlib.Omega.{arith}
 use lib.ListN.{length, getD}
 use Rattle.table.specs.Table.{Table, arc-count, tail-at, head-at, length-at}
-use Rattle.auction.specs.Auction.{State, Bid, state, price-at, bound-at, kept-at, status-at, distance, or-zero, was-reached, terminal, longer, extension, with-status, reach, iterations}
+use Rattle.auction.specs.Auction.{State, Bid, state, price-at, bound-at, kept-at, status-at, distance, or-zero, was-reached, terminal, longer, extension, with-status, reach, iterations, unreached, reached, deleted}
 use Rattle.auction.specs.HandOver.{reached-count}
 use Rattle.table.proofs.Basics.{same-or, true-or, some-none}
 use Rattle.auction.proofs.Sums.{total-le, total-same}
@@ -87,7 +87,7 @@ module _ (t : Table) (g : Good t) (x : State) (dep : ℕ → ℕ) (s : Sound t x
   abbrev child : Child t v (b .by-arc) x
   child = best .child
 
-  v-status : status-at x v ≡ 1
+  v-status : status-at x v ≡ reached
   unfolding terminal
   v-status = top-status nodes (x .path) (s .chain)
 
@@ -103,7 +103,7 @@ module _ (t : Table) (g : Good t) (x : State) (dep : ℕ → ℕ) (s : Sound t x
   deeper : dep j ≡ suc (dep v)
   deeper = child-depth nodes v (b .by-arc) child
 
-  link : (y : State) → kept-at y j ≡ kept-at x j → status-at y j ≡ 1 → estimate y j ≡ estimate x j → estimate y v ≡ estimate x v → Link t y j v
+  link : (y : State) → kept-at y j ≡ kept-at x j → status-at y j ≡ reached → estimate y j ≡ estimate x j → estimate y v ≡ estimate x v → Link t y j v
   link y kept status here there =
       record
       { by-arc = b .by-arc; kept = kept ∙ child .kept; leaves = child .leaves; status = status; tight = here ∙ tight ∙ sym there }
@@ -117,8 +117,8 @@ module _ (t : Table) (g : Good t) (x : State) (dep : ℕ → ℕ) (s : Sound t x
   longer-sound : was-reached x j ≡ true → Sound t l dep
   unfolding longer state terminal
   longer-sound r =
-      let status : status-at x j ≡ 1 =
-      let undeleted : status-at x j ≡ 2 → ⊥ = child .undeleted in
+      let status : status-at x j ≡ reached =
+      let undeleted : status-at x j ≡ deleted → ⊥ = child .undeleted in
       omega (arith, reached-status x j r, nodes .status-low j) in
       let same = longer-same x j in
       record {
@@ -149,16 +149,16 @@ module _ (t : Table) (g : Good t) (x : State) (dep : ℕ → ℕ) (s : Sound t x
   -- to a child not reached before: it is marked as reached, and then its arcs are offered
   module _ (new : was-reached x j ≡ false) where
     abbrev z : State
-    z = with-status j 1 l
+    z = with-status j reached l
 
-    j-status : status-at x j ≡ 0
+    j-status : status-at x j ≡ unreached
     j-status = unreached-status x j new
 
     j-in : j < t .n
     j-in = kept-below j (nodes .sizes) (child .kept)
 
-    marked : Restatused t l j 1 z
-    marked = restatused t l j 1 (longer-sizes t x j (nodes .sizes)) j-in
+    marked : Restatused t l j reached z
+    marked = restatused t l j reached (longer-sizes t x j (nodes .sizes)) j-in
 
     prices : (u : ℕ) → price-at z u ≡ price-at x u
     prices u = marked .prices u ∙ longer-same x j u .price
@@ -180,18 +180,18 @@ module _ (t : Table) (g : Good t) (x : State) (dep : ℕ → ℕ) (s : Sound t x
     estimates u = omega (arith, prices u, distances u)
 
     -- which nodes are reached: those of before, and j
-    still : (u : ℕ) → 0 < status-at x u → 0 < status-at z u
+    still : (u : ℕ) → unreached < status-at x u → unreached < status-at z u
     still u h =
         ⊎-elim (λ (e : u ≡ j). omega (arith, marked .here, ap (status-at z) e)) (λ (d : u ≡ j → ⊥). omega (arith, elsewhere u d, h)) (same-or u j)
 
-    reached-cases : (u : ℕ) → 0 < status-at z u → (u ≡ j) ⊎ (0 < status-at x u)
+    reached-cases : (u : ℕ) → unreached < status-at z u → (u ≡ j) ⊎ (unreached < status-at x u)
     reached-cases u h = ⊎-elim (λ (e : u ≡ j). inl e) (λ (d : u ≡ j → ⊥). inr (omega (arith, elsewhere u d, h))) (same-or u j)
 
-    never : (u : ℕ) → status-at z u ≡ 0 → status-at x u ≡ 0
+    never : (u : ℕ) → status-at z u ≡ unreached → status-at x u ≡ unreached
     never u e =
         ⊎-elim (λ (q : u ≡ j). absurd (omega (arith, marked .here, ap (status-at z) q))) (λ (d : u ≡ j → ⊥). sym (elsewhere u d) ∙ e) (same-or u j)
 
-    not-deleted : (u : ℕ) → (status-at z u ≡ 2 → ⊥) → status-at x u ≡ 2 → ⊥
+    not-deleted : (u : ℕ) → (status-at z u ≡ deleted → ⊥) → status-at x u ≡ deleted → ⊥
     not-deleted u h q = h (elsewhere u (λ (e : u ≡ j). omega (arith, j-status, ap (status-at x) e)) ∙ q)
 
     -- the child's distance is the origin's price
@@ -245,13 +245,13 @@ module _ (t : Table) (g : Good t) (x : State) (dep : ℕ → ℕ) (s : Sound t x
               };
           level =
               λ u h.
-              ⊎-elim (λ (e : u ≡ j). omega (arith, distances u, ap (distance x) e, top, prices o)) (λ (r : 0 < status-at x u). omega (arith, distances u, prices o, nodes .level u r))
+              ⊎-elim (λ (e : u ≡ j). omega (arith, distances u, ap (distance x) e, top, prices o)) (λ (r : unreached < status-at x u). omega (arith, distances u, prices o, nodes .level u r))
               (reached-cases u h);
           shallow =
               λ u h.
               ⊎-elim
               (λ (e : u ≡ j). omega (arith, ap dep e, deeper, nodes .shallow v (omega (arith, v-status)), one-more))
-              (λ (r : 0 < status-at x u). omega (arith, nodes .shallow u r, one-more))
+              (λ (r : unreached < status-at x u). omega (arith, nodes .shallow u r, one-more))
               (reached-cases u h);
           small-distance = λ u. omega (arith, distances u, nodes .small-distance u);
           small-estimate = λ u. omega (arith, estimates u, nodes .small-estimate u);
@@ -294,7 +294,7 @@ module _ (t : Table) (g : Good t) (x : State) (dep : ℕ → ℕ) (s : Sound t x
     abbrev depths : ℕ → ℕ
     depths = done .depth
 
-    still-y : (u : ℕ) → 0 < status-at y u → 0 < status-at z u
+    still-y : (u : ℕ) → unreached < status-at y u → unreached < status-at z u
     still-y u h = omega (arith, done .unmoved .statuses u, h)
 
     reached-sound : Sound t y depths
@@ -307,7 +307,7 @@ module _ (t : Table) (g : Good t) (x : State) (dep : ℕ → ℕ) (s : Sound t x
     y-reached = same-reached t z y (done .unmoved .statuses) ∙ one-more
 
     -- a reached node is loose only where it was before
-    slack-bound : (u : ℕ) → 0 < status-at y u → slack t y depths u ≤ slack t x dep u
+    slack-bound : (u : ℕ) → unreached < status-at y u → slack t y depths u ≤ slack t x dep u
     slack-bound u h =
         let m = done .unmoved in
         let r = still-y u h in
@@ -329,8 +329,8 @@ module _ (t : Table) (g : Good t) (x : State) (dep : ℕ → ℕ) (s : Sound t x
         (λ u h.
         ⊎-elim
         (λ (e : u ≡ j).
-        undeleted-none x u (λ (q : status-at x u ≡ 2). omega (arith, j-status, ap (status-at x) e))
-        ∙ sym (undeleted-none y u (λ (q : status-at y u ≡ 2). omega (arith, m .statuses u, marked .here, ap (status-at z) e))))
+        undeleted-none x u (λ (q : status-at x u ≡ deleted). omega (arith, j-status, ap (status-at x) e))
+        ∙ sym (undeleted-none y u (λ (q : status-at y u ≡ deleted). omega (arith, m .statuses u, marked .here, ap (status-at z) e))))
         (λ (d : u ≡ j → ⊥). sym (same-deleted x y u (m .statuses u ∙ elsewhere u d)))
         (same-or u j)) in
         record {
@@ -339,9 +339,9 @@ module _ (t : Table) (g : Good t) (x : State) (dep : ℕ → ℕ) (s : Sound t x
           extended = omega (arith, k .extended, m .contractions, m .deletions, m .extensions, ap length (m .path));
         }
 
-  extended-longer : was-reached x j ≡ true → Stepped t x l
+  onto-reached : was-reached x j ≡ true → Stepped t x l
   unfolding longer state iterations
-  extended-longer r =
+  onto-reached r =
       let same = longer-same x j in
       record {
         invariant = record { depth = dep; sound = longer-sound r; counts = longer-counts };
@@ -351,11 +351,11 @@ module _ (t : Table) (g : Good t) (x : State) (dep : ℕ → ℕ) (s : Sound t x
         arrives = λ u e h. absurd (omega (arith, same u .status, e, h));
       }
 
-  extended-reached : (new : was-reached x j ≡ false) → Stepped t x (reach t j l)
+  onto-new : (new : was-reached x j ≡ false) → Stepped t x (reach t j l)
   unfolding longer with-status state iterations
-  extended-reached new =
+  onto-new new =
       let m = done new .unmoved in
-      let distance-kept : (u : ℕ) → 0 < status-at (z new) u → distance (y new) u ≡ distance x u =
+      let distance-kept : (u : ℕ) → unreached < status-at (z new) u → distance (y new) u ≡ distance x u =
       λ u h. same-distance (z new) (y new) u (m .reached u h .bound) ∙ distances new u in
       record {
         invariant = record { depth = depths new; sound = reached-sound new; counts = reached-counts new };
@@ -365,13 +365,13 @@ module _ (t : Table) (g : Good t) (x : State) (dep : ℕ → ℕ) (s : Sound t x
         arrives =
             λ u e h.
             let r = still-y new u h in
-            ⊎-elim (λ (q : u ≡ j). distance-kept u r ∙ ap (distance x) q ∙ top new) (λ (q : 0 < status-at x u). absurd (omega arith))
+            ⊎-elim (λ (q : u ≡ j). distance-kept u r ∙ ap (distance x) q ∙ top new) (λ (q : unreached < status-at x u). absurd (omega arith))
             (reached-cases new u r);
       }
 
-  pub extended : Stepped t x (extension t j x)
+  pub by-extension : Stepped t x (extension t j x)
   unfolding extension
-  extended =
-      ⊎-elim (λ (r : was-reached x j ≡ true). subst (λ (c : Bool). Stepped t x (cond c l (reach t j l))) (sym r) (extended-longer r))
-      (λ (r : was-reached x j ≡ false). subst (λ (c : Bool). Stepped t x (cond c l (reach t j l))) (sym r) (extended-reached r))
+  by-extension =
+      ⊎-elim (λ (r : was-reached x j ≡ true). subst (λ (c : Bool). Stepped t x (cond c l (reach t j l))) (sym r) (onto-reached r))
+      (λ (r : was-reached x j ≡ false). subst (λ (c : Bool). Stepped t x (cond c l (reach t j l))) (sym r) (onto-new r))
       (true-or (was-reached x j))

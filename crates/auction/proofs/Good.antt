@@ -1,5 +1,5 @@
--- What `is-table` says of a table's numbers, one fact a field; and the grounds 1 to 7 give it. Assumes nothing.
-use mathlib.Core.Path.{_≡_, refl, subst}
+-- What `is-table` says of a table's numbers, one fact a field; and it holds just where none of the grounds 1 to 7 applies. Assumes nothing.
+use mathlib.Core.Path.{_≡_, refl, ap, subst, _∙_}
 use mathlib.Core.Bool.{Bool, true, false, _&&_, _||_, not, cond}
 use mathlib.Core.List.{List, [], _∷_}
 use mathlib.Core.Logic.{⊎-elim}
@@ -7,20 +7,24 @@ use Prim.Native.Nat.{ℕ, zero, suc, _^_, _≤_, _<_}
 use native.Mathlib.Omega.{arith}
 use lib.Dec.{ltb, leb, eqb}
 use lib.ListN.{length, getD}
-use borrow.Author.Tests.{ltb-true, leb-true, eqb-true, lt-ltb, le-leb, ltb-false, leb-false, eqb-false}
+use borrow.Author.Tests.{ltb-true, leb-true, eqb-true, lt-ltb, le-ltb, le-leb, lt-leb, eq-eqb, ne-eqb, ltb-false, leb-false, eqb-false}
 use Rattle.table.specs.Table.{Table, Arc, arc, table, table-of, arcs-of, is-table, arc-good, arcs-good, nodes-below, arc-count, arc-at, tail-at, head-at, length-at, longest, no-arc, most-nodes, most-arcs, most-wanted, Below}
 use Rattle.table.specs.declared.Refusal.{Refusal}
-use Rattle.table.specs.Refusals.{refusal, or-else, table-refusal, count-bad, columns-bad, rooms-fit, wanted-from, wanted-refusal, arc-fault, arcs-from, arcs-refusal}
-use Rattle.auction.specs.Promises.{Not-turned-down}
+use Rattle.table.specs.Refusals.{refusal, no-refusal, or-else, table-refusal, count-bad, columns-bad, rooms-fit, wanted-from, wanted-refusal, arc-fault, arcs-from, arcs-refusal}
+use Rattle.auction.specs.Promises.{Longest-of-32-bits, Lengths-of-32-bits, Unrefused-is-table, Table-is-unrefused}
 use Rattle.table.proofs.Basics.{either-false, both-true, true-both, true-or}
 
+-- A TABLE THAT IS NOT REFUSED
 pub record Good (t : Table) : Type 0 where
+  -- it has 1 to 1,024 nodes, one of them the origin, and at most 6,000 arcs;
   pub some-node : 1 ≤ t .n
   pub few-nodes : t .n ≤ 1024
   pub origin-in : t .origin < t .n
   pub few-arcs : arc-count t ≤ 6000
+  -- every arc leads from a node to a node,
   pub tail-in : (i : ℕ) → i < arc-count t → tail-at t i < t .n
   pub head-in : (i : ℕ) → i < arc-count t → head-at t i < t .n
+  -- and its length is at least 1 and at most the greatest
   pub positive : (i : ℕ) → i < arc-count t → 1 ≤ length-at t i
   pub not-long : (i : ℕ) → i < arc-count t → length-at t i ≤ longest
 
@@ -55,23 +59,48 @@ arc-facts n a e =
       not-long = leb-true (a .arc-length) longest (r .1);
     }
 
-pub good : (t : Table) (ws : List ℕ) → is-table t ws ≡ true → Good t
-unfolding is-table arc-count tail-at head-at length-at arc-at
-good t ws e =
+-- `is-table` taken apart
+record Parts (t : Table) (ws : List ℕ) : Type 0 where
+  some-node : 1 ≤ t .n
+  few-nodes : t .n ≤ most-nodes
+  origin-in : t .origin < t .n
+  few-arcs : arc-count t ≤ most-arcs
+  arcs : arcs-good (t .n) (t .arcs) ≡ true
+  few-wanted : length ws ≤ most-wanted
+  wanted : nodes-below (t .n) ws ≡ true
+
+parts : (t : Table) (ws : List ℕ) → is-table t ws ≡ true → Parts t ws
+unfolding is-table
+parts t ws e =
     let p =
-    both-true ((leb 1 (t .n) && leb (t .n) 1024) && (ltb (t .origin) (t .n) && leb (arc-count t) 6000))
-    (arcs-good (t .n) (t .arcs) && (leb (length ws) 1024 && nodes-below (t .n) ws)) e in
-    let q = both-true (leb 1 (t .n) && leb (t .n) 1024) (ltb (t .origin) (t .n) && leb (arc-count t) 6000) (p .0) in
-    let a = both-true (leb 1 (t .n)) (leb (t .n) 1024) (q .0) in
-    let b = both-true (ltb (t .origin) (t .n)) (leb (arc-count t) 6000) (q .1) in
-    let g = both-true (arcs-good (t .n) (t .arcs)) (leb (length ws) 1024 && nodes-below (t .n) ws) (p .1) .0 in
-    let at : (i : ℕ) → i < arc-count t → Arc-good (t .n) (arc-at t i) =
-    (λ i h. arc-facts (t .n) (arc-at t i) (arc-of (t .n) (t .arcs) (arc no-arc no-arc 0) i g h)) in
+    both-true ((leb 1 (t .n) && leb (t .n) most-nodes) && (ltb (t .origin) (t .n) && leb (arc-count t) most-arcs))
+    (arcs-good (t .n) (t .arcs) && (leb (length ws) most-wanted && nodes-below (t .n) ws)) e in
+    let q = both-true (leb 1 (t .n) && leb (t .n) most-nodes) (ltb (t .origin) (t .n) && leb (arc-count t) most-arcs) (p .0) in
+    let a = both-true (leb 1 (t .n)) (leb (t .n) most-nodes) (q .0) in
+    let b = both-true (ltb (t .origin) (t .n)) (leb (arc-count t) most-arcs) (q .1) in
+    let c = both-true (arcs-good (t .n) (t .arcs)) (leb (length ws) most-wanted && nodes-below (t .n) ws) (p .1) in
+    let w = both-true (leb (length ws) most-wanted) (nodes-below (t .n) ws) (c .1) in
     record {
       some-node = leb-true 1 (t .n) (a .0);
-      few-nodes = leb-true (t .n) 1024 (a .1);
+      few-nodes = leb-true (t .n) most-nodes (a .1);
       origin-in = ltb-true (t .origin) (t .n) (b .0);
-      few-arcs = leb-true (arc-count t) 6000 (b .1);
+      few-arcs = leb-true (arc-count t) most-arcs (b .1);
+      arcs = c .0;
+      few-wanted = leb-true (length ws) most-wanted (w .0);
+      wanted = w .1;
+    }
+
+pub good : (t : Table) (ws : List ℕ) → is-table t ws ≡ true → Good t
+unfolding arc-count tail-at head-at length-at arc-at
+good t ws e =
+    let p = parts t ws e in
+    let at : (i : ℕ) → i < arc-count t → Arc-good (t .n) (arc-at t i) =
+    (λ i h. arc-facts (t .n) (arc-at t i) (arc-of (t .n) (t .arcs) (arc no-arc no-arc 0) i (p .arcs) h)) in
+    record {
+      some-node = p .some-node;
+      few-nodes = p .few-nodes;
+      origin-in = p .origin-in;
+      few-arcs = p .few-arcs;
       tail-in = λ i h. at i h .tail-in;
       head-in = λ i h. at i h .head-in;
       positive = λ i h. at i h .positive;
@@ -79,15 +108,18 @@ good t ws e =
     }
 
 pub wanted-in : (t : Table) (ws : List ℕ) → is-table t ws ≡ true → (k : ℕ) → k < length ws → getD ws k 0 < t .n
-unfolding is-table
-wanted-in t ws e k h =
-    let p =
-    both-true ((leb 1 (t .n) && leb (t .n) 1024) && (ltb (t .origin) (t .n) && leb (arc-count t) 6000))
-    (arcs-good (t .n) (t .arcs) && (leb (length ws) 1024 && nodes-below (t .n) ws)) e .1 in
-    let q = both-true (arcs-good (t .n) (t .arcs)) (leb (length ws) 1024 && nodes-below (t .n) ws) p .1 in
-    node-of (t .n) ws k (both-true (leb (length ws) 1024) (nodes-below (t .n) ws) q .1) h
+wanted-in t ws e k h = node-of (t .n) ws k (parts t ws e .wanted) h
 
--- THE BRIDGE
+-- the lengths are those of 32 bits but 0
+pub longest-of-32-bits : Longest-of-32-bits
+unfolding Longest-of-32-bits
+longest-of-32-bits = omega arith
+
+pub lengths-of-32-bits : Lengths-of-32-bits
+unfolding Lengths-of-32-bits
+lengths-of-32-bits t ws i e h = let g = good t ws e in (omega (arith, g .positive i h), omega (arith, g .not-long i h))
+
+-- WHAT IS NOT REFUSED IS A TABLE
 
 -- a refusal whose number is not 0 was not met
 pub passed : (b : Bool) (r : Refusal) (m p : ℕ) → cond b (refusal (suc m) p) r .number ≡ 0 → (b ≡ false) × (r .number ≡ 0)
@@ -160,9 +192,9 @@ arcs-of-length (t ∷ ts) [] ls = omega arith
 arcs-of-length (t ∷ ts) (h ∷ hs) [] = omega arith
 arcs-of-length (t ∷ ts) (h ∷ hs) (l ∷ ls) = let r = arcs-of-length ts hs ls in omega arith
 
-pub not-turned-down : Not-turned-down
-unfolding Not-turned-down table-refusal is-table table-of table arc-count wanted-refusal count-bad columns-bad arcs-refusal
-not-turned-down n o ts hs ls ws rooms fits e =
+pub unrefused-is-table : Unrefused-is-table
+unfolding Unrefused-is-table table-refusal is-table table-of table arc-count wanted-refusal count-bad columns-bad arcs-refusal
+unrefused-is-table n o ts hs ls ws rooms fits e =
     let p = passed (eqb n 0 || ltb most-nodes n) _ 0 0 e in
     let q = passed (columns-bad (length ts) (length hs) (length ls)) _ 1 0 (p .1) in
     let r = passed (not (rooms-fit rooms)) _ 2 0 (q .1) in
@@ -177,3 +209,53 @@ not-turned-down n o ts hs ls ws rooms fits e =
     let w-low = ltb-false most-wanted (length ws) (x .0) in
     let a-low = arcs-of-length ts hs ls in
     rw (le-leb 1 n (omega arith), le-leb n 1024 n-low, lt-ltb o n o-low, le-leb (length (arcs-of ts hs ls)) 6000 (omega arith), arcs-pass 0 n ts hs ls (w .1) fits, le-leb (length ws) 1024 w-low, wanted-pass 0 n ws (x .1))
+
+-- AND A TABLE IS NOT REFUSED
+wanted-none : (i n : ℕ) (ws : List ℕ) → nodes-below n ws ≡ true → wanted-from i n ws ≡ no-refusal
+unfolding wanted-from nodes-below
+wanted-none i n [] e = refl
+wanted-none i n (w ∷ ws) e =
+    let p = both-true (ltb w n) (nodes-below n ws) e in
+    ap (λ (c : Bool). cond c (wanted-from (suc i) n ws) (refusal 5 i)) (p .0) ∙ wanted-none (suc i) n ws (p .1)
+
+faultless : (n : ℕ) (a : Arc) → arc-good n a ≡ true → arc-fault n a ≡ 0
+unfolding arc-fault
+faultless n a e =
+    let p = arc-facts n a e in
+    let some-length : a .arc-length ≡ 0 → ⊥ = λ z. omega (arith, z, p .positive) in
+    rw (lt-leb n (a .tail) (p .tail-in), lt-leb n (a .head) (p .head-in), ne-eqb (a .arc-length) 0 some-length)
+
+arcs-none : (i n : ℕ) (arcs : List Arc) → arcs-good n arcs ≡ true → arcs-from i n arcs ≡ no-refusal
+unfolding arcs-from arcs-good
+arcs-none i n [] e = refl
+arcs-none i n (a ∷ more) e =
+    let p = both-true (arc-good n a) (arcs-good n more) e in
+    ap (λ (c : Bool). cond c (arcs-from (suc i) n more) (refusal (arc-fault n a) i)) (eq-eqb (arc-fault n a) 0 (faultless n a (p .0)))
+    ∙ arcs-none (suc i) n more (p .1)
+
+-- columns of equal length make so many arcs
+arcs-of-count : (ts hs ls : List ℕ) → length ts ≡ length hs → length hs ≡ length ls → length (arcs-of ts hs ls) ≡ length ts
+unfolding arcs-of
+arcs-of-count [] hs ls p q = refl
+arcs-of-count (t ∷ ts) [] ls p q = absurd (omega (arith, p))
+arcs-of-count (t ∷ ts) (h ∷ hs) [] p q = absurd (omega (arith, q))
+arcs-of-count (t ∷ ts) (h ∷ hs) (l ∷ ls) p q = let r = arcs-of-count ts hs ls (omega (arith, p)) (omega (arith, q)) in omega (arith, r)
+
+pub table-is-unrefused : Table-is-unrefused
+unfolding Table-is-unrefused table-refusal table-of table arc-count wanted-refusal count-bad columns-bad arcs-refusal or-else no-refusal refusal
+table-is-unrefused n o ts hs ls ws rooms th hl fit e =
+    let p = parts (table-of n o ts hs ls) ws e in
+    let count = arcs-of-count ts hs ls th hl in
+    let some-node : n ≡ 0 → ⊥ = λ z. omega (arith, z, p .some-node) in
+    rw (
+      ne-eqb n 0 some-node,
+      le-ltb most-nodes n (p .few-nodes),
+      eq-eqb (length ts) (length hs) th,
+      eq-eqb (length hs) (length ls) hl,
+      le-ltb most-arcs (length ts) (omega (arith, count, p .few-arcs)),
+      fit,
+      lt-leb n o (p .origin-in),
+      le-ltb most-wanted (length ws) (p .few-wanted),
+      wanted-none 0 n ws (p .wanted),
+      arcs-none 0 n (arcs-of ts hs ls) (p .arcs),
+    )

@@ -15,7 +15,9 @@ pub mod Deleting
 pub mod Extending
 pub mod Starting
 pub mod Run
+pub mod Back
 pub mod Walks
 pub mod Promised
 pub mod Demanded
 pub mod Made
+pub mod Stability

@@ -12,9 +12,9 @@ use Rattle.table.specs.Table.{Table, Arc, arcs-of, table-of, is-table, most-nod
 use Rattle.table.specs.declared.Refusal.{Refusal}
 use Rattle.table.specs.Refusals.{refusal, no-refusal, or-else, room, table-refusal, count-bad, columns-bad, rooms-fit, wanted-from, wanted-refusal, arc-fault, arcs-from, arcs-refusal}
 use Rattle.table.proofs.Basics.{both-true, either-false, same-or, true-or}
-use Rattle.auction.specs.Promises.{Not-turned-down}
+use Rattle.auction.specs.Promises.{Unrefused-is-table}
 use Rattle.auction.specs.Plan.{rooms, plan-refusal, plan, routes-of, refused-plan}
-use Rattle.auction.proofs.Good.{not-turned-down, passed}
+use Rattle.auction.proofs.Good.{unrefused-is-table, passed}
 
 -- the four buffers are as long as they have to be
 rooms-so : (n m a b c d : ℕ) → rooms-fit (rooms n m a b c d) ≡ true → (a ≡ n) × (b ≡ n) × (c ≡ n) × (d ≡ m)
@@ -43,7 +43,7 @@ module _ (n o : ℕ) (ts hs ls ws ds ps tr ms : List ℕ) where
     pub marks-long : length ms ≡ length ts
 
   pub unrefused : Below (2 ^ 32) ls → plan-refusal n o ts hs ls ws ds ps tr ms .number ≡ 0 → Unrefused
-  unfolding plan-refusal table-refusal count-bad columns-bad Not-turned-down
+  unfolding plan-refusal table-refusal count-bad columns-bad Unrefused-is-table
   unrefused low e =
       let p = passed (eqb n 0 || ltb most-nodes n) _ 0 0 e in
       let q = passed (columns-bad (length ts) (length hs) (length ls)) _ 1 0 (p .1) in
@@ -54,7 +54,7 @@ module _ (n o : ℕ) (ts hs ls ws ds ps tr ms : List ℕ) where
       record {
         heads-count = eqb-true (length ts) (length hs) (h .0);
         lengths-count = eqb-true (length hs) (length ls) (h .1);
-        table-good = not-turned-down n o ts hs ls ws _ low e;
+        table-good = unrefused-is-table n o ts hs ls ws _ low e;
         few-nodes = ltb-false most-nodes n (either-false (eqb n 0) (ltb most-nodes n) (p .0) .1);
         few-arcs = ltb-false most-arcs (length ts) (c .1);
         distances-long = fit .0;

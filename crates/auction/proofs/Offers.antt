@@ -7,7 +7,7 @@ use Prim.Native.Nat.{ℕ, _+_, _≤_, _<_}
 use lib.Dec.{ltb, eqb}
 use borrow.Author.Tests.{ltb-true, ltb-false, eqb-true, eq-eqb, not-true}
 use Rattle.table.specs.Table.{Table, tail-at, head-at, length-at}
-use Rattle.auction.specs.Auction.{State, bound-at, kept-at, status-at, distance, or-zero, was-reached, improves, takes}
+use Rattle.auction.specs.Auction.{State, bound-at, kept-at, status-at, distance, or-zero, was-reached, improves, takes, unreached}
 use Rattle.table.proofs.Basics.{either-true, either-false, true-or, both-true, not-both, option-or}
 use Rattle.auction.proofs.Effects.{reached-status, unreached-status}
 
@@ -33,12 +33,14 @@ no-better b i c k e =
     )
 
 module _ (t : Table) (v i : ℕ) (x : State) where
+  -- the arc is kept: it leaves v, its head is unreached, and its offer is smaller than the head's bound, or equal and from a lower position
   pub record Taken : Type 0 where
     pub leaves : tail-at t i ≡ v
-    pub new : status-at x (head-at t i) ≡ 0
+    pub new : status-at x (head-at t i) ≡ unreached
     pub better : (c : ℕ) → bound-at x (head-at t i) ≡ some c →
         (distance x v + length-at t i < c) ⊎ ((distance x v + length-at t i ≡ c) × (i < or-zero (kept-at x (head-at t i))))
 
+  -- the arc's offer is no better: the head has a bound that is not greater, and where it is equal, a kept arc that is not later
   pub record No-better : Type 0 where
     pub c : ℕ
     pub bound : bound-at x (head-at t i) ≡ some c
@@ -60,7 +62,7 @@ module _ (t : Table) (v i : ℕ) (x : State) where
             λ c s. better b i c (kept-at x (head-at t i)) (subst (λ (o : Option ℕ). improves b i o (kept-at x (head-at t i)) ≡ true) s (q .1));
       }
 
-  pub dropped : takes t v i x ≡ false → tail-at t i ≡ v → (0 < status-at x (head-at t i)) ⊎ No-better
+  pub dropped : takes t v i x ≡ false → tail-at t i ≡ v → (unreached < status-at x (head-at t i)) ⊎ No-better
   unfolding takes improves
   dropped e leaves =
       let b = distance x v + length-at t i in

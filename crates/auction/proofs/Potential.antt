@@ -13,13 +13,14 @@ use native.Mathlib.Nat.{mul-add, mul-zero, mul-one}
 use lib.Dec.{ltb}
 use borrow.Author.Tests.{not-true, ltb-true, lt-ltb, le-ltb}
 use Rattle.table.specs.Table.{Table, tail-at}
-use Rattle.auction.specs.Auction.{State, kept-at, status-at, is-deleted}
+use Rattle.auction.specs.Auction.{State, kept-at, status-at, is-deleted, unreached, deleted}
 use Rattle.auction.specs.HandOver.{reached-count}
 use Rattle.table.proofs.Basics.{same-or, true-or, both-true, option-or}
 use Rattle.auction.proofs.Sums.{total, total-le, total-add, total-scale, total-const}
 use Rattle.auction.proofs.Effects.{estimate, deleted-status, undeleted-status}
 use Rattle.auction.proofs.Sound.{Nodes, reached-low, one-if-reached, reached-one, unreached-none, reached-total}
 
+-- a node is loose where it is not deleted and its estimate is above that of its kept arc's tail
 unfoldable pub loose : Table → State → (v : ℕ) → Option ℕ → Bool
 loose t x v none = false
 loose t x v (some k) = not (is-deleted x v) && ltb (estimate x (tail-at t k)) (estimate x v)
@@ -49,18 +50,18 @@ module _ (t : Table) (x : State) (dep : ℕ → ℕ) (v : ℕ) where
       off true = refl
       off false = refl
 
-  pub slack-loose : (k : ℕ) → kept-at x v ≡ some k → (status-at x v ≡ 2 → ⊥) → estimate x (tail-at t k) < estimate x v → slack t x dep v ≡ dep v
+  pub slack-loose : (k : ℕ) → kept-at x v ≡ some k → (status-at x v ≡ deleted → ⊥) → estimate x (tail-at t k) < estimate x v → slack t x dep v ≡ dep v
   unfolding slack loose
   slack-loose k e d h =
       let live : is-deleted x v ≡ false =
       ⊎-elim (λ (p : is-deleted x v ≡ true). absurd (d (deleted-status x v p))) (λ (p : is-deleted x v ≡ false). p) (true-or (is-deleted x v)) in
       rw (e, live, lt-ltb (estimate x (tail-at t k)) (estimate x v) h)
 
-  -- a node has no slack, or it is loose
+  -- the node is loose
   pub record Loose : Type 0 where
     pub by-arc : ℕ
     pub kept : kept-at x v ≡ some by-arc
-    pub undeleted : status-at x v ≡ 2 → ⊥
+    pub undeleted : status-at x v ≡ deleted → ⊥
     pub above : estimate x (tail-at t by-arc) < estimate x v
 
   loose-arc : (k : ℕ) → kept-at x v ≡ some k → loose t x v (some k) ≡ true → Loose
@@ -74,6 +75,7 @@ module _ (t : Table) (x : State) (dep : ℕ → ℕ) (v : ℕ) where
         above = ltb-true (estimate x (tail-at t k)) (estimate x v) (p .1);
       }
 
+  -- a node has no slack, or it is loose
   slack-cases : (slack t x dep v ≡ 0) ⊎ Loose
   unfolding slack
   slack-cases =
@@ -85,7 +87,7 @@ module _ (t : Table) (x : State) (dep : ℕ → ℕ) (v : ℕ) where
 
 -- a node that is loose only where it was before
 pub slack-falls : (t : Table) (x y : State) (dep dep′ : ℕ → ℕ) (v : ℕ) → dep′ v ≡ dep v → kept-at y v ≡ kept-at x v →
-    (status-at x v ≡ 2 → status-at y v ≡ 2) →
+    (status-at x v ≡ deleted → status-at y v ≡ deleted) →
     ((k : ℕ) → kept-at x v ≡ some k → estimate y (tail-at t k) < estimate y v → estimate x (tail-at t k) < estimate x v) →
     slack t y dep′ v ≤ slack t x dep v
 slack-falls t x y dep dep′ v same kept gone above =
@@ -102,7 +104,7 @@ stages n zero = 0
 stages n (suc r) = stages n r + suc r * (n - suc r)
 
 -- reaching: f bounds the slack of the reached nodes, and no unreached node is deeper than the number of reached ones
-reach-sum : (t : Table) (y : State) (dep : ℕ → ℕ) (f : ℕ → ℕ) → Nodes t y dep → ((u : ℕ) → 0 < status-at y u → slack t y dep u ≤ f u) →
+reach-sum : (t : Table) (y : State) (dep : ℕ → ℕ) (f : ℕ → ℕ) → Nodes t y dep → ((u : ℕ) → unreached < status-at y u → slack t y dep u ≤ f u) →
     total (t .n) (slack t y dep) + reached-count t y * reached-count t y ≤ total (t .n) f + reached-count t y * t .n
 reach-sum t y dep f s low =
     let r = reached-count t y in
@@ -110,18 +112,18 @@ reach-sum t y dep f s low =
     let each : (u : ℕ) → u < t .n → slack t y dep u + r * one u ≤ f u + r =
     λ u h.
     ⊎-elim
-    (λ (z : status-at y u ≡ 0).
+    (λ (z : status-at y u ≡ unreached).
     let none-there : r * one u ≡ 0 = ap (λ (a : ℕ). r * a) (unreached-none y u z) ∙ mul-zero r in
     ⊎-elim (λ (e : kept-at y u ≡ none). omega (arith, slack-unkept t y dep u e))
     (λ (e : (k : ℕ) × (kept-at y u ≡ some k)).
     let a = s .kept u (e .0) (e .1) in
     omega (arith, slack-low t y dep u, a .deeper, s .shallow (tail-at t (e .0)) (a .from-reached)))
     (option-or (kept-at y u)))
-    (λ (d : status-at y u ≡ 0 → ⊥).
-    let h : 0 < status-at y u = omega arith in
+    (λ (d : status-at y u ≡ unreached → ⊥).
+    let h : unreached < status-at y u = omega arith in
     let one-there : r * one u ≡ r = ap (λ (a : ℕ). r * a) (reached-one y u h) ∙ mul-one r in
     omega (arith, low u h))
-    (same-or (status-at y u) 0) in
+    (same-or (status-at y u) unreached) in
     let a = total-le (t .n) (λ u. slack t y dep u + r * one u) (λ u. f u + r) each in
     let b = total-add (t .n) (slack t y dep) (λ u. r * one u) in
     let c = total-scale (t .n) r one in
@@ -131,7 +133,7 @@ reach-sum t y dep f s low =
     omega arith
 
 -- so reaching one more node adds at most a stage
-pub reach-potential : (t : Table) (y : State) (dep : ℕ → ℕ) (f : ℕ → ℕ) (q : ℕ) → Nodes t y dep → ((u : ℕ) → 0 < status-at y u → slack t y dep u ≤ f u) →
+pub reach-potential : (t : Table) (y : State) (dep : ℕ → ℕ) (f : ℕ → ℕ) (q : ℕ) → Nodes t y dep → ((u : ℕ) → unreached < status-at y u → slack t y dep u ≤ f u) →
     reached-count t y ≡ suc q → stages (t .n) q + total (t .n) (slack t y dep) ≤ total (t .n) f + stages (t .n) (reached-count t y)
 unfolding stages
 reach-potential t y dep f q s low one-more =

@@ -12,10 +12,9 @@ use borrow.Author.Tests.{eqb-true, eq-eqb}
 use Rattle.table.specs.Table.{Table, is-table, is-walk, arc-count, tail-at, head-at, length-at, longest}
 use Rattle.auction.specs.Auction.{State, Bid, Ended, auction, ended, next, iteration, deletion, after, best, terminal, all-reached, was-reached, distance, iterations}
 use Rattle.auction.specs.HandOver.{prices, first-missing}
-use Rattle.auction.specs.Promises.{Promises, last-state, route, price, link, Walk-shortest, Walk-given, Prices-fit, equal-along, Prices-show, Has-walk, No-walk, First-without-walk, Route-to-all, No-route, Few-iterations, Fewer-iterations, Ends-by-itself, Iterations-counted, Attains, Earliest-link, Never-above, Ascending, Small-distances, Small-sums, Not-turned-down}
+use Rattle.auction.specs.Promises.{Promises, last-state, route, price, link, Walk-shortest, Walk-given, Prices-fit, equal-along, Prices-show, Has-walk, No-walk, First-without-walk, Route-to-all, No-route, Few-iterations, Fewer-iterations, Ends-by-itself, Iterations-counted, Attains, Earliest-link, Never-above, Distances-stay, Ascending, Small-distances, Small-sums}
 use Rattle.table.proofs.Basics.{true-or, both-true, true-both, some-none, not-both}
-use Rattle.auction.proofs.Good.{Good, good}
-use Rattle.auction.proofs.Good as bridge
+use Rattle.auction.proofs.Good.{Good, good, unrefused-is-table, table-is-unrefused, longest-of-32-bits, lengths-of-32-bits}
 use Rattle.auction.proofs.Effects.{estimate, known-distance, reached-status, status-reached, unreached-status}
 use Rattle.auction.proofs.Bids.{Child, no-child, best-bid}
 use Rattle.auction.proofs.Sound.{Sound, reached-low}
@@ -265,16 +264,21 @@ never-above t k x b e p q =
     let i = passed t (good t [] e) k x p .0 in
     steps.never-above (i .sound .nodes) (terminal x) b (best-bid t (terminal x) x b q)
 
+pub distances-stay : Distances-stay
+unfolding Distances-stay
+distances-stay t k x y v e p n r =
+    let i = passed t (good t [] e) k x p .0 in
+    let s = stepped t (good t [] e) x i y n in
+    let h = reached-status x v r in
+    (status-reached y v (s .stays v h), s .distances v h)
+
 pub ascending : Ascending
 unfolding Ascending
 ascending t k x y u v e p n ru rv rv′ =
     let i = passed t (good t [] e) k x p .0 in
     let s = stepped t (good t [] e) x i y n in
-    let hu = reached-status x u ru in (
-      s .distances u hu,
-      omega
-          (arith, s .distances u hu, i .sound .nodes .level u hu, s .arrives v (unreached-status x v rv) (reached-status y v rv′)),
-    )
+    let hu = reached-status x u ru in
+    omega (arith, s .distances u hu, i .sound .nodes .level u hu, s .arrives v (unreached-status x v rv) (reached-status y v rv′))
 
 pub small-distances : Small-distances
 unfolding Small-distances
@@ -294,10 +298,6 @@ small-sums t k x v d e p b =
     let n = passed t (good t [] e) k x p .0 .sound .nodes in
     omega (arith, n .small-estimate v, known-distance x v d b)
 
--- FOR EVERY TABLE NOT TURNED DOWN
-pub not-turned-down : Not-turned-down
-not-turned-down = bridge.not-turned-down
-
 pub promised : Promises
 promised =
     record {
@@ -313,8 +313,12 @@ promised =
       iterations-counted = iterations-counted;
       earliest-link = earliest-link;
       never-above = never-above;
+      distances-stay = distances-stay;
       ascending = ascending;
       small-distances = small-distances;
       small-sums = small-sums;
-      not-turned-down = not-turned-down;
+      unrefused-is-table = unrefused-is-table;
+      table-is-unrefused = table-is-unrefused;
+      longest-of-32-bits = longest-of-32-bits;
+      lengths-of-32-bits = lengths-of-32-bits;
     }

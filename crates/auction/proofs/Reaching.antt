@@ -9,7 +9,7 @@ use lib.Dec.{eqb}
 use lib.ListN.{length}
 use borrow.Author.Tests.{eq-eqb, ne-eqb}
 use Rattle.table.specs.Table.{Table, arc-count, tail-at, head-at, length-at, longest}
-use Rattle.auction.specs.Auction.{State, state, price-at, bound-at, kept-at, status-at, distance, or-zero, terminal, takes, with-kept, offer, offers}
+use Rattle.auction.specs.Auction.{State, state, price-at, bound-at, kept-at, status-at, distance, or-zero, terminal, takes, with-kept, offer, offers, unreached, reached, deleted}
 use Rattle.table.proofs.Basics.{same-or, true-or, option-or, some-none, some-same}
 use Rattle.auction.proofs.Good.{Good}
 use Rattle.auction.proofs.Effects.{Same, estimate, same-distance, same-estimate, known-distance, Rehung, rehung}
@@ -28,16 +28,20 @@ depth-else : (u d : ℕ) (dep : ℕ → ℕ) (v : ℕ) → (v ≡ u → ⊥) →
 unfolding depth-at
 depth-else u d dep v h = rw (ne-eqb v u h)
 
--- what offering arcs leaves as it was: the path, the counts, prices, statuses, and all of every reached node
+-- WHAT OFFERING ARCS LEAVES AS IT WAS
 pub record Unmoved (x y : State) (dep dep′ : ℕ → ℕ) : Type 0 where
+  -- the path,
   pub path : y .path ≡ x .path
+  -- the three counts,
   pub contractions : y .contractions ≡ x .contractions
   pub extensions : y .extensions ≡ x .extensions
   pub deletions : y .deletions ≡ x .deletions
+  -- every price and every status,
   pub prices : (v : ℕ) → price-at y v ≡ price-at x v
   pub statuses : (v : ℕ) → status-at y v ≡ status-at x v
-  pub reached : (v : ℕ) → 0 < status-at x v → Same x y v
-  pub depths : (v : ℕ) → 0 < status-at x v → dep′ v ≡ dep v
+  -- and of every node that was reached its bound and kept arc too, and its depth
+  pub reached : (v : ℕ) → unreached < status-at x v → Same x y v
+  pub depths : (v : ℕ) → unreached < status-at x v → dep′ v ≡ dep v
 
 unmoved : (x : State) (dep : ℕ → ℕ) → Unmoved x x dep dep
 unmoved x dep =
@@ -54,7 +58,7 @@ unmoved x dep =
 
 then-unmoved : {x y z : State} {a b c : ℕ → ℕ} → Unmoved x y a b → Unmoved y z b c → Unmoved x z a c
 then-unmoved {x} {y} {z} p q =
-    let still : (v : ℕ) → 0 < status-at x v → 0 < status-at y v = λ v h. omega (arith, p .statuses v) in
+    let still : (v : ℕ) → unreached < status-at x v → unreached < status-at y v = λ v h. omega (arith, p .statuses v) in
     record {
       path = q .path ∙ p .path;
       contractions = q .contractions ∙ p .contractions;
@@ -70,17 +74,22 @@ then-unmoved {x} {y} {z} p q =
       depths = λ v h. q .depths v (still v h) ∙ p .depths v h;
     }
 
--- the invariant in the middle of reaching j, when the arcs below position q have been offered: j's distance is the origin's price
+-- THE INVARIANT IN THE MIDDLE OF REACHING J, when its arcs below position q have been offered
 pub record Reaching (t : Table) (j q : ℕ) (x : State) (dep : ℕ → ℕ) : Type 0 where
+  -- it holds of every node,
   pub nodes : Nodes t x dep
+  -- the arcs out of the other reached nodes have been offered, and j's below q,
   pub relaxed : Relaxed-to q j t x
+  -- the path is a path in the tree, as long as it should be,
   pub chain : Chain t x (x .path)
   pub path-depth : length (x .path) ≡ suc (dep (terminal x))
-  pub status : status-at x j ≡ 1
+  -- j counts as reached, still has price 0,
+  pub status : status-at x j ≡ reached
   pub price : price-at x j ≡ 0
+  -- and is as far as the origin's price: so what it offers is no nearer than any reached node
   pub top : distance x j ≡ price-at x (t .origin)
 
--- what offering gives: the invariant with depths of its own
+-- WHAT OFFERING GIVES: the invariant with depths of its own, and the rest as it was
 pub record Offered (t : Table) (j q : ℕ) (x y : State) (dep : ℕ → ℕ) : Type 0 where
   pub depth : ℕ → ℕ
   pub reaching : Reaching t j q y depth
@@ -108,21 +117,21 @@ module _ (t : Table) (g : Good t) (j q : ℕ) (x : State) (dep : ℕ → ℕ) (l
   effect = rehung t x u q b (nodes .sizes) (g .head-in q listed)
 
   -- reached nodes are others than u
-  other : (v : ℕ) → 0 < status-at x v → v ≡ u → ⊥
+  other : (v : ℕ) → unreached < status-at x v → v ≡ u → ⊥
   unfolding u
   other v h e = omega (arith, ap (status-at x) e, k .new)
 
-  keep : (v : ℕ) → 0 < status-at x v → Same x y v
+  keep : (v : ℕ) → unreached < status-at x v → Same x y v
   keep v h = effect .others v (other v h)
 
-  keep-distance : (v : ℕ) → 0 < status-at x v → distance y v ≡ distance x v
+  keep-distance : (v : ℕ) → unreached < status-at x v → distance y v ≡ distance x v
   keep-distance v h = same-distance x y v (keep v h .bound)
 
-  keep-depth : (v : ℕ) → 0 < status-at x v → dep′ v ≡ dep v
+  keep-depth : (v : ℕ) → unreached < status-at x v → dep′ v ≡ dep v
   unfolding dep′
   keep-depth v h = depth-else u (suc (dep j)) dep v (other v h)
 
-  tail-reached : 0 < status-at x (tail-at t q)
+  tail-reached : unreached < status-at x (tail-at t q)
   tail-reached = omega (arith, ap (status-at x) (k .leaves), s .status)
 
   tail-distance : distance y (tail-at t q) ≡ distance x j
@@ -183,7 +192,7 @@ module _ (t : Table) (g : Good t) (j q : ℕ) (x : State) (dep : ℕ → ℕ) (l
   unfolding dep′
   kept-nodes =
       let o = t .origin in
-      let o-reached : 0 < status-at x o = omega (arith, nodes .origin-status) in
+      let o-reached : unreached < status-at x o = omega (arith, nodes .origin-status) in
       record {
         sizes = effect .sizes;
         origin-bound = keep o o-reached .bound ∙ nodes .origin-bound;
@@ -223,7 +232,7 @@ module _ (t : Table) (g : Good t) (j q : ℕ) (x : State) (dep : ℕ → ℕ) (l
             (λ (p : (v ≡ u) × (i ≡ q)). subst (λ (w : ℕ). Live-arc t y w i) (sym (p .0)) (subst (λ (a : ℕ). Live-arc t y u a) (sym (p .1)) new-live))
             (λ (p : (v ≡ u → ⊥) × (kept-at x v ≡ some i)).
             let a = nodes .kept v i (p .1) in
-            let l = nodes .live v i (p .1) (λ (z : status-at x v ≡ 2). h (effect .statuses v ∙ z)) in
+            let l = nodes .live v i (p .1) (λ (z : status-at x v ≡ deleted). h (effect .statuses v ∙ z)) in
             record {
               tail-live = effect .statuses (tail-at t i) ∙ l .tail-live;
               rising =
@@ -232,11 +241,11 @@ module _ (t : Table) (g : Good t) (j q : ℕ) (x : State) (dep : ℕ → ℕ) (l
             (kept-cases v i e);
         level =
             λ v h.
-            let r : 0 < status-at x v = omega (arith, effect .statuses v, h) in
+            let r : unreached < status-at x v = omega (arith, effect .statuses v, h) in
             omega (arith, keep-distance v r, effect .prices o, nodes .level v r);
         shallow =
             λ v h.
-            let r : 0 < status-at x v = omega (arith, effect .statuses v, h) in
+            let r : unreached < status-at x v = omega (arith, effect .statuses v, h) in
             omega (arith, keep-depth v r, same-reached t x y (effect .statuses), nodes .shallow v r);
         small-distance =
             λ v.
@@ -257,7 +266,7 @@ module _ (t : Table) (g : Good t) (j q : ℕ) (x : State) (dep : ℕ → ℕ) (l
   kept-relaxed : Relaxed-to (suc q) j t y
   unfolding Relaxed-to u b
   kept-relaxed i h reached-tail passed =
-      let r : 0 < status-at x (tail-at t i) = omega (arith, effect .statuses (tail-at t i), reached-tail) in
+      let r : unreached < status-at x (tail-at t i) = omega (arith, effect .statuses (tail-at t i), reached-tail) in
       let tail-kept = keep-distance (tail-at t i) r in
       ⊎-elim
       (λ (e : i ≡ q).
@@ -321,9 +330,9 @@ module _ (t : Table) (g : Good t) (j q : ℕ) (x : State) (dep : ℕ → ℕ) (l
   kept-reaching : Reaching t j (suc q) y dep′
   unfolding terminal y with-kept state
   kept-reaching =
-      let j-reached : 0 < status-at x j = omega (arith, s .status) in
+      let j-reached : unreached < status-at x j = omega (arith, s .status) in
       let o-kept = effect .prices (t .origin) in
-      let terminal-reached : 0 < status-at x (terminal x) = omega (arith, top-status nodes (x .path) (s .chain)) in
+      let terminal-reached : unreached < status-at x (terminal x) = omega (arith, top-status nodes (x .path) (s .chain)) in
       record {
         nodes = kept-nodes;
         relaxed = kept-relaxed;
@@ -345,7 +354,7 @@ module _ (t : Table) (g : Good t) (j q : ℕ) (x : State) (dep : ℕ → ℕ) (l
   dropped-here e leaves =
       let far : distance x (tail-at t q) ≡ distance x j = ap (distance x) leaves in
       ⊎-elim
-      (λ (h : 0 < status-at x (head-at t q)).
+      (λ (h : unreached < status-at x (head-at t q)).
       let near = s .nodes .level (head-at t q) h in
       let long = g .positive q listed in
       let top = s .top in

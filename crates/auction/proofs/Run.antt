@@ -18,9 +18,9 @@ use Rattle.auction.proofs.Bids.{best-bid}
 use Rattle.auction.proofs.Sound.{Nodes, Chain, chain-status}
 use Rattle.auction.proofs.Counting.{Invariant, Stepped, path-short, few}
 use Rattle.auction.proofs.Steps.{never-above}
-use Rattle.auction.proofs.Contracting.{contracted}
-use Rattle.auction.proofs.Deleting.{deleted}
-use Rattle.auction.proofs.Extending.{extended}
+use Rattle.auction.proofs.Contracting.{by-contraction}
+use Rattle.auction.proofs.Deleting.{by-deletion}
+use Rattle.auction.proofs.Extending.{by-extension}
 use Rattle.auction.proofs.Starting.{started, started-iterations}
 
 -- ONE ITERATION keeps the invariant
@@ -34,7 +34,7 @@ module _ (t : Table) (g : Good t) (x : State) (i : Invariant t x) where
       (λ (h : eqb (terminal x) (t .origin) ≡ false).
       let same = some-same refl (sym (ap (λ (c : Bool). cond c none (some (deletion (terminal x) x))) h) ∙ e) in
       subst (λ (z : State). Stepped t x z) same
-      (deleted t g x (i .depth) (i .sound) (i .counts) none-there (eqb-false (terminal x) (t .origin) h)))
+      (by-deletion t g x (i .depth) (i .sound) (i .counts) none-there (eqb-false (terminal x) (t .origin) h)))
       (true-or (eqb (terminal x) (t .origin)))
   by-bid (some b) there y e =
       let best-there = best-bid t (terminal x) x b there in
@@ -44,11 +44,11 @@ module _ (t : Table) (g : Good t) (x : State) (i : Invariant t x) where
       (λ (h : ltb (price-at x (terminal x)) (b .value) ≡ true).
       let same : lower ≡ y = some-same refl (sym (ap (λ (c : Bool). some (cond c lower longer)) h) ∙ e) in
       subst (λ (z : State). Stepped t x z) same
-      (contracted t g x (i .depth) (i .sound) (i .counts) b best-there (ltb-true (price-at x (terminal x)) (b .value) h)))
+      (by-contraction t g x (i .depth) (i .sound) (i .counts) b best-there (ltb-true (price-at x (terminal x)) (b .value) h)))
       (λ (h : ltb (price-at x (terminal x)) (b .value) ≡ false).
       let same : longer ≡ y = some-same refl (sym (ap (λ (c : Bool). some (cond c lower longer)) h) ∙ e) in
       subst (λ (z : State). Stepped t x z) same
-      (extended t g x (i .depth) (i .sound) (i .counts) b best-there (ltb-false (price-at x (terminal x)) (b .value) h)))
+      (by-extension t g x (i .depth) (i .sound) (i .counts) b best-there (ltb-false (price-at x (terminal x)) (b .value) h)))
       (true-or (ltb (price-at x (terminal x)) (b .value)))
 
   pub stepped : (y : State) → next t x ≡ some y → Stepped t x y
@@ -71,16 +71,21 @@ passed t g (suc k) x e =
 
 -- WHAT THE CODE HAS TO KNOW of a state's numbers
 pub record Within (t : Table) (x : State) : Type 0 where
+  -- there is one price, bound, kept arc and status a node
   pub price-count : length (x .price) ≡ t .n
   pub bound-count : length (x .bound) ≡ t .n
   pub kept-count : length (x .kept) ≡ t .n
   pub status-count : length (x .status) ≡ t .n
+  -- the path has a node, and at most n, all of the table
   pub path-some : 1 ≤ length (x .path)
   pub path-short : length (x .path) ≤ t .n
   pub path-in : (i : ℕ) → i < length (x .path) → getD (x .path) i 0 < t .n
+  -- a kept arc stands in the table
   pub kept-in : (v k : ℕ) → kept-at x v ≡ some k → k < arc-count t
+  -- prices and distances are at most n times the greatest length
   pub price-small : (v : ℕ) → price-at x v ≤ t .n * longest
   pub distance-small : (v : ℕ) → distance x v ≤ t .n * longest
+  -- the terminal node's price is not above the least bid
   pub never-above : (b : Bid) → best t (terminal x) x ≡ some b → price-at x (terminal x) ≤ b .value
 
 chain-in : {t : Table} {x : State} {dep : ℕ → ℕ} → Nodes t x dep → (p : List ℕ) → Chain t x p → (i : ℕ) → i < length p → getD p i 0 < t .n
@@ -109,23 +114,33 @@ within t g x i =
       never-above = λ b e. never-above s (terminal x) b (best-bid t (terminal x) x b e);
     }
 
--- X IS A STATE OF THE RUN: it is sound and counted, the auction passes it, and going on from it with what is left of the count comes to the same end
+-- X IS A STATE OF THE RUN
 pub record Running (t : Table) (ws : List ℕ) (x : State) : Type 0 where
+  -- the table is not refused
   pub good : Good t
+  -- x is sound and its counts are bounded,
   pub invariant : Invariant t x
+  -- its numbers are small,
   pub within : Within t x
+  -- and its iterations are within the cubic bound;
   pub few : iterations x ≤ most-iterations (t .n)
+  -- the auction comes to x after just so many iterations,
   pub steps : after (iterations x) t ≡ some x
+  -- and before, not every wanted node had been reached;
   pub not-before : (k : ℕ) (y : State) → k < iterations x → after k t ≡ some y → all-reached ws y ≡ false
+  -- going on from x with what is left of the count comes to the end of the whole run
   pub left : (more : ℕ) →
       run ((suc (most-iterations (t .n)) - iterations x) + more) (all-reached ws) t x ≡ run (suc (most-iterations (t .n)) + more) (all-reached ws) t (start t)
 
--- THE END: the last state, and for which of its two reasons the run stopped there, however much further it could have counted down
+-- THE END OF A RUN
 pub record Finish (t : Table) (ws : List ℕ) : Type 0 where
+  -- it is a state of the run,
   pub last : State
   pub running : Running t ws last
+  -- in which every wanted node has been reached, or from which no iteration follows,
   pub end : ((all-reached ws last ≡ true) × (auction t ws ≡ ended true last)) ⊎
       ((all-reached ws last ≡ false) × (next t last ≡ none) × (auction t ws ≡ ended false last))
+  -- and the same however much further the run could have counted down
   pub no-cap : (more : ℕ) → run (suc (most-iterations (t .n)) + more) (all-reached ws) t (start t) ≡ auction t ws
 
 module _ {t : Table} {ws : List ℕ} where

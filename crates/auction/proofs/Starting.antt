@@ -8,7 +8,7 @@ use native.Mathlib.Nat.{zero-mul}
 use lib.ListN.{length, getD, replicate, length-set, length-replicate}
 use lib.Seq.{getD-set-same, getD-set-other}
 use Rattle.table.specs.Table.{Table, arc-count, tail-at}
-use Rattle.auction.specs.Auction.{State, state, price-at, bound-at, kept-at, status-at, distance, terminal, with-status, reach, fresh, start, iterations}
+use Rattle.auction.specs.Auction.{State, state, price-at, bound-at, kept-at, status-at, distance, terminal, with-status, reach, fresh, start, iterations, unreached, reached, deleted}
 use Rattle.auction.specs.HandOver.{reached-count}
 use Rattle.table.proofs.Basics.{same-or, some-none}
 use Rattle.auction.proofs.Sums.{total-same, total-const}
@@ -37,14 +37,14 @@ module _ (t : Table) (g : Good t) where
         prices = length-replicate (t .n) 0;
         bounds = length-set (replicate (t .n) none) o (some 0) ∙ length-replicate (t .n) none;
         kepts = length-replicate (t .n) none;
-        statuses = length-replicate (t .n) 0;
+        statuses = length-replicate (t .n) unreached;
       }
 
   fresh-price : (v : ℕ) → price-at (fresh t) v ≡ 0
   unfolding fresh state price-at
   fresh-price v = blank (t .n) v
 
-  fresh-status : (v : ℕ) → status-at (fresh t) v ≡ 0
+  fresh-status : (v : ℕ) → status-at (fresh t) v ≡ unreached
   unfolding fresh state status-at
   fresh-status v = blank (t .n) v
 
@@ -61,12 +61,12 @@ module _ (t : Table) (g : Good t) where
   fresh-origin = getD-set-same (replicate (t .n) none) o (some 0) none (omega (arith, length-replicate {A = Option ℕ} (t .n) none, g .origin-in))
 
   abbrev first : State
-  first = with-status o 1 (fresh t)
+  first = with-status o reached (fresh t)
 
-  marked-origin : Restatused t (fresh t) o 1 first
-  marked-origin = restatused t (fresh t) o 1 fresh-sizes (g .origin-in)
+  marked-origin : Restatused t (fresh t) o reached first
+  marked-origin = restatused t (fresh t) o reached fresh-sizes (g .origin-in)
 
-  only-origin : (v : ℕ) → 0 < status-at first v → v ≡ o
+  only-origin : (v : ℕ) → unreached < status-at first v → v ≡ o
   only-origin v h =
       ⊎-elim (λ (e : v ≡ o). e) (λ (d : v ≡ o → ⊥). absurd (omega (arith, h, marked-origin .elsewhere v d, fresh-status v))) (same-or v o)
 
@@ -146,9 +146,9 @@ module _ (t : Table) (g : Good t) where
       let m = begun .unmoved in
       let y = start t in
       let y-reached : reached-count t y ≡ 1 = same-reached t first y (m .statuses) ∙ one-reached in
-      let no-slack : (u : ℕ) → 0 < status-at y u → slack t y (begun .depth) u ≤ 0 =
+      let no-slack : (u : ℕ) → unreached < status-at y u → slack t y (begun .depth) u ≤ 0 =
       λ u h.
-      let r : 0 < status-at first u = omega (arith, m .statuses u, h) in
+      let r : unreached < status-at first u = omega (arith, m .statuses u, h) in
       omega (arith, slack-unkept t y (begun .depth) u (m .reached u r .kept ∙ first-kept u)) in
       let gain = reach-potential t y (begun .depth) (λ u. 0) 0 (begun-sound .nodes) no-slack y-reached in
       let nothing = total-const (t .n) 0 in
@@ -156,8 +156,8 @@ module _ (t : Table) (g : Good t) where
       total-same (t .n) (one-if-deleted y) (λ u. 0)
       (λ u h.
       undeleted-none y u
-      (λ (q : status-at y u ≡ 2).
-      let r : 0 < status-at first u = omega (arith, m .statuses u, q) in
+      (λ (q : status-at y u ≡ deleted).
+      let r : unreached < status-at first u = omega (arith, m .statuses u, q) in
       omega (arith, m .statuses u, q, marked-origin .here, ap (status-at first) (only-origin u r)))) in
       record {
         contracted = omega (arith, gain, nothing, m .contractions);

@@ -5,7 +5,7 @@ use Prim.Native.Nat.{ℕ, suc, _+_, _≤_, _<_}
 use native.Mathlib.Omega.{arith}
 use lib.ListN.{length, getD}
 use Rattle.table.specs.Table.{Table, head-at}
-use Rattle.auction.specs.Auction.{State, Bid, price-at, kept-at, status-at, distance, without-terminal, best}
+use Rattle.auction.specs.Auction.{State, Bid, price-at, kept-at, status-at, distance, without-terminal, best, reached}
 use Rattle.table.proofs.Basics.{some-none}
 use Rattle.auction.proofs.Effects.{Same, estimate, known-distance}
 use Rattle.auction.proofs.Bids.{Child, bid-at, Best}
@@ -20,7 +20,7 @@ shorter (v ∷ p) = omega arith
 module _ {t : Table} {x : State} {dep : ℕ → ℕ} (s : Nodes t x dep) where
   -- the terminal node leaves the path: what lies below it on the path is less deep
   pub pop : (y : State) (p : List ℕ) → Chain t x p → (getD p 0 0 ≡ t .origin → ⊥) → length p ≡ suc (dep (getD p 0 0)) →
-      ((u : ℕ) → status-at x u ≡ 1 → dep u < dep (getD p 0 0) → Same x y u) →
+      ((u : ℕ) → status-at x u ≡ reached → dep u < dep (getD p 0 0) → Same x y u) →
       Chain t y (without-terminal p) × (length (without-terminal p) ≡ suc (dep (getD (without-terminal p) 0 0)))
   unfolding Chain without-terminal
   pop y [] c d l same = absurd c

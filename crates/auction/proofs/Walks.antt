@@ -8,13 +8,14 @@ use Prim.Native.Nat.{ℕ, zero, suc, _+_, _-_, _≤_, _<_}
 use native.Mathlib.Omega.{arith}
 use lib.Dec.{ltb, eqb}
 use lib.ListN.{length, getD}
-use borrow.Author.Tests.{ltb-true, eqb-true, lt-ltb, eq-eqb, ne-eqb}
+use borrow.Author.Tests.{eqb-true, lt-ltb, eq-eqb}
 use Rattle.table.specs.Table.{Table, arc-count, tail-at, head-at, length-at, leads, is-walk, walk-length, no-arc}
-use Rattle.auction.specs.Auction.{State, bound-at, kept-at, status-at, distance, or-zero, was-reached, price-at}
+use Rattle.auction.specs.Auction.{State, bound-at, kept-at, status-at, distance, or-zero, was-reached, price-at, deleted}
 use Rattle.auction.specs.HandOver.{horizon, prices, tree, arc-or-none, back-from, returned}
-use Rattle.table.proofs.Basics.{same-or, below-or, true-or, both-true, true-both, option-or}
+use Rattle.table.proofs.Basics.{same-or, below-or, true-or, true-both, option-or}
 use Rattle.auction.proofs.Sums.{column, past-column, greatest-bound, greatest-least}
 use Rattle.auction.proofs.Good.{Good}
+use Rattle.auction.proofs.Back.{first, at-origin, one-back}
 use Rattle.auction.proofs.Effects.{known-distance, reached-status, status-reached, unreached-status, status-in}
 use Rattle.auction.proofs.Bids.{Child}
 use Rattle.auction.proofs.Sound.{Kept-arc, Nodes, Sound, reached-bounded, unreached-far, reached-low}
@@ -154,14 +155,8 @@ module _ (t : Table) (g : Good t) (x : State) (dep : ℕ → ℕ) (s : Sound t x
   unfolding leads walk-length
   far-leads [] u v e = omega (arith, ap far (eqb-true u v e))
   far-leads (i ∷ is) u v e =
-      let p = both-true (ltb i (arc-count t) && eqb (tail-at t i) u) (leads t (head-at t i) is v) e in
-      let q = both-true (ltb i (arc-count t)) (eqb (tail-at t i) u) (p .0) in
-      omega (
-        arith,
-        far-leads is (head-at t i) v (p .1),
-        far-fits i (ltb-true i (arc-count t) (q .0)),
-        ap far (eqb-true (tail-at t i) u (q .1)),
-      )
+      let f = first t u i is v e in
+      omega (arith, far-leads is (head-at t i) v (f .rest), far-fits i (f .listed), ap far (f .leaves))
 
   far-walk : (is : List ℕ) (v : ℕ) → is-walk t is v ≡ true → far v ≤ walk-length t is
   unfolding is-walk
@@ -177,6 +172,13 @@ module _ (t : Table) (g : Good t) (x : State) (dep : ℕ → ℕ) (s : Sound t x
       let f : ℕ → ℕ = λ u. cond (was-reached x u) (arc-or-none (kept-at x u)) no-arc in
       let here : f v ≡ k = rw (r, e) in
       column (t .n) v f no-arc (reached-in v r) ∙ here
+
+  pub tree-origin : getD (tree t x) (t .origin) no-arc ≡ no-arc
+  unfolding tree arc-or-none
+  tree-origin =
+      let f : ℕ → ℕ = λ u. cond (was-reached x u) (arc-or-none (kept-at x u)) no-arc in
+      let here : f (t .origin) ≡ no-arc = rw (origin-reached, nodes .origin-kept) in
+      column (t .n) (t .origin) f no-arc (g .origin-in) ∙ here
 
   pub record Kept-link (v : ℕ) : Type 0 where
     pub position : ℕ
@@ -200,21 +202,15 @@ module _ (t : Table) (g : Good t) (x : State) (dep : ℕ → ℕ) (s : Sound t x
     pub arcs : length (back-from k t (tree t x) v is) ≡ dep v + length is
     pub links : (P : ℕ → Type 0) → ((u a : ℕ) → was-reached x u ≡ true → kept-at x u ≡ some a → P a) → All P is → All P (back-from k t (tree t x) v is)
 
-  at-origin : (k v : ℕ) (is : List ℕ) → v ≡ t .origin → back-from k t (tree t x) v is ≡ is
-  unfolding back-from
-  at-origin zero v is e = refl
-  at-origin (suc k) v is e = rw (eq-eqb v (t .origin) e)
-
-  one-back : (k v : ℕ) (is : List ℕ) → (v ≡ t .origin → ⊥) → (a : ℕ) → a < arc-count t → getD (tree t x) v no-arc ≡ a →
+  back-by : (k v : ℕ) (is : List ℕ) → (v ≡ t .origin → ⊥) → (a : ℕ) → a < arc-count t → getD (tree t x) v no-arc ≡ a →
       back-from (suc k) t (tree t x) v is ≡ back-from k t (tree t x) (tail-at t a) (a ∷ is)
-  unfolding back-from
-  one-back k v is d a h e =
-      let not-none : getD (tree t x) v no-arc ≡ no-arc → ⊥ = λ q. omega (arith, e, q, h, g .few-arcs) in
-      rw (ne-eqb v (t .origin) d, ne-eqb (getD (tree t x) v no-arc) no-arc not-none, e)
+  back-by k v is d a h e =
+      one-back t (tree t x) k v is d (λ q. omega (arith, e, q, h, g .few-arcs))
+      ∙ ap (λ (i : ℕ). back-from k t (tree t x) (tail-at t i) (i ∷ is)) e
 
   back-origin : (k v : ℕ) (is : List ℕ) → v ≡ t .origin → Back k v is
   back-origin k v is e =
-      let stop = at-origin k v is e in
+      let stop = at-origin t (tree t x) k v is e in
       record {
         leads-on = λ w l. ap (λ (p : List ℕ). leads t (t .origin) p w) stop ∙ ap (λ (u : ℕ). leads t u is w) (sym e) ∙ l;
         long = omega (arith, ap (walk-length t) stop, ap (distance x) e, origin-distance);
@@ -227,7 +223,7 @@ module _ (t : Table) (g : Good t) (x : State) (dep : ℕ → ℕ) (s : Sound t x
   unfolding leads walk-length All
   back-one k v is r d l rest =
       let a = l .position in
-      let step = one-back k v is d a (l .arc .listed) (l .entry) in
+      let step = back-by k v is d a (l .arc .listed) (l .entry) in
       record {
         leads-on =
             λ w e.
@@ -295,7 +291,7 @@ module _ (t : Table) (g : Good t) (x : State) (dep : ℕ → ℕ) (s : Sound t x
   -- THE ORIGIN WITHOUT CHILDREN: every node with a bound has been reached, so no walk leaves the reached nodes
   module _ (childless : (i : ℕ) → i < arc-count t → Child t (t .origin) i x → ⊥) where
     -- a node that is not deleted hangs on one that is not either, up to the origin
-    none-alive : (k v a : ℕ) → dep v ≡ k → kept-at x v ≡ some a → (status-at x v ≡ 2 → ⊥) → ⊥
+    none-alive : (k v a : ℕ) → dep v ≡ k → kept-at x v ≡ some a → (status-at x v ≡ deleted → ⊥) → ⊥
     none-alive zero v a e q alive = omega (arith, e, nodes .kept v a q .deeper)
     none-alive (suc k) v a e q alive =
         let arc = nodes .kept v a q in
@@ -307,7 +303,7 @@ module _ (t : Table) (g : Good t) (x : State) (dep : ℕ → ℕ) (s : Sound t x
         (record { leaves = o; kept = ap (kept-at x) (arc .into) ∙ q; undeleted = λ z. alive (ap (status-at x) (sym (arc .into)) ∙ z) }))
         (λ (o : u ≡ t .origin → ⊥).
         let l = kept-link u (status-reached x u (arc .from-reached)) o in
-        none-alive k u (l .position) (omega (arith, e, arc .deeper)) (l .kept) (λ (z : status-at x u ≡ 2). omega (arith, live .tail-live, z)))
+        none-alive k u (l .position) (omega (arith, e, arc .deeper)) (l .kept) (λ (z : status-at x u ≡ deleted). omega (arith, live .tail-live, z)))
         (same-or u (t .origin))
 
     bounded-reached : (v : ℕ) → (bound-at x v ≡ none → ⊥) → was-reached x v ≡ true
@@ -317,7 +313,7 @@ module _ (t : Table) (g : Good t) (x : State) (dep : ℕ → ℕ) (s : Sound t x
         let z = unreached-status x v r in
         let d : v ≡ t .origin → ⊥ = λ e. omega (arith, z, nodes .origin-status, ap (status-at x) e) in
         ⊎-elim (λ (n : kept-at x v ≡ none). absurd (b (nodes .unkept v n d)))
-        (λ (a : (a : ℕ) × (kept-at x v ≡ some a)). absurd (none-alive (dep v) v (a .0) refl (a .1) (λ (q : status-at x v ≡ 2). omega (arith, z, q))))
+        (λ (a : (a : ℕ) × (kept-at x v ≡ some a)). absurd (none-alive (dep v) v (a .0) refl (a .1) (λ (q : status-at x v ≡ deleted). omega (arith, z, q))))
         (option-or (kept-at x v)))
         (true-or (was-reached x v))
 
@@ -325,11 +321,10 @@ module _ (t : Table) (g : Good t) (x : State) (dep : ℕ → ℕ) (s : Sound t x
     unfolding leads
     leads-reached [] u v e r = ap (was-reached x) (sym (eqb-true u v e)) ∙ r
     leads-reached (i ∷ is) u v e r =
-        let p = both-true (ltb i (arc-count t) && eqb (tail-at t i) u) (leads t (head-at t i) is v) e in
-        let q = both-true (ltb i (arc-count t)) (eqb (tail-at t i) u) (p .0) in
-        let tail : was-reached x (tail-at t i) ≡ true = ap (was-reached x) (eqb-true (tail-at t i) u (q .1)) ∙ r in
-        let a = s .relaxed i (ltb-true i (arc-count t) (q .0)) (reached-status x (tail-at t i) tail) in
-        leads-reached is (head-at t i) v (p .1) (bounded-reached (head-at t i) (a .bounded))
+        let f = first t u i is v e in
+        let tail : was-reached x (tail-at t i) ≡ true = ap (was-reached x) (f .leaves) ∙ r in
+        let a = s .relaxed i (f .listed) (reached-status x (tail-at t i) tail) in
+        leads-reached is (head-at t i) v (f .rest) (bounded-reached (head-at t i) (a .bounded))
 
     pub walk-reached : (is : List ℕ) (v : ℕ) → is-walk t is v ≡ true → was-reached x v ≡ true
     unfolding is-walk

@@ -1,15 +1,16 @@
--- THE PAGE FOR USERS: demands 2 and 3, said of what a plan hands over, for every table that is not turned down as faulty. Everything here speaks of
+-- THE PAGE FOR USERS: demands 2 and 3, said of what a plan hands over, for every table that is not refused as faulty. Everything here speaks of
 -- the table, of walks, and of the answer and the four buffers; the auction's inside is named only where its counts are. Assumes nothing.
 use mathlib.Core.Path.{_≡_}
 use mathlib.Core.Bool.{true, false}
 use mathlib.Core.List.{List}
 use mathlib.Core.Logic.{_⊎_}
-use mathlib.Core.Option.{some}
+use mathlib.Core.Option.{none, some}
 use Prim.Native.Nat.{ℕ, _+_, _*_, _-_, _/_, _≤_, _<_}
 use lib.ListN.{length, getD}
 use Rattle.table.specs.Table.{Table, is-table, is-walk, walk-length, arc-count, tail-at, head-at, length-at, no-arc, no-distance}
-use Rattle.auction.specs.Auction.{State, auction, after, all-reached, most-iterations}
-use Rattle.auction.specs.HandOver.{Answer, handed-over, returned}
+use Rattle.auction.specs.Auction.{State, next, after, all-reached, most-iterations}
+use Rattle.auction.specs.HandOver.{Answer, answer, returned}
+use Rattle.auction.specs.Plan.{routes-of}
 use Rattle.auction.specs.Promises.{Attains, Has-walk, First-without-walk, equal-along}
 
 -- what the buffers say of a node: its distance, its price, its link, and the walk returned to it
@@ -32,14 +33,17 @@ Given a v = distance-of a v ≡ no-distance → ⊥
 pub record Demands (t : Table) (ws : List ℕ) (a : Answer) : Type 0 where
   -- Each wanted node that has a walk is given one.
   pub given : (k : ℕ) (walk : List ℕ) → k < length ws → is-walk t walk (getD ws k 0) ≡ true → Given a (getD ws k 0)
-  -- The walk returned to a node is a walk from the origin to it, as long as the node's distance,
+  -- The walk returned to a node is a walk from the origin to it, of fewer than n links, as long as the node's distance,
   pub walk : (v : ℕ) → Given a v → is-walk t (walk-of t a v) v ≡ true
+  pub short : (v : ℕ) → Given a v → length (walk-of t a v) < t .n
   pub as-long : (v : ℕ) → Given a v → walk-length t (walk-of t a v) ≡ distance-of a v
   -- and no other walk there is shorter.
   pub least : (v : ℕ) → Given a v → (other : List ℕ) → is-walk t other v ≡ true → distance-of a v ≤ walk-length t other
-  -- Its link attains the distance, and is the earliest listed of all that do.
+  -- Its link attains the distance, and is the earliest listed of all that do; the link's near end is given a walk too. The origin has no link.
   pub attains : (v : ℕ) → Given a v → (v ≡ t .origin → ⊥) → Attains t v (distance-of a v) (link-of a v)
   pub earliest : (v : ℕ) → Given a v → (v ≡ t .origin → ⊥) → (i : ℕ) → Attains t v (distance-of a v) i → link-of a v ≤ i
+  pub near-end : (v : ℕ) → Given a v → (v ≡ t .origin → ⊥) → Given a (tail-at t (link-of a v))
+  pub no-link : link-of a (t .origin) ≡ no-arc
   -- The prices show it: on every link the near end's price is at most the link's length plus the far end's price,
   pub prices-fit : (i : ℕ) → i < arc-count t → price-of a (tail-at t i) ≤ length-at t i + price-of a (head-at t i)
   -- equal along the walks returned, and the origin's price less the node's is the walk's length.
@@ -49,17 +53,40 @@ pub record Demands (t : Table) (ws : List ℕ) (a : Answer) : Type 0 where
   pub numbers : (a .number ≡ 0) ⊎ (a .number ≡ 8)
   pub route : a .number ≡ 0 → (k : ℕ) → k < length ws → Has-walk t (getD ws k 0)
   pub no-route : a .number ≡ 8 → First-without-walk t ws (a .place)
-  -- Iterations, contractions, extensions and deletions are those of the auction: after just so many of its steps, and not before, it stops in a state
-  -- with just these counts.
+  -- Iterations, contractions, extensions and deletions are those of the auction: after just so many of its steps it is in a state with just these
+  -- counts,
   pub counts : a .iterations ≡ a .contractions + a .extensions + a .deletions
   pub last : State
   pub steps : after (a .iterations) t ≡ some last
   pub counted : (last .contractions ≡ a .contractions) × (last .extensions ≡ a .extensions) × (last .deletions ≡ a .deletions)
+  -- and there it stops, and not before: with number 0 because every wanted node has been reached, with number 8 because no iteration follows.
+  pub found : a .number ≡ 0 → all-reached ws last ≡ true
+  pub stuck : a .number ≡ 8 → next t last ≡ none
   pub not-before : (k : ℕ) (x : State) → k < a .iterations → after k t ≡ some x → all-reached ws x ≡ false
   -- The iterations are at most 2(n³ − n)/3 + 3(n − 1), and even at most (n³ − n)/3 + 3(n − 1).
   pub few : a .iterations ≤ most-iterations (t .n)
   pub fewer : a .iterations ≤ (t .n * t .n * t .n - t .n) / 3 + 3 * (t .n - 1)
 
--- The promise: all of that, of every table that is not turned down and every wanted list.
+-- The promise: all of that, of every table that is not refused as faulty and every wanted list.
 unfoldable pub Demands-met : Type 0
-Demands-met = (t : Table) (ws : List ℕ) → is-table t ws ≡ true → Demands t ws (handed-over t ws (auction t ws))
+Demands-met = (t : Table) (ws : List ℕ) → is-table t ws ≡ true → Demands t ws (routes-of t ws)
+
+-- The demands leave no choice of number and counts: two answers that meet them have the same ones.
+pub record Same-counts (a b : Answer) : Type 0 where
+  pub number : a .number ≡ b .number
+  pub iterations : a .iterations ≡ b .iterations
+  pub contractions : a .contractions ≡ b .contractions
+  pub extensions : a .extensions ≡ b .extensions
+  pub deletions : a .deletions ≡ b .deletions
+
+unfoldable pub Counts-pinned : Type 0
+Counts-pinned = (t : Table) (ws : List ℕ) (a b : Answer) → Demands t ws a → Demands t ws b → Same-counts a b
+
+-- So a hollow answer, the true one with all four counts 0, does not meet them, unless the auction makes no iteration.
+unfoldable pub hollow : Answer → Answer
+hollow a =
+    answer (a .number) (a .place) (a .reached) (a .horizon) 0 0 0 0 (a .distances) (a .prices) (a .tree) (a .marks)
+
+unfoldable pub Hollow-fails : Type 0
+Hollow-fails =
+    (t : Table) (ws : List ℕ) → is-table t ws ≡ true → 0 < routes-of t ws .iterations → Demands t ws (hollow (routes-of t ws)) → ⊥

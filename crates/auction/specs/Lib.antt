@@ -3,4 +3,5 @@ pub mod HandOver
 pub mod Plan
 pub mod Promises
 pub mod Demands
+pub mod Stability
 pub mod Rack

@@ -1,8 +1,8 @@
--- What is promised of every run: for every table that is not turned down as faulty, and every wanted list. Each promise is a type; its proof, by the
--- same name in small letters, stands in proofs/Promised.antt, and `Promises` at the end holds all of them. Assumes nothing.
+-- What is promised of every run: for every table that is not refused as faulty, and every wanted list. Each promise is a type, its proof has the
+-- same name in small letters, and `Promises` at the end holds all of them (proofs/Promised.antt). Assumes nothing.
 --
--- A table that is not turned down is one with `is-table t ws ≡ true` (`Not-turned-down`, the last promise). A node counts as reached where
--- `was-reached` says so of the run's last state: those are the nodes to which a distance is handed over.
+-- A table that is not refused is one with `is-table t ws ≡ true` (`Unrefused-is-table` and `Table-is-unrefused`, below). A node counts as reached
+-- where `was-reached` says so of the run's last state: those are the nodes to which a distance is handed over.
 use mathlib.Core.Path.{_≡_}
 use mathlib.Core.Bool.{Bool, true, false, _&&_}
 use mathlib.Core.List.{List, [], _∷_}
@@ -11,7 +11,7 @@ use Prim.Native.Nat.{ℕ, suc, _+_, _*_, _-_, _/_, _^_, _≤_, _<_}
 use lib.Dec.{eqb}
 use lib.ListN.{length, getD}
 use Rattle.table.specs.Table.{Table, table-of, is-table, is-walk, walk-length, arc-count, tail-at, head-at, length-at, longest, no-arc, no-distance, Below}
-use Rattle.table.specs.Refusals.{Room, table-refusal}
+use Rattle.table.specs.Refusals.{Room, no-refusal, rooms-fit, table-refusal}
 use Rattle.auction.specs.Auction.{State, Bid, auction, run, start, next, after, best, terminal, all-reached, was-reached, distance, bound-at, price-at, iterations, most-iterations}
 use Rattle.auction.specs.HandOver.{prices, tree, returned, first-missing}
 
@@ -143,12 +143,17 @@ Never-above =
     (t : Table) (k : ℕ) (x : State) (b : Bid) → is-table t [] ≡ true → after k t ≡ some x → best t (terminal x) x ≡ some b →
     price-at x (terminal x) ≤ b .value
 
--- Nodes are reached in ascending distance, equals allowed, and a distance once reached stays.
+-- A reached node stays reached, at the same distance.
+unfoldable pub Distances-stay : Type 0
+Distances-stay =
+    (t : Table) (k : ℕ) (x y : State) (v : ℕ) → is-table t [] ≡ true → after k t ≡ some x → next t x ≡ some y →
+    was-reached x v ≡ true → (was-reached y v ≡ true) × (distance y v ≡ distance x v)
+
+-- Nodes are reached in ascending distance, equals allowed: one that an iteration reaches is at least as far as every node reached before.
 unfoldable pub Ascending : Type 0
 Ascending =
     (t : Table) (k : ℕ) (x y : State) (u v : ℕ) → is-table t [] ≡ true → after k t ≡ some x → next t x ≡ some y →
-    was-reached x u ≡ true → was-reached x v ≡ false → was-reached y v ≡ true →
-    (distance y u ≡ distance x u) × (distance y u ≤ distance y v)
+    was-reached x u ≡ true → was-reached x v ≡ false → was-reached y v ≡ true → distance y u ≤ distance y v
 
 -- A reached distance is at most (n − 1)(2³² − 1), so it is never 2⁶⁴ − 1; price and bound of a node together are at most n(2³² − 1). So no sum of
 -- the run passes 64 bits.
@@ -162,13 +167,28 @@ Small-sums =
     (t : Table) (k : ℕ) (x : State) (v d : ℕ) → is-table t [] ≡ true → after k t ≡ some x → bound-at x v ≡ some d →
     price-at x v + d ≤ t .n * longest
 
--- FOR EVERY TABLE NOT TURNED DOWN
+-- FOR EVERY TABLE NOT REFUSED
 
 -- Where none of the grounds 1 to 7 applies to columns whose lengths are 32 bits each, the table is one that the promises speak of.
-unfoldable pub Not-turned-down : Type 0
-Not-turned-down =
+unfoldable pub Unrefused-is-table : Type 0
+Unrefused-is-table =
     (n o : ℕ) (tails heads lengths wanted : List ℕ) (rooms : List Room) → Below (2 ^ 32) lengths →
     table-refusal n o tails heads lengths wanted rooms .number ≡ 0 → is-table (table-of n o tails heads lengths) wanted ≡ true
+
+-- And no table that they speak of is refused, where the columns are equally long and every buffer fits.
+unfoldable pub Table-is-unrefused : Type 0
+Table-is-unrefused =
+    (n o : ℕ) (tails heads lengths wanted : List ℕ) (rooms : List Room) → length tails ≡ length heads → length heads ≡ length lengths →
+    rooms-fit rooms ≡ true → is-table (table-of n o tails heads lengths) wanted ≡ true →
+    table-refusal n o tails heads lengths wanted rooms ≡ no-refusal
+
+-- The greatest length is the greatest number of 32 bits: a table's lengths are numbers of 32 bits other than 0, and 2³² is none.
+unfoldable pub Longest-of-32-bits : Type 0
+Longest-of-32-bits = longest + 1 ≡ 2 ^ 32
+
+unfoldable pub Lengths-of-32-bits : Type 0
+Lengths-of-32-bits =
+    (t : Table) (ws : List ℕ) (i : ℕ) → is-table t ws ≡ true → i < arc-count t → (0 < length-at t i) × (length-at t i < 2 ^ 32)
 
 -- ALL OF THEM together: the one theorem `promised` of proofs/Promised.antt
 pub record Promises : Type 0 where
@@ -184,7 +204,11 @@ pub record Promises : Type 0 where
   pub iterations-counted : Iterations-counted
   pub earliest-link : Earliest-link
   pub never-above : Never-above
+  pub distances-stay : Distances-stay
   pub ascending : Ascending
   pub small-distances : Small-distances
   pub small-sums : Small-sums
-  pub not-turned-down : Not-turned-down
+  pub unrefused-is-table : Unrefused-is-table
+  pub table-is-unrefused : Table-is-unrefused
+  pub longest-of-32-bits : Longest-of-32-bits
+  pub lengths-of-32-bits : Lengths-of-32-bits

@@ -15,8 +15,8 @@ use Rattle.table.specs.Refusals.{refusal, room, table-refusal, columns-bad, roo
 use Rattle.auction.specs.Auction.{fresh, was-reached}
 use Rattle.auction.specs.HandOver.{Answer, answer}
 use Rattle.table.proofs.Basics.{both-true, either-false, inside, same-or, true-or}
-use Rattle.auction.specs.Promises.{Not-turned-down}
-use Rattle.auction.proofs.Good.{good, not-turned-down, passed}
+use Rattle.auction.specs.Promises.{Unrefused-is-table}
+use Rattle.auction.proofs.Good.{good, unrefused-is-table, passed}
 use Rattle.solver.specs.declared.state.Progress.{Progress}
 use Rattle.solver.specs.Seen.{seen}
 use Rattle.solver.specs.Steps.{Ran}
@@ -126,7 +126,7 @@ module _ (n o : ℕ) (ts hs ls ws ds ps tr ms : List ℕ) where
       (eqb-true a n (p .0), eqb-true b n (q .0), eqb-true c n (r .0), eqb-true d m (s .0))
 
   pub fine : Below (2 ^ 32) ls → plan-refusal n o ts hs ls ws ds ps tr ms .number ≡ 0 → Fine
-  unfolding plan-refusal table-refusal columns-bad Not-turned-down
+  unfolding plan-refusal table-refusal columns-bad Unrefused-is-table
   fine low e =
       let p = passed (eqb n 0 || ltb most-nodes n) _ 0 0 e in
       let q = passed (columns-bad (length ts) (length hs) (length ls)) _ 1 0 (p .1) in
@@ -139,7 +139,7 @@ module _ (n o : ℕ) (ts hs ls ws ds ps tr ms : List ℕ) where
       record {
         heads-count = sym eh;
         lengths-count = sym (eh ∙ el);
-        table-good = not-turned-down n o ts hs ls ws _ low e;
+        table-good = unrefused-is-table n o ts hs ls ws _ low e;
         fitting =
             record {
               few-nodes = ltb-false most-nodes n (either-false (eqb n 0) (ltb most-nodes n) (p .0) .1);
