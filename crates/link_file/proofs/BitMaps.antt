@@ -11,7 +11,7 @@ use Rattle.link_file.specs.Format.{bit-map, has, all-nodes, header-bits,
 use Rattle.link_file.specs.Reading.{forbidden, implied}
 use Rattle.link_file.specs.Promises.{needless, needless-header, Needless-is-not-canonical, Needless-header-is-not-canonical}
 use Rattle.link_file.specs.Says.{first}
-use Rattle.link_file.proofs.Booleans.{true-false}
+use Rattle.table.proofs.Basics.{not-both}
 
 -- all three fields; fewer; a forbidden bit
 pub forbidden-full : (before : Option Arc) (bits : ℕ) → bits ≡ 7 → forbidden before bits ≡ false
@@ -65,7 +65,7 @@ each-case : (P : Bool → Bool → Type 0) → P true true → P true false → 
 each-case P tt tf ft true true h = tt
 each-case P tt tf ft true false h = tf
 each-case P tt tf ft false true h = ft
-each-case P tt tf ft false false h = true-false (h refl) refl
+each-case P tt tf ft false false h = absurd (not-both _ (h refl) refl)
 
 -- Three bits, each with whether its field says what its absence would: one stands needlessly just where the bit map is not the canonical one.
 abbrev Agree : (b₁ e₁ b₂ e₂ b₃ e₃ : Bool) → Type 0

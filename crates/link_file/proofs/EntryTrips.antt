@@ -1,28 +1,27 @@
 -- Both round trips of the two entries, from those of the format. Assumes nothing.
-use mathlib.Core.Bool.{Bool, true, false, cond, _||_}
+use mathlib.Core.Bool.{Bool, true, false, cond}
 use mathlib.Core.List.{List, [], _∷_}
 use mathlib.Core.Option.{Option, none, some}
 use mathlib.Core.Path.{_≡_, refl, ap, sym, _∙_, subst}
 use Prim.Native.Nat.{ℕ, zero, suc, _≤_, _<_}
 use native.Mathlib.Omega.{arith}
-use borrow.Author.Tests.{le-ltb, ltb-false, eqb-false, eq-eqb}
-use lib.Dec.{eqb, ltb, leb}
+use borrow.Author.Tests.{le-ltb, ltb-false, eq-eqb}
+use lib.Dec.{ltb, leb}
 use lib.ListN.{length, take, drop, length-map}
 use lib.Seq.{take-at}
-use Rattle.table.specs.Refusals.{refusal, no-refusal, columns-bad}
-use Rattle.table.specs.Table.{Arc, arc, arcs-of, Below, most-nodes, most-arcs, most-wanted}
+use Rattle.table.specs.Refusals.{refusal, no-refusal, count-bad, columns-bad}
+use Rattle.table.specs.Table.{Arc, arc, arcs-of, Below, most-arcs, most-wanted}
 use Rattle.link_file.specs.Format.{Content, content, tails-of, heads-of, lengths-of, file-bytes}
 use Rattle.link_file.specs.Reading.{_>>_, _>>=_, Outcome, Reader, got, refused, after, give, here, refuse-if, field, optional, implied, read-nodes, read-wanted, read-header, read-record, read-records, read-content, read-file}
 use Rattle.link_file.specs.Entries.{over, too-short, reading, refusal-of, content-of, read-answer, Read-says, file-of, writing, put-bytes, write-answer, Write-says}
 use Rattle.link_file.specs.Promises.{Small-arcs, Writable, Table-there, Counts-fit, Write-then-read, Read-then-write, Answers-fit}
 use Rattle.link_file.specs.declared.TableRead.{TableRead}
 use Rattle.link_file.specs.declared.Written.{Written}
-use Rattle.link_file.proofs.Booleans.{or-false-first, or-false-second}
+use Rattle.link_file.proofs.Counts.{some-nodes, few-nodes, equal-columns}
 use Rattle.link_file.proofs.Parts.{refused-got}
 use Rattle.link_file.proofs.ReadThenWrite.{File-back, file-back}
 use Rattle.link_file.proofs.Whole.{reading-roomy}
 use Rattle.link_file.proofs.WriteThenRead.{written-tables-read-back}
-use Rattle.link_file.proofs.WriteWays.{equal-columns}
 
 -- ---- no refusal of the reader has number 0
 
@@ -170,7 +169,7 @@ start-of xs buffer k e = take-at xs (drop (length xs) buffer) k e
 -- ---- the writer's answer with number 0
 
 pub record Unrefused (n o : ℕ) (ts hs ls ws : List ℕ) (room : ℕ) : Type 0 where
-  pub fine : (eqb n 0 || ltb most-nodes n) ≡ false
+  pub fine : count-bad n ≡ false
   pub equal : columns-bad (length ts) (length hs) (length ls) ≡ false
   pub few : ltb most-wanted (length ws) ≡ false
   pub fits : ltb room (length (file-of n o ts hs ls ws)) ≡ false
@@ -188,7 +187,7 @@ four-tests false false false false e = (refl, refl, refl, refl)
 unrefused : (n o : ℕ) (ts hs ls ws : List ℕ) (room : ℕ) → writing n o ts hs ls ws room .number ≡ 0 → Unrefused n o ts hs ls ws room
 unfolding writing
 unrefused n o ts hs ls ws room e =
-    let all = four-tests (eqb n 0 || ltb most-nodes n) (columns-bad (length ts) (length hs) (length ls)) (ltb most-wanted (length ws)) (ltb room (length (file-of n o ts hs ls ws))) e in
+    let all = four-tests (count-bad n) (columns-bad (length ts) (length hs) (length ls)) (ltb most-wanted (length ws)) (ltb room (length (file-of n o ts hs ls ws))) e in
     record { fine = all .0; equal = all .1; few = all .2; fits = all .3 }
 
 is-accepted : (n o : ℕ) (ts hs ls ws : List ℕ) (room : ℕ) → Unrefused n o ts hs ls ws room → writing n o ts hs ls ws room ≡ no-refusal
@@ -221,10 +220,9 @@ writable : (n o : ℕ) (ts hs ls ws : List ℕ) (room : ℕ) → o < 65536 → B
 unfolding content
 writable n o ts hs ls ws room so st sh sl sw u =
     let equal = equal-columns ts hs ls (u .equal) in
-    let nonzero : n ≡ 0 → ⊥ = eqb-false n 0 (or-false-first (eqb n 0) (ltb most-nodes n) (u .fine)) in
     record {
-      some = omega (arith, nonzero);
-      nodes = ltb-false most-nodes n (or-false-second (eqb n 0) (ltb most-nodes n) (u .fine));
+      some = some-nodes (u .fine);
+      nodes = few-nodes (u .fine);
       origin-fits = so;
       wanted-few = ltb-false most-wanted (length ws) (u .few);
       wanted-fit = sw;
@@ -338,7 +336,7 @@ unfolding read-answer content-of content
 counts-fit file (got t at rest) small read =
     let back = file-back file small (read t at rest refl) in
     record {
-      nodes = ltb-false most-nodes (t .n) (or-false-second (eqb (t .n) 0) (ltb most-nodes (t .n)) (back .fine));
+      nodes = few-nodes (back .fine);
       arcs-few = back .arcs-few;
       wanted-few = back .wanted-few;
     }

@@ -1,4 +1,4 @@
-pub mod Booleans
+pub mod Counts
 pub mod Numbers
 pub mod Parts
 pub mod BitMaps

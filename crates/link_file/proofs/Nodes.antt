@@ -16,7 +16,7 @@ use Rattle.link_file.specs.Reading.{_>>=_, got, refused, after, give, fi
 use Rattle.link_file.specs.Says.{nodes-in, Nodes-got, Nodes-says}
 use Rattle.link_file.specs.declared.header.NodesRead.{NodesRead}
 use Rattle.link_file.specs.declared.header.NodesRead.the-variants.{Read, Cut}
-use Rattle.link_file.proofs.Booleans.{and-assoc, and-true}
+use Rattle.table.proofs.Basics.{and-assoc, and-true}
 use Rattle.link_file.proofs.Columns.{Column, column-begins, column-next}
 
 -- the reader, where all nodes are there

@@ -1,17 +1,15 @@
 -- From the header and the records to the whole file, and from the filled buffers to what the reader's entry says. Assumes nothing.
-use mathlib.Core.Bool.{true, false, _||_}
+use mathlib.Core.Bool.{true, false}
 use mathlib.Core.List.{List, [], _∷_}
 use mathlib.Core.Option.{Option, none, some}
 use mathlib.Core.Path.{_≡_, refl, ap, _∙_}
 use Prim.Native.Nat.{ℕ, zero, suc, _+_, _≤_}
 use native.Mathlib.Nat.{zero-add}
 use native.Mathlib.Omega.{arith}
-use borrow.Author.Tests.{ltb-false}
-use lib.Dec.{ltb}
 use lib.ListN.{length, drop, length-map}
 use lib.Seq.{sets, sets-eq}
 use Rattle.table.specs.Refusals.{refusal, no-refusal}
-use Rattle.table.specs.Table.{Arc, most-arcs, most-wanted}
+use Rattle.table.specs.Table.{Arc, most-arcs}
 use Rattle.link_file.specs.Format.{content, tails-of, heads-of, lengths-of}
 use Rattle.link_file.specs.Reading.{_>>=_, Outcome, got, refused, accepted, list-got, after, give, read-header, read-record, read-records, read-content, read-file}
 use Rattle.link_file.specs.Says.{Header-got, Filled, wanted-in, tally, records-from}
@@ -19,26 +17,7 @@ use Rattle.link_file.specs.Entries.{over, too-short, reading, refusal-of
 use Rattle.link_file.specs.declared.TableRead.{TableRead}
 use Rattle.link_file.specs.declared.header.Header.{Header}
 use Rattle.link_file.specs.declared.records.Counted.the-variants.{Arcs, Refused}
-use Rattle.link_file.proofs.Booleans.{or-false-first, or-false-second}
-
--- the buffers that are long enough
-pub record Roomy (tails heads lengths wanted : ℕ) : Type 0 where
-  pub tails-room : most-arcs ≤ tails
-  pub heads-room : most-arcs ≤ heads
-  pub lengths-room : most-arcs ≤ lengths
-  pub wanted-room : most-wanted ≤ wanted
-
-pub roomy : (t h l w : ℕ) → too-short t h l w ≡ false → Roomy t h l w
-unfolding too-short
-roomy t h l w e =
-    let a : (ltb t most-arcs || ltb h most-arcs) ≡ false = or-false-first (ltb t most-arcs || ltb h most-arcs) (ltb l most-arcs || ltb w most-wanted) e in
-    let b : (ltb l most-arcs || ltb w most-wanted) ≡ false = or-false-second (ltb t most-arcs || ltb h most-arcs) (ltb l most-arcs || ltb w most-wanted) e in
-    record {
-      tails-room = ltb-false t most-arcs (or-false-first (ltb t most-arcs) (ltb h most-arcs) a);
-      heads-room = ltb-false h most-arcs (or-false-second (ltb t most-arcs) (ltb h most-arcs) a);
-      lengths-room = ltb-false l most-arcs (or-false-first (ltb l most-arcs) (ltb w most-wanted) b);
-      wanted-room = ltb-false w most-wanted (or-false-second (ltb l most-arcs) (ltb w most-wanted) b);
-    }
+use Rattle.link_file.proofs.Counts.{Roomy}
 
 -- a list stored from the start
 pub sets-over : (xs buffer : List ℕ) → length xs ≤ length buffer → sets buffer 0 xs ≡ over xs buffer

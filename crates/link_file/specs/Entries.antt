@@ -10,8 +10,8 @@ use Prim.Native.Nat.{ℕ}
 use lib.Dec.{eqb, ltb}
 use lib.ListN.{length, drop}
 use Rattle.table.specs.declared.Refusal.{Refusal}
-use Rattle.table.specs.Refusals.{refusal, no-refusal, columns-bad}
-use Rattle.table.specs.Table.{arcs-of, most-nodes, most-arcs, most-wanted}
+use Rattle.table.specs.Refusals.{refusal, no-refusal, count-bad, columns-bad}
+use Rattle.table.specs.Table.{arcs-of, most-arcs, most-wanted}
 use Rattle.link_file.specs.Format.{Content, content, tails-of, heads-of, lengths-of, file-bytes}
 use Rattle.link_file.specs.Reading.{Outcome, got, refused, read-file}
 use Rattle.link_file.specs.declared.TableRead.{TableRead}
@@ -61,7 +61,7 @@ file-of n o ts hs ls ws = file-bytes (content n o ws (arcs-of ts hs ls))
 -- the writer's grounds, in order: 1, 2, 5 (the count only), then 13
 unfoldable pub writing : (n origin : ℕ) → (tails heads lengths wanted : List ℕ) → (room : ℕ) → Refusal
 writing n o ts hs ls ws room =
-    cond (eqb n 0 || ltb most-nodes n) (refusal 1 0)
+    cond (count-bad n) (refusal 1 0)
     (cond (columns-bad (length ts) (length hs) (length ls)) (refusal 2 0)
     (cond (ltb most-wanted (length ws)) (refusal 5 most-wanted)
     (cond (ltb room (length (file-of n o ts hs ls ws))) (refusal 13 0) no-refusal)))

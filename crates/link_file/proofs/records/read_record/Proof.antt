@@ -6,7 +6,7 @@ use Prim.Native.Nat.{ℕ, _+_, _<_}
 use native.Mathlib.Omega.{arith}
 use mathlib.Core.List.{List}
 use mathlib.Core.Option.{Option}
-use lib.ListN.{length, getD, drop}
+use lib.ListN.{getD, drop}
 use denote.Ref.{now}
 use Rattle.table.specs.Table.{Arc, arc}
 use Rattle.link_file.specs.Format.{has, record-bits}
