@@ -8,12 +8,13 @@ use native.Mathlib.Decide.{decLt}
 use native.Mathlib.Omega.{arith}
 use lib.ListN.{length, drop, set}
 use Rattle.table.specs.Table.{Arc, most-arcs}
-use Rattle.link_file.specs.Format.{tails-of, heads-of, lengths-of}
-use Rattle.link_file.specs.Reading.{Outcome, got, refused, accepted, list-got, after, give, read-record}
+use Rattle.link_format.specs.Format.{tails-of, heads-of, lengths-of}
+use Rattle.link_format.specs.Reading.{Outcome, got, refused, accepted, list-got, after, give, read-record}
+use Rattle.link_format.proofs.Records.{then}
 use Rattle.link_file.specs.Says.{Record-got, Fillable, Filled, records-from}
-use Rattle.table.proofs.Basics.{not-both}
 use Rattle.link_file.proofs.Columns.{Column, column-begins, column-next}
-use Rattle.link_file.proofs.Runs.{remaining, then, Standing, standing-next, run-none, run-full, run-refused, run-more}
+use Rattle.link_file.proofs.Runs.{remaining, Standing, standing-next, run-none, run-full, run-refused, run-more}
+use Rattle.table.proofs.Basics.{not-both}
 
 -- an arc in front of the rest
 accepted-then : (a : Arc) (o : Outcome (List Arc)) → accepted (then a o) ≡ accepted o

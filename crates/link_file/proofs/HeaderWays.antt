@@ -11,11 +11,12 @@ use lib.Seq.{drop-drop}
 use borrow.Author.Tests.{lt-ltb, le-ltb, eq-eqb, ne-eqb}
 use Rattle.table.specs.Refusals.{count-bad}
 use Rattle.table.specs.Table.{most-nodes, most-wanted}
-use Rattle.link_file.specs.Format.{has, all-nodes, header-bits}
-use Rattle.link_file.specs.Reading.{_>>_, _>>=_, got, refused, after, give, here, refuse-if, field, optional, read-wanted, read-header}
+use Rattle.link_format.specs.Format.{has, all-nodes, header-bits}
+use Rattle.link_format.specs.Reading.{_>>_, _>>=_, got, refused, after, give, here, refuse-if, field, optional, read-wanted, read-header}
+use Rattle.link_format.proofs.AllNodes.{length-count-up, all-count-up}
 use Rattle.link_file.specs.Says.{Got, Ends, Nodes-got, Wanted-got, Header-got, wanted-in}
+use Rattle.link_file.proofs.Nodes.{nodes-read, nodes-cut, length-nodes-in}
 use Rattle.table.proofs.Basics.{not-both}
-use Rattle.link_file.proofs.Nodes.{nodes-read, nodes-cut, length-count-up, all-count-up, length-nodes-in}
 
 -- no list: all nodes
 pub wanted-absent : (file : List ℕ) (from n : ℕ) → from ≤ length file → n ≤ most-nodes → Wanted-got file from false n n from true

@@ -10,12 +10,13 @@ use lib.ListN.{length, length-append}
 use lib.Seq.{sets}
 use Rattle.table.specs.Refusals.{refusal, no-refusal, count-bad, columns-bad}
 use Rattle.table.specs.Table.{arcs-of, most-wanted}
-use Rattle.link_file.specs.Format.{content, header-bytes, records-bytes, file-bytes}
+use Rattle.link_format.specs.Buffers.{over, file-of, writing, put-bytes}
+use Rattle.link_format.specs.Format.{content, header-bytes, records-bytes, file-bytes}
+use Rattle.link_file.specs.Entries.{write-answer, Write-says}
 use Rattle.link_file.specs.Says.{Put}
-use Rattle.link_file.specs.Entries.{over, file-of, writing, put-bytes, write-answer, Write-says}
-use Rattle.link_file.specs.declared.Written.{Written}
 use Rattle.link_file.proofs.Pieces.{put-then}
 use Rattle.link_file.proofs.Whole.{sets-over}
+use Rattle.link_file.specs.declared.Written.{Written}
 
 module _ (n o : ℕ) (ts hs ls ws out : List ℕ) where
   pub file-size : length (file-of n o ts hs ls ws) ≡ length (header-bytes n o ws) + length (records-bytes none (arcs-of ts hs ls))

@@ -13,7 +13,7 @@ ghost use lib.Dec.{ltb};
 ghost use lib.ListN.{length, drop};
 ghost use lib.Seq.{sets};
 ghost use Rattle.table.specs.Table.{most-nodes, most-wanted};
-ghost use Rattle.link_file.specs.Format.{has, count-up};
+ghost use Rattle.link_format.specs.Format.{has, count-up};
 ghost use Rattle.link_file.specs.Says.{nodes-in, wanted-in, Nodes-says, Wanted-says, Header-got, Header-says};
 
 // The most wanted nodes.

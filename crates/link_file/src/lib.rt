@@ -12,8 +12,9 @@ use records::Counted;
 ghost use mathlib.Core.List.{[]};
 ghost use mathlib.Core.Path.{_≡_};
 ghost use Rattle.table.specs.Refusals.{refusal};
-ghost use Rattle.link_file.specs.Format.{content};
-ghost use Rattle.link_file.specs.Entries.{too-short, read-answer, Read-says, write-answer, Write-says};
+ghost use Rattle.link_format.specs.Buffers.{too-short};
+ghost use Rattle.link_format.specs.Format.{content};
+ghost use Rattle.link_file.specs.Entries.{read-answer, Read-says, write-answer, Write-says};
 
 // What reading a link file answers: the refusal's number and place, both 0 where there is none, and the node count, the origin and how many
 // arcs and wanted nodes there are, all 0 in a refusal.

@@ -15,8 +15,9 @@ ghost use Prim.Native.Nat.{_+_, _≤_, _<_};
 ghost use lib.ListN.{length, getD};
 ghost use lib.Seq.{sets};
 ghost use Rattle.table.specs.Table.{arc, arcs-of, most-nodes, most-wanted};
-ghost use Rattle.link_file.specs.Format.{all-nodes, header-bits, header-bytes, nodes-bytes, wanted-bytes, record-bytes, records-bytes};
-ghost use Rattle.link_file.specs.Says.{arc-of, arc-before, Put, Record-sized, Equal-columns, Header-sized, Header-asks};
+ghost use Rattle.link_format.specs.Buffers.{Equal-columns};
+ghost use Rattle.link_format.specs.Format.{all-nodes, header-bits, header-bytes, nodes-bytes, wanted-bytes, record-bytes, records-bytes};
+ghost use Rattle.link_file.specs.Says.{arc-of, arc-before, Put, Record-sized, Header-sized, Header-asks};
 
 fn field_size(stands: bool, width: usize) -> usize
     ensures { λ r. ⌜ (r ≡ cond stands width 0) × (r ≤ width) ⌝ }

@@ -9,8 +9,8 @@ use denote.Ref.{now}
 use lib.ListN.{length}
 use Rattle.table.specs.Refusals.{count-bad, columns-bad}
 use Rattle.table.specs.Table.{most-nodes}
-use Rattle.link_file.specs.Entries.{file-of}
-use Rattle.link_file.proofs.Counts.{few-nodes, equal-columns}
+use Rattle.link_format.specs.Buffers.{file-of}
+use Rattle.link_format.proofs.Counts.{few-nodes, equal-columns}
 use Rattle.link_file.proofs.Pieces.{put-kept}
 use Rattle.link_file.proofs.WriteWays.{file-size, none-written, refuses-count, refuses-columns, refuses-wanted, refuses-room, all-written}
 use Rattle.link_file.proofs.write_link_file.Statement.{statement}

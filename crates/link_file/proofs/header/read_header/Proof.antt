@@ -11,12 +11,12 @@ use lib.Dec.{ltb}
 use lib.ListN.{getD, drop}
 use Rattle.table.specs.Refusals.{count-bad}
 use Rattle.table.specs.Table.{most-nodes}
-use Rattle.link_file.specs.Format.{has, header-bits}
-use Rattle.link_file.specs.Reading.{got, field, optional}
+use Rattle.link_format.specs.Format.{has, header-bits}
+use Rattle.link_format.specs.Reading.{got, field, optional}
+use Rattle.link_format.proofs.Counts.{few-nodes}
 use Rattle.link_file.specs.Says.{Got, Field-says, Wanted-got, Wanted-says, Header-says, wanted-in}
-use Rattle.link_file.proofs.Counts.{few-nodes}
-use Rattle.link_file.proofs.Parts.{as-got, as-ends, renamed, first-byte}
 use Rattle.link_file.proofs.HeaderWays.{header-empty, header-forbidden, cut-n, bad-n, cut-origin, wanted-refused, header-needless, header-got}
+use Rattle.link_file.proofs.Parts.{as-got, as-ends, renamed, first-byte}
 use Rattle.link_file.proofs.header.read_header.Statement.{statement}
 use Rattle.link_file.proofs.header.read_header.Tie as tie
 

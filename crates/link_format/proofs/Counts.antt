@@ -10,8 +10,7 @@ use lib.ListN.{length}
 use Rattle.table.specs.Refusals.{count-bad, columns-bad}
 use Rattle.table.specs.Table.{most-nodes, most-arcs, most-wanted}
 use Rattle.table.proofs.Basics.{both-true, either-false}
-use Rattle.link_file.specs.Entries.{too-short}
-use Rattle.link_file.specs.Says.{Equal-columns}
+use Rattle.link_format.specs.Buffers.{too-short, Equal-columns}
 
 -- 1: a node count that is not refused, and one that is in range
 pub some-nodes : {n : ℕ} → count-bad n ≡ false → 0 < n

@@ -3,7 +3,7 @@
 use mathlib.Core.Bool.{Bool, true, false, not, _||_}
 use mathlib.Core.List.{List, [], _∷_, _++_, append-assoc}
 use mathlib.Core.Option.{Option, none, some}
-use mathlib.Core.Path.{_≡_, refl, ap, sym, _∙_}
+use mathlib.Core.Path.{_≡_, refl, sym, _∙_}
 use Prim.Native.Nat.{ℕ, zero, suc, _+_, _^_, _≤_, _<_}
 use native.Mathlib.Nat.{zero-add, add-zero}
 use native.Mathlib.Omega.{arith}
@@ -13,14 +13,15 @@ use lib.Seq.{drop-at}
 use borrow.Author.Tests.{le-leb, le-ltb, eq-eqb, eqb-true, not-false}
 use Rattle.table.specs.Refusals.{count-bad}
 use Rattle.table.specs.Table.{Arc, arc, Below, most-nodes, most-arcs, most-wanted}
-use Rattle.link_file.specs.Format.{content, bytes, bit-map, has, field-bytes, count-up, counts-from, all-nodes, nodes-bytes, wanted-bytes, header-bits, header-bytes, record-bits, fields-bytes, record-bytes, records-bytes, file-bytes}
-use Rattle.link_file.specs.Reading.{_>>_, _>>=_, got, after, give, here, refuse-if, number, field, optional, implied, forbidden, read-nodes, read-wanted, read-header, read-record, read-records, read-content, read-file}
-use Rattle.link_file.specs.Promises.{Small-arc, Small-arcs, Implied-where-absent, Written-tables-read-back}
-use Rattle.table.proofs.Basics.{not-both, both-true}
-use Rattle.link_file.proofs.Counts.{good-count}
-use Rattle.link_file.proofs.Numbers.{length-bytes, number-bytes}
-use Rattle.link_file.proofs.BitMaps.{made-of}
-use Rattle.link_file.proofs.Runs.{then, records-none, records-more}
+use Rattle.link_format.specs.Format.{content, bytes, bit-map, has, field-bytes, all-nodes, nodes-bytes, wanted-bytes, header-bits, header-bytes, record-bits, fields-bytes, record-bytes, records-bytes, file-bytes}
+use Rattle.link_format.specs.Promises.{Small-arc, Small-arcs, Implied-where-absent, Written-tables-read-back}
+use Rattle.link_format.specs.Reading.{_>>_, _>>=_, got, after, give, here, refuse-if, number, field, optional, implied, forbidden, read-nodes, read-wanted, read-header, read-record, read-records, read-content, read-file}
+use Rattle.link_format.proofs.AllNodes.{all-nodes-are}
+use Rattle.link_format.proofs.BitMaps.{made-of}
+use Rattle.link_format.proofs.Counts.{good-count}
+use Rattle.link_format.proofs.Numbers.{length-bytes, number-bytes}
+use Rattle.link_format.proofs.Records.{then, records-none, records-more}
+use Rattle.table.proofs.Basics.{not-both}
 
 -- a field
 field-again : (w v at : ℕ) (rest : List ℕ) → v < 256 ^ w → field w at (bytes w v ++ rest) ≡ got v (at + length (bytes w v)) rest
@@ -53,21 +54,6 @@ nodes-again (w ∷ ws) at rest small =
       nodes-again ws (at + length (bytes 2 w)) rest (λ (i : ℕ). small (suc i)),
       sum,
     )
-
--- a list that is all nodes is the list of all nodes
-counts-up : (i : ℕ) (ws : List ℕ) → counts-from i ws ≡ true → ws ≡ count-up i (length ws)
-unfolding counts-from count-up
-counts-up i [] e = refl
-counts-up i (w ∷ ws) e =
-    let here-is : w ≡ i = eqb-true w i (both-true (eqb w i) (counts-from (suc i) ws) e .0) in
-    let more : ws ≡ count-up (suc i) (length ws) = counts-up (suc i) ws (both-true (eqb w i) (counts-from (suc i) ws) e .1) in
-    rw here-is (ap (λ (l : List ℕ). i ∷ l) more)
-
-all-nodes-are : (n : ℕ) (ws : List ℕ) → all-nodes n ws ≡ true → ws ≡ count-up 0 n
-unfolding all-nodes
-all-nodes-are n ws e =
-    let size : length ws ≡ n = eqb-true (length ws) n (both-true (eqb (length ws) n) (counts-from 0 ws) e .0) in
-    counts-up 0 ws (both-true (eqb (length ws) n) (counts-from 0 ws) e .1) ∙ rw size
 
 -- the wanted list
 wanted-again : (stands : Bool) (n : ℕ) (ws : List ℕ) (at : ℕ) (rest : List ℕ) → (stands ≡ false → all-nodes n ws ≡ true) → length ws ≤ most-wanted

@@ -13,14 +13,14 @@ use lib.ListN.{length, drop, take-append-drop}
 use borrow.Author.Tests.{le-leb, lt-leb, ltb-false, eqb-true, not-false}
 use Rattle.table.specs.Refusals.{count-bad}
 use Rattle.table.specs.Table.{Arc, arc, Below, most-nodes, most-arcs, most-wanted}
-use Rattle.link_file.specs.Format.{Content, content, bytes, has, count-up, field-bytes, nodes-bytes, wanted-bytes, header-bits, header-bytes, record-bits, fields-bytes, record-bytes, records-bytes, file-bytes}
-use Rattle.link_file.specs.Reading.{_>>_, _>>=_, Outcome, Reader, got, refused, list-got, after, give, here, refuse-if, number, field, optional, implied, forbidden, read-nodes, read-wanted, read-header, read-record, read-records, read-content, read-file}
-use Rattle.link_file.specs.Promises.{Accepted-files-write-back}
-use Rattle.link_file.proofs.Counts.{few-nodes}
-use Rattle.link_file.proofs.Nodes.{length-count-up}
-use Rattle.link_file.proofs.Whole.{few-records}
-use Rattle.link_file.proofs.Numbers.{bytes-number, below-drop}
-use Rattle.link_file.proofs.Parts.{got-value, got-rest, refused-got}
+use Rattle.link_format.specs.Format.{Content, content, bytes, has, count-up, field-bytes, nodes-bytes, wanted-bytes, header-bits, header-bytes, record-bits, fields-bytes, record-bytes, records-bytes, file-bytes}
+use Rattle.link_format.specs.Promises.{Accepted-files-write-back}
+use Rattle.link_format.specs.Reading.{_>>_, _>>=_, Outcome, Reader, got, refused, list-got, after, give, here, refuse-if, number, field, optional, implied, forbidden, read-nodes, read-wanted, read-header, read-record, read-records, read-content, read-file}
+use Rattle.link_format.proofs.AllNodes.{length-count-up}
+use Rattle.link_format.proofs.Counts.{few-nodes}
+use Rattle.link_format.proofs.Numbers.{bytes-number, below-drop}
+use Rattle.link_format.proofs.Outcomes.{got-value, got-rest, refused-got}
+use Rattle.link_format.proofs.Records.{few-records}
 
 -- What follows a step of a `do` block that got a value: the step got one too.
 module _ {B : Type 0} {b : B} {next : ℕ} {end : List ℕ} {P : Type 0} where

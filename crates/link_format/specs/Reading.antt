@@ -11,7 +11,7 @@ use lib.Dec.{eqb, ltb, leb}
 use lib.ListN.{length, drop}
 use Rattle.table.specs.Refusals.{count-bad}
 use Rattle.table.specs.Table.{Arc, arc, most-arcs, most-wanted}
-use Rattle.link_file.specs.Format.{Content, content, last-head, has, count-up, header-bits, record-bits}
+use Rattle.link_format.specs.Format.{Content, content, last-head, has, count-up, header-bits, record-bits}
 
 pub data Outcome (A : Type 0) : Type 0 where
   got : (value : A) → (next : ℕ) → (rest : List ℕ) → Outcome A

@@ -2,9 +2,9 @@
 use mathlib.Core.Path.{refl}
 use Rattle.table.specs.Refusals.{count-bad}
 use Rattle.table.specs.Table.{arc}
-use Rattle.link_file.specs.Format.{content, bytes, bit-map, has, field-bytes, count-up, counts-from, all-nodes, nodes-bytes, wanted-bytes, header-bits, header-bytes, record-bits, fields-bytes, record-bytes, records-bytes, file-bytes}
-use Rattle.link_file.specs.Reading.{_>>_, _>>=_, after, give, here, refuse-if, number, field, optional, implied, forbidden, read-nodes, read-wanted, read-header, read-record, read-records, read-content, read-file}
-use Rattle.link_file.specs.Rows.{Rows}
+use Rattle.link_format.specs.Format.{content, bytes, bit-map, has, field-bytes, count-up, counts-from, all-nodes, nodes-bytes, wanted-bytes, header-bits, header-bytes, record-bits, fields-bytes, record-bytes, records-bytes, file-bytes}
+use Rattle.link_format.specs.Reading.{_>>_, _>>=_, after, give, here, refuse-if, number, field, optional, implied, forbidden, read-nodes, read-wanted, read-header, read-record, read-records, read-content, read-file}
+use Rattle.link_format.specs.Rows.{Rows}
 
 pub rows : Rows
 unfolding arc content bytes bit-map has field-bytes count-up counts-from all-nodes nodes-bytes wanted-bytes header-bits header-bytes record-bits fields-bytes record-bytes records-bytes file-bytes _>>=_ _>>_ after give here refuse-if number field optional implied forbidden read-nodes read-wanted read-header read-record read-records read-content read-file count-bad
