@@ -1,4 +1,5 @@
 pub mod Text
 pub mod Sheet
+pub mod Printed
 pub mod Promises
 pub mod Examples
