@@ -55,7 +55,7 @@ module _ (t : Table) (ws : List ℕ) (e : is-table t ws ≡ true) where
       ⊎-elim (λ (h : v < t .n). column (t .n) v entry no-distance h ∙ here) (λ (h : t .n ≤ v). past-column (t .n) v entry no-distance h)
       (below-or v (t .n))
 
-  given-reached : (v : ℕ) → Given a v → was-reached x v ≡ true
+  pub given-reached : (v : ℕ) → Given a v → was-reached x v ≡ true
   unfolding Given
   given-reached v h = ⊎-elim (λ (r : was-reached x v ≡ true). r) (λ (r : was-reached x v ≡ false). absurd (h (unreached-entry v r))) (true-or (was-reached x v))
 

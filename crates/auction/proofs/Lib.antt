@@ -10,6 +10,7 @@ pub mod Run
 pub mod Walks
 pub mod Promised
 pub mod Demanded
+pub mod Made
 pub mod Stability
 -- the test rack
 pub mod Answers

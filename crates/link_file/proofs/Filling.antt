@@ -8,12 +8,13 @@ use native.Mathlib.Decide.{decLt}
 use native.Mathlib.Omega.{arith}
 use lib.ListN.{length, drop, set}
 use Rattle.table.specs.Table.{Arc, most-arcs}
-use Rattle.link_file.specs.Format.{tails-of, heads-of, lengths-of}
-use Rattle.link_file.specs.Reading.{Outcome, got, refused, accepted, list-got, after, give, read-record}
+use Rattle.link_format.specs.Format.{tails-of, heads-of, lengths-of}
+use Rattle.link_format.specs.Reading.{Outcome, got, refused, accepted, list-got, after, give, read-record}
+use Rattle.link_format.proofs.Records.{then}
 use Rattle.link_file.specs.Says.{Record-got, Fillable, Filled, records-from}
-use Rattle.link_file.proofs.Booleans.{true-false}
 use Rattle.link_file.proofs.Columns.{Column, column-begins, column-next}
-use Rattle.link_file.proofs.Runs.{remaining, then, Standing, standing-next, run-none, run-full, run-refused, run-more}
+use Rattle.link_file.proofs.Runs.{remaining, Standing, standing-next, run-none, run-full, run-refused, run-more}
+use Rattle.table.proofs.Basics.{not-both}
 
 -- an arc in front of the rest
 accepted-then : (a : Arc) (o : Outcome (List Arc)) → accepted (then a o) ≡ accepted o
@@ -24,12 +25,12 @@ accepted-then a (refused n p) = refl
 got-then : (a : Arc) (o : Outcome (List Arc)) → accepted o ≡ true → list-got (then a o) ≡ a ∷ list-got o
 unfolding after give accepted list-got
 got-then a (got more at rest) e = refl
-got-then a (refused n p) e = true-false e refl
+got-then a (refused n p) e = absurd (not-both _ e refl)
 
 -- a refusal is no acceptance
 pub refused-not : {A : Type 0} {o : Outcome A} {n p : ℕ} → o ≡ refused n p → accepted o ≡ true → ⊥
 unfolding accepted
-refused-not e good = true-false (rw e at good) refl
+refused-not e good = not-both _ (rw e at good) refl
 
 module _ (file : List ℕ) (at i : ℕ) (before : Option Arc) (more : at < length file) (good : accepted (remaining file at i before) ≡ true) where
   -- an accepted file has no record 6,001, and no refused record

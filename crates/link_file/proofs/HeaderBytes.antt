@@ -10,10 +10,10 @@ use borrow.Author.Tests.{eq-eqb, ne-eqb}
 use lib.ListN.{length, drop, set, getD, length-append, length-set, drop-of-length-le}
 use lib.Seq.{drop-cons}
 use Rattle.table.specs.Table.{most-wanted}
-use Rattle.link_file.specs.Format.{bytes, has, field-bytes, counts-from, all-nodes, nodes-bytes, wanted-bytes, header-bits, header-bytes}
+use Rattle.link_format.specs.Format.{bytes, has, field-bytes, counts-from, all-nodes, nodes-bytes, wanted-bytes, header-bits, header-bytes}
+use Rattle.link_format.proofs.Numbers.{length-bytes}
 use Rattle.link_file.specs.Says.{Put, Header-sized}
 use Rattle.link_file.proofs.Columns.{Column, column-begins, column-piece}
-use Rattle.link_file.proofs.Numbers.{length-bytes}
 use Rattle.link_file.proofs.Pieces.{put-byte, put-then, room-first, room-rest}
 use Rattle.link_file.proofs.Sizes.{length-field}
 

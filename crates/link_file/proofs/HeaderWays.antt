@@ -9,12 +9,14 @@ use lib.Dec.{eqb, ltb}
 use lib.ListN.{length, drop, length-drop}
 use lib.Seq.{drop-drop}
 use borrow.Author.Tests.{lt-ltb, le-ltb, eq-eqb, ne-eqb}
+use Rattle.table.specs.Refusals.{count-bad}
 use Rattle.table.specs.Table.{most-nodes, most-wanted}
-use Rattle.link_file.specs.Format.{has, all-nodes, header-bits}
-use Rattle.link_file.specs.Reading.{_>>_, _>>=_, got, refused, after, give, here, refuse-if, field, optional, read-wanted, read-header}
+use Rattle.link_format.specs.Format.{has, all-nodes, header-bits}
+use Rattle.link_format.specs.Reading.{_>>_, _>>=_, got, refused, after, give, here, refuse-if, field, optional, read-wanted, read-header}
+use Rattle.link_format.proofs.AllNodes.{length-count-up, all-count-up}
 use Rattle.link_file.specs.Says.{Got, Ends, Nodes-got, Wanted-got, Header-got, wanted-in}
-use Rattle.link_file.proofs.Booleans.{true-false}
-use Rattle.link_file.proofs.Nodes.{nodes-read, nodes-cut, length-count-up, all-count-up, length-nodes-in}
+use Rattle.link_file.proofs.Nodes.{nodes-read, nodes-cut, length-nodes-in}
+use Rattle.table.proofs.Basics.{not-both}
 
 -- no list: all nodes
 pub wanted-absent : (file : List ℕ) (from n : ℕ) → from ≤ length file → n ≤ most-nodes → Wanted-got file from false n n from true
@@ -27,7 +29,7 @@ wanted-absent file from n fits few =
       few = few;
       near = omega arith;
       inside = fits;
-      room = λ (e : false ≡ true). true-false e refl;
+      room = λ (e : false ≡ true). absurd (not-both _ e refl);
     }
 
 module _ (file : List ℕ) (from n : ℕ) where
@@ -82,11 +84,11 @@ module _ (file : List ℕ) (bits : ℕ) (one : field 1 0 file ≡ got bits 1 (dr
     cut-n cut = rw (one, good, cut .is 0, zero-add (length file))
 
     module _ {b n f : ℕ} (nodes : Got (field 2) file 1 2 b n f) where
-      pub bad-n : (eqb n 0 || ltb most-nodes n) ≡ true → read-header 0 file ≡ refused 1 0
+      pub bad-n : count-bad n ≡ true → read-header 0 file ≡ refused 1 0
       unfolding read-header _>>=_ _>>_ after here refuse-if
       bad-n bad = rw (one, good, nodes .is 0, bad)
 
-      module _ (fine : (eqb n 0 || ltb most-nodes n) ≡ false) where
+      module _ (fine : count-bad n ≡ false) where
         pub cut-origin : Ends (optional (has 2 bits) 2 0) file f 2 → read-header 0 file ≡ refused 9 (length file)
         unfolding read-header _>>=_ _>>_ after here refuse-if
         cut-origin cut = rw (one, good, nodes .is 0, fine, cut .is 0, zero-add (length file))

@@ -1,5 +1,3 @@
-pub mod Booleans
-pub mod Numbers
 pub mod Parts
 pub mod BitMaps
 pub mod RecordWays
@@ -14,7 +12,4 @@ pub mod Sizes
 pub mod Pieces
 pub mod HeaderBytes
 pub mod WriteWays
-pub mod ReadThenWrite
-pub mod WriteThenRead
 pub mod EntryTrips
-pub mod Rows

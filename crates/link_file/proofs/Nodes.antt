@@ -10,14 +10,14 @@ use native.Mathlib.Omega.{arith}
 use lib.Dec.{eqb}
 use lib.ListN.{length, drop, set, length-drop}
 use lib.Seq.{drop-drop, sets}
-use borrow.Author.Tests.{le-leb, lt-leb, eq-eqb}
-use Rattle.link_file.specs.Format.{count-up, counts-from, all-nodes}
-use Rattle.link_file.specs.Reading.{_>>=_, got, refused, after, give, field, number, read-nodes}
+use borrow.Author.Tests.{le-leb, lt-leb}
+use Rattle.link_format.specs.Format.{count-up, counts-from}
+use Rattle.link_format.specs.Reading.{_>>=_, got, refused, after, give, field, number, read-nodes}
 use Rattle.link_file.specs.Says.{nodes-in, Nodes-got, Nodes-says}
+use Rattle.link_file.proofs.Columns.{Column, column-begins, column-next}
 use Rattle.link_file.specs.declared.header.NodesRead.{NodesRead}
 use Rattle.link_file.specs.declared.header.NodesRead.the-variants.{Read, Cut}
-use Rattle.link_file.proofs.Booleans.{and-assoc, and-true}
-use Rattle.link_file.proofs.Columns.{Column, column-begins, column-next}
+use Rattle.table.proofs.Basics.{and-assoc, and-true}
 
 -- the reader, where all nodes are there
 pub nodes-read : (k at : ℕ) (rest : List ℕ) → 2 * k ≤ length rest → read-nodes k at rest ≡ got (nodes-in k rest) (at + 2 * k) (drop (2 * k) rest)
@@ -138,21 +138,6 @@ module _ {n : ℕ} {wanted₀ wanted : List ℕ} {i : ℕ} (f : Filling-all n wa
   pub all-done : n ≤ i → wanted ≡ sets wanted₀ 0 (count-up 0 n)
   unfolding count-up
   all-done end = let none : n - i ≡ 0 = omega arith in rw none at (f .column .same)
-
--- the list of all nodes is all nodes
-pub length-count-up : (i k : ℕ) → length (count-up i k) ≡ k
-unfolding count-up
-length-count-up i zero = refl
-length-count-up i (suc k) = ap suc (length-count-up (suc i) k)
-
-counts-count-up : (i k : ℕ) → counts-from i (count-up i k) ≡ true
-unfolding count-up counts-from
-counts-count-up i zero = refl
-counts-count-up i (suc k) = rw (eq-eqb i i refl) (counts-count-up (suc i) k)
-
-pub all-count-up : (n : ℕ) → all-nodes n (count-up 0 n) ≡ true
-unfolding all-nodes
-all-count-up n = rw (eq-eqb (length (count-up 0 n)) n (length-count-up 0 n)) (counts-count-up 0 n)
 
 pub length-nodes-in : (k : ℕ) (bs : List ℕ) → length (nodes-in k bs) ≡ k
 unfolding nodes-in

@@ -9,25 +9,20 @@ use native.Mathlib.Omega.{arith}
 use lib.ListN.{length, drop, getD, length-drop}
 use lib.Seq.{drop-drop}
 use borrow.Author.Tests.{le-leb, lt-leb}
+use mir.Syntax.{Width}
+use mir.Val.{Fits, bits}
 use Rattle.table.specs.Table.{Below}
-use Rattle.link_file.specs.Reading.{Reader, got, refused, number, field, optional, give}
+use Rattle.link_format.specs.Reading.{Reader, got, refused, number, field, optional, give}
+use Rattle.link_format.proofs.Numbers.{number-more, number-small, below-drop, three-bytes}
 use Rattle.link_file.specs.Says.{Got, Ends, Field-says}
 use Rattle.link_file.specs.declared.fields.Field.{Field}
 use Rattle.link_file.specs.declared.fields.Field.the-variants.{Value, Cut}
-use Rattle.link_file.proofs.Numbers.{number-more, number-small, below-drop, three-bytes}
+use Rattle.link_format.proofs.Outcomes.{refused-got, got-next, got-value}
 
--- two outcomes that are equal
-pub got-value : {A : Type 0} {a b : A} {m n : ℕ} {xs ys : List ℕ} → got a m xs ≡ got b n ys → a ≡ b
-got-value e = cc
-
-pub got-next : {A : Type 0} {a b : A} {m n : ℕ} {xs ys : List ℕ} → got a m xs ≡ got b n ys → m ≡ n
-got-next e = cc
-
-pub got-rest : {A : Type 0} {a b : A} {m n : ℕ} {xs ys : List ℕ} → got a m xs ≡ got b n ys → xs ≡ ys
-got-rest e = cc
-
-pub refused-got : {A : Type 0} {a : A} {m n p : ℕ} {xs : List ℕ} → refused m p ≡ got a n xs → ⊥
-refused-got e = let z : _≡_ {A = ℕ} 0 1 = cc in omega arith
+-- a column of a type's values is below the type's bound
+pub column-below : (w : Width) (xs : List ℕ) → ((i : ℕ) → Fits w (getD xs i 0)) → Below (2 ^ bits w) xs
+unfolding Below
+column-below w xs h = λ (i : ℕ). h i .fits
 
 module _ (part : List ℕ) (from width : ℕ) (fits : from ≤ length part) where
   -- there is room for the field

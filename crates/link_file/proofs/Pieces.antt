@@ -8,7 +8,7 @@ use native.Mathlib.Omega.{arith}
 use lib.ListN.{length, set, length-append, length-set}
 use lib.Seq.{length-sets}
 use Rattle.table.specs.Table.{Arc}
-use Rattle.link_file.specs.Format.{has, field-bytes, fields-bytes, record-bits, record-bytes}
+use Rattle.link_format.specs.Format.{has, field-bytes, fields-bytes, record-bits, record-bytes}
 use Rattle.link_file.specs.Says.{Put}
 use Rattle.link_file.proofs.Columns.{sets-append}
 

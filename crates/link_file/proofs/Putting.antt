@@ -6,7 +6,7 @@ use native.Mathlib.Nat.{add-zero}
 use native.Mathlib.Omega.{arith}
 use lib.ListN.{set}
 use lib.Seq.{sets}
-use Rattle.link_file.specs.Format.{bytes}
+use Rattle.link_format.specs.Format.{bytes}
 use Rattle.link_file.proofs.Columns.{Column, column-begins, column-next}
 
 -- Where the loop stands: the bytes of what is left of the number are still to be stored.

@@ -9,8 +9,8 @@ use native.Mathlib.Omega.{arith}
 use lib.ListN.{length, drop}
 use borrow.Author.Tests.{lt-ltb, le-ltb, eq-eqb, ne-eqb}
 use Rattle.table.specs.Table.{Arc, arc}
-use Rattle.link_file.specs.Format.{has, record-bits}
-use Rattle.link_file.specs.Reading.{_>>_, _>>=_, got, refused, after, give, here, refuse-if, field, optional, implied, forbidden, read-record}
+use Rattle.link_format.specs.Format.{has, record-bits}
+use Rattle.link_format.specs.Reading.{_>>_, _>>=_, got, refused, after, give, here, refuse-if, field, optional, implied, forbidden, read-record}
 use Rattle.link_file.specs.Says.{Got, Ends, Record-got}
 
 module _ (before : Option Arc) (part : List ℕ) (at : ℕ) (bits : ℕ) (one : field 1 at part ≡ got bits (at + 1) (drop 1 part)) where

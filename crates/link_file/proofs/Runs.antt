@@ -1,18 +1,19 @@
 -- Running through the records of a file: what is left to read at an offset, before and after one record. Assumes nothing.
-use mathlib.Core.List.{List, [], _∷_}
+use mathlib.Core.List.{List, []}
 use mathlib.Core.Option.{Option, some}
 use mathlib.Core.Path.{_≡_, refl, _∙_}
-use Prim.Native.Nat.{ℕ, zero, suc, _+_, _-_, _*_, _≤_, _<_}
+use Prim.Native.Nat.{ℕ, suc, _+_, _-_, _*_, _≤_, _<_}
 use native.Mathlib.Nat.{le-of-eq}
 use native.Mathlib.Omega.{arith}
 use lib.ListN.{length, take, drop, length-drop, drop-of-length-le}
 use lib.Seq.{take-all, drop-drop}
 use Rattle.table.specs.Table.{Arc, most-arcs}
-use Rattle.link_file.specs.Reading.{_>>=_, Outcome, got, refused, after, give, read-record, read-records}
+use Rattle.link_format.specs.Reading.{Outcome, got, refused, after, give, read-record, read-records}
 use Rattle.link_file.specs.Says.{Record-got, Record-says, arc-of, tally}
 use Rattle.link_file.specs.declared.arcs.Arc as Code
 use Rattle.link_file.specs.declared.records.RecordRead.{RecordRead}
 use Rattle.link_file.specs.declared.records.RecordRead.the-variants.{Record, Refused}
+use Rattle.link_format.proofs.Records.{then, records-more, records-full, records-none}
 
 -- the part of a file from an offset on
 pub part-is : (file : List ℕ) (at : ℕ) → take (length file - at) (drop at file) ≡ drop at file
@@ -21,27 +22,6 @@ part-is file at = take-all (length file - at) (drop at file) (le-of-eq (length-d
 -- what is left to read at an offset, after so many records
 abbrev pub remaining : (file : List ℕ) → (at count : ℕ) → (before : Option Arc) → Outcome (List Arc)
 remaining file at count before = read-records (most-arcs - count) before at (drop at file)
-
--- one arc in front of the rest
-abbrev pub then : Arc → Outcome (List Arc) → Outcome (List Arc)
-then a rest = after rest (λ (more : List Arc). give (a ∷ more))
-
-pub records-none : (k : ℕ) (before : Option Arc) (at : ℕ) → read-records k before at [] ≡ got [] at []
-unfolding read-records
-records-none zero before at = refl
-records-none (suc k) before at = refl
-
-records-full : (before : Option Arc) (at : ℕ) (rest : List ℕ) → 0 < length rest → read-records 0 before at rest ≡ refused 2 most-arcs
-unfolding read-records
-records-full before at [] h = absurd (omega arith)
-records-full before at (b ∷ rest) h = refl
-
-pub records-more : (k : ℕ) (before : Option Arc) (at : ℕ) (rest : List ℕ) → 0 < length rest
-    → read-records (suc k) before at rest
-    ≡ after (read-record before at rest) (λ (a : Arc) (next : ℕ) (tl : List ℕ). then a (read-records k (some a) next tl))
-unfolding read-records _>>=_
-records-more k before at [] h = absurd (omega arith)
-records-more k before at (b ∷ rest) h = refl
 
 module _ (file : List ℕ) (at count : ℕ) (before : Option Arc) where
   pub run-none : length file ≤ at → remaining file at count before ≡ got [] at []

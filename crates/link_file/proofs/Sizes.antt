@@ -9,10 +9,11 @@ use native.Mathlib.Omega.{arith}
 use lib.ListN.{length, drop, getD, length-append, drop-of-length-le}
 use lib.Seq.{sets, drop-cons}
 use Rattle.table.specs.Table.{Arc, arc, arcs-of}
-use Rattle.link_file.specs.Format.{has, field-bytes, fields-bytes, record-bits, record-bytes, records-bytes}
-use Rattle.link_file.specs.Says.{Put, Record-sized, Equal-columns}
+use Rattle.link_format.specs.Buffers.{Equal-columns}
+use Rattle.link_format.specs.Format.{has, field-bytes, fields-bytes, record-bits, record-bytes, records-bytes}
+use Rattle.link_format.proofs.Numbers.{length-bytes}
+use Rattle.link_file.specs.Says.{Put, Record-sized}
 use Rattle.link_file.proofs.Columns.{Column, column-begins, column-piece}
-use Rattle.link_file.proofs.Numbers.{length-bytes}
 
 pub length-field : (stands : Bool) (width value : ℕ) → length (field-bytes stands width value) ≡ cond stands width 0
 unfolding field-bytes

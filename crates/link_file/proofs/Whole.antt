@@ -1,44 +1,25 @@
 -- From the header and the records to the whole file, and from the filled buffers to what the reader's entry says. Assumes nothing.
-use mathlib.Core.Bool.{true, false, _||_}
-use mathlib.Core.List.{List, [], _∷_}
-use mathlib.Core.Option.{Option, none, some}
+use mathlib.Core.Bool.{true}
+use mathlib.Core.List.{List, []}
+use mathlib.Core.Option.{none}
 use mathlib.Core.Path.{_≡_, refl, ap, _∙_}
-use Prim.Native.Nat.{ℕ, zero, suc, _+_, _≤_}
+use Prim.Native.Nat.{ℕ, _+_, _≤_}
 use native.Mathlib.Nat.{zero-add}
 use native.Mathlib.Omega.{arith}
-use borrow.Author.Tests.{ltb-false}
-use lib.Dec.{ltb}
 use lib.ListN.{length, drop, length-map}
 use lib.Seq.{sets, sets-eq}
 use Rattle.table.specs.Refusals.{refusal, no-refusal}
-use Rattle.table.specs.Table.{Arc, most-arcs, most-wanted}
-use Rattle.link_file.specs.Format.{content, tails-of, heads-of, lengths-of}
-use Rattle.link_file.specs.Reading.{_>>=_, Outcome, got, refused, accepted, list-got, after, give, read-header, read-record, read-records, read-content, read-file}
+use Rattle.table.specs.Table.{Arc, most-arcs}
+use Rattle.link_format.specs.Buffers.{over, reading, refusal-of, content-of}
+use Rattle.link_format.specs.Format.{content, tails-of, heads-of, lengths-of}
+use Rattle.link_format.specs.Reading.{_>>=_, Outcome, got, refused, accepted, list-got, after, give, read-header, read-content, read-file}
+use Rattle.link_format.proofs.Counts.{Roomy}
+use Rattle.link_file.specs.Entries.{read-answer, Read-says}
 use Rattle.link_file.specs.Says.{Header-got, Filled, wanted-in, tally, records-from}
-use Rattle.link_file.specs.Entries.{over, too-short, reading, refusal-of, content-of, read-answer, Read-says}
 use Rattle.link_file.specs.declared.TableRead.{TableRead}
 use Rattle.link_file.specs.declared.header.Header.{Header}
 use Rattle.link_file.specs.declared.records.Counted.the-variants.{Arcs, Refused}
-use Rattle.link_file.proofs.Booleans.{or-false-first, or-false-second}
-
--- the buffers that are long enough
-pub record Roomy (tails heads lengths wanted : ℕ) : Type 0 where
-  pub tails-room : most-arcs ≤ tails
-  pub heads-room : most-arcs ≤ heads
-  pub lengths-room : most-arcs ≤ lengths
-  pub wanted-room : most-wanted ≤ wanted
-
-pub roomy : (t h l w : ℕ) → too-short t h l w ≡ false → Roomy t h l w
-unfolding too-short
-roomy t h l w e =
-    let a : (ltb t most-arcs || ltb h most-arcs) ≡ false = or-false-first (ltb t most-arcs || ltb h most-arcs) (ltb l most-arcs || ltb w most-wanted) e in
-    let b : (ltb l most-arcs || ltb w most-wanted) ≡ false = or-false-second (ltb t most-arcs || ltb h most-arcs) (ltb l most-arcs || ltb w most-wanted) e in
-    record {
-      tails-room = ltb-false t most-arcs (or-false-first (ltb t most-arcs) (ltb h most-arcs) a);
-      heads-room = ltb-false h most-arcs (or-false-second (ltb t most-arcs) (ltb h most-arcs) a);
-      lengths-room = ltb-false l most-arcs (or-false-first (ltb l most-arcs) (ltb w most-wanted) b);
-      wanted-room = ltb-false w most-wanted (or-false-second (ltb l most-arcs) (ltb w most-wanted) b);
-    }
+use Rattle.link_format.proofs.Records.{few-records}
 
 -- a list stored from the start
 pub sets-over : (xs buffer : List ℕ) → length xs ≤ length buffer → sets buffer 0 xs ≡ over xs buffer
@@ -60,25 +41,6 @@ tally-length : (o : Outcome (List Arc)) {k : ℕ} → tally 0 o ≡ Arcs k → l
 unfolding tally list-got
 tally-length (got arcs at rest) {k} e = let c : 0 + length arcs ≡ k = cc in omega arith
 tally-length (refused n p) e = let z : _≡_ {A = ℕ} 0 1 = cc in absurd (omega arith)
-
--- no more records than are allowed
-one-then : (k : ℕ) (a : Arc) (o : Outcome (List Arc)) → length (list-got o) ≤ k → length (list-got (after o (λ (more : List Arc). give (a ∷ more)))) ≤ suc k
-unfolding list-got after give
-one-then k a (got more next tl) h = omega arith
-one-then k a (refused n p) h = omega arith
-
-one-more : (k : ℕ) → ((a : Arc) (at : ℕ) (rest : List ℕ) → length (list-got (read-records k (some a) at rest)) ≤ k) → (o : Outcome Arc)
-    → length (list-got (after o (λ (a : Arc). _>>=_ (read-records k (some a)) (λ (more : List Arc). give (a ∷ more))))) ≤ suc k
-unfolding list-got after _>>=_
-one-more k few (got a next tl) = one-then k a (read-records k (some a) next tl) (few a next tl)
-one-more k few (refused n p) = omega arith
-
-pub few-records : (k : ℕ) (before : Option Arc) (at : ℕ) (rest : List ℕ) → length (list-got (read-records k before at rest)) ≤ k
-unfolding read-records list-got
-few-records zero before at [] = omega arith
-few-records zero before at (b ∷ rest) = omega arith
-few-records (suc k) before at [] = omega arith
-few-records (suc k) before at (b ∷ rest) = one-more k (λ (a : Arc). few-records k (some a)) (read-record before at (b ∷ rest))
 
 -- a refusal of the header, or of a record, is the file's
 pub header-refuses : (file : List ℕ) {n p : ℕ} → read-header 0 file ≡ refused n p → read-file file ≡ refused n p
@@ -139,14 +101,3 @@ pub none-read : (file : List ℕ) {tails heads lengths wanted : List ℕ} {n p :
     → r ≡ read-answer (refusal n p) (content 0 0 [] []) → Read-says file tails heads lengths wanted tails heads lengths wanted r
 unfolding refusal-of content-of content tails-of heads-of lengths-of over
 none-read file e answer = record { answer = answer ∙ rw e; tails-are = rw e; heads-are = rw e; lengths-are = rw e; wanted-are = rw e }
-
--- the buffers come first
-pub reading-short : (file tails heads lengths wanted : List ℕ) → too-short (length tails) (length heads) (length lengths) (length wanted) ≡ true
-    → reading file tails heads lengths wanted ≡ refused 3 0
-unfolding reading
-reading-short file tails heads lengths wanted e = rw e
-
-pub reading-roomy : (file tails heads lengths wanted : List ℕ) → too-short (length tails) (length heads) (length lengths) (length wanted) ≡ false
-    → reading file tails heads lengths wanted ≡ read-file file
-unfolding reading
-reading-roomy file tails heads lengths wanted e = rw e

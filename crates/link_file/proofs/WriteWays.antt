@@ -1,34 +1,22 @@
 -- The ways out of writing a file, one law for each `return` of the writer's entry, in the code's order. Assumes nothing.
-use mathlib.Core.Bool.{true, false, not, _&&_, _||_}
+use mathlib.Core.Bool.{true, false}
 use mathlib.Core.List.{List, _++_}
 use mathlib.Core.Option.{none}
 use mathlib.Core.Path.{_≡_, refl, _∙_}
 use Prim.Native.Nat.{ℕ, _+_, _≤_, _<_}
-use borrow.Author.Tests.{lt-ltb, le-ltb, ltb-false, eqb-true, not-false}
-use lib.Dec.{eqb, ltb}
+use borrow.Author.Tests.{lt-ltb, le-ltb}
+use lib.Dec.{eqb}
 use lib.ListN.{length, length-append}
 use lib.Seq.{sets}
-use Rattle.table.specs.Refusals.{refusal, no-refusal, columns-bad}
-use Rattle.table.specs.Table.{arcs-of, most-nodes, most-arcs, most-wanted}
-use Rattle.link_file.specs.Format.{content, header-bytes, records-bytes, file-bytes}
-use Rattle.link_file.specs.Says.{Put, Equal-columns}
-use Rattle.link_file.specs.Entries.{over, file-of, writing, put-bytes, write-answer, Write-says}
-use Rattle.link_file.specs.declared.Written.{Written}
-use Rattle.link_file.proofs.Booleans.{or-false-first, or-false-second, and-true-first, and-true-second}
+use Rattle.table.specs.Refusals.{refusal, no-refusal, count-bad, columns-bad}
+use Rattle.table.specs.Table.{arcs-of, most-wanted}
+use Rattle.link_format.specs.Buffers.{over, file-of, writing, put-bytes}
+use Rattle.link_format.specs.Format.{content, header-bytes, records-bytes, file-bytes}
+use Rattle.link_file.specs.Entries.{write-answer, Write-says}
+use Rattle.link_file.specs.Says.{Put}
 use Rattle.link_file.proofs.Pieces.{put-then}
 use Rattle.link_file.proofs.Whole.{sets-over}
-
--- columns that ground 2 does not refuse
-pub equal-columns : (ts hs ls : List ℕ) → columns-bad (length ts) (length hs) (length ls) ≡ false → Equal-columns ts hs ls
-unfolding columns-bad
-equal-columns ts hs ls e =
-    let same : (eqb (length ts) (length hs) && eqb (length hs) (length ls)) ≡ true =
-    not-false _ (or-false-first (not (eqb (length ts) (length hs) && eqb (length hs) (length ls))) (ltb most-arcs (length ts)) e) in
-    record {
-      heads-are = eqb-true (length ts) (length hs) (and-true-first (eqb (length ts) (length hs)) (eqb (length hs) (length ls)) same);
-      lengths-are = eqb-true (length hs) (length ls) (and-true-second (eqb (length ts) (length hs)) (eqb (length hs) (length ls)) same);
-      few = ltb-false most-arcs (length ts) (or-false-second (not (eqb (length ts) (length hs) && eqb (length hs) (length ls))) (ltb most-arcs (length ts)) e);
-    }
+use Rattle.link_file.specs.declared.Written.{Written}
 
 module _ (n o : ℕ) (ts hs ls ws out : List ℕ) where
   pub file-size : length (file-of n o ts hs ls ws) ≡ length (header-bytes n o ws) + length (records-bytes none (arcs-of ts hs ls))
@@ -40,11 +28,11 @@ module _ (n o : ℕ) (ts hs ls ws out : List ℕ) where
   unfolding put-bytes over refusal
   none-written k p some e answer = record { answer = answer ∙ rw (e, some); output-is = rw (e, some) }
 
-  pub refuses-count : (eqb n 0 || ltb most-nodes n) ≡ true → writing n o ts hs ls ws (length out) ≡ refusal 1 0
+  pub refuses-count : count-bad n ≡ true → writing n o ts hs ls ws (length out) ≡ refusal 1 0
   unfolding writing
   refuses-count bad = rw bad
 
-  module _ (fine : (eqb n 0 || ltb most-nodes n) ≡ false) where
+  module _ (fine : count-bad n ≡ false) where
     pub refuses-columns : columns-bad (length ts) (length hs) (length ls) ≡ true → writing n o ts hs ls ws (length out) ≡ refusal 2 0
     unfolding writing
     refuses-columns bad = rw (fine, bad)

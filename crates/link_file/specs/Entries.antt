@@ -1,41 +1,15 @@
--- What the two entries answer and leave in the lent buffers, for every input. Assumes nothing: these are definitions.
---
--- The reader reads the file as Reading.antt says, after ground 3: a lent buffer is too short. Its answer and the four buffers are those of the
--- content that was read; where the file is refused that content is empty, so that every value is 0 and every buffer is as it was. The writer
--- likewise puts the bytes that Format.antt says, or none.
-use mathlib.Core.Bool.{Bool, cond, _||_}
-use mathlib.Core.List.{List, [], _++_}
+-- What the two entries answer and leave in the lent buffers, for every input: what crate `link_format` says of reading and writing, in the entries'
+-- own answers. Assumes nothing: these are definitions.
+use mathlib.Core.List.{List}
 use mathlib.Core.Path.{_≡_}
 use Prim.Native.Nat.{ℕ}
-use lib.Dec.{eqb, ltb}
-use lib.ListN.{length, drop}
+use lib.ListN.{length}
 use Rattle.table.specs.declared.Refusal.{Refusal}
-use Rattle.table.specs.Refusals.{refusal, no-refusal, columns-bad}
-use Rattle.table.specs.Table.{arcs-of, most-nodes, most-arcs, most-wanted}
-use Rattle.link_file.specs.Format.{Content, content, tails-of, heads-of, lengths-of, file-bytes}
-use Rattle.link_file.specs.Reading.{Outcome, got, refused, read-file}
+use Rattle.link_format.specs.Buffers.{over, reading, refusal-of, content-of, file-of, writing, put-bytes}
+use Rattle.link_format.specs.Format.{Content, tails-of, heads-of, lengths-of}
+use Rattle.link_format.specs.Reading.{Outcome}
 use Rattle.link_file.specs.declared.TableRead.{TableRead}
 use Rattle.link_file.specs.declared.Written.{Written}
-
--- a buffer with a list at its start and the rest as it was
-unfoldable pub over : (list buffer : List ℕ) → List ℕ
-over xs buffer = xs ++ drop (length xs) buffer
-
--- 3: a reader's buffer too short
-unfoldable pub too-short : (tails heads lengths wanted : ℕ) → Bool
-too-short t h l w = (ltb t most-arcs || ltb h most-arcs) || (ltb l most-arcs || ltb w most-wanted)
-
-unfoldable pub reading : (file tails heads lengths wanted : List ℕ) → Outcome Content
-reading file ts hs ls ws = cond (too-short (length ts) (length hs) (length ls) (length ws)) (refused 3 0) (read-file file)
-
--- the refusal, and the content that was read: none in a refusal
-unfoldable pub refusal-of : {A : Type 0} → Outcome A → Refusal
-refusal-of (got a at rest) = no-refusal
-refusal-of (refused n p) = refusal n p
-
-unfoldable pub content-of : Outcome Content → Content
-content-of (got t at rest) = t
-content-of (refused n p) = content 0 0 [] []
 
 -- the reader's answer
 unfoldable pub read-answer : Refusal → Content → TableRead
@@ -53,22 +27,6 @@ pub record Left-by-reading (o : Outcome Content) (tails heads lengths wanted tai
 -- what the reader does
 abbrev pub Read-says : (file tails heads lengths wanted tails′ heads′ lengths′ wanted′ : List ℕ) → TableRead → Type 0
 Read-says file ts hs ls ws ts′ hs′ ls′ ws′ r = Left-by-reading (reading file ts hs ls ws) ts hs ls ws ts′ hs′ ls′ ws′ r
-
--- the file that the writer makes of its arguments
-unfoldable pub file-of : (n origin : ℕ) → (tails heads lengths wanted : List ℕ) → List ℕ
-file-of n o ts hs ls ws = file-bytes (content n o ws (arcs-of ts hs ls))
-
--- the writer's grounds, in order: 1, 2, 5 (the count only), then 13
-unfoldable pub writing : (n origin : ℕ) → (tails heads lengths wanted : List ℕ) → (room : ℕ) → Refusal
-writing n o ts hs ls ws room =
-    cond (eqb n 0 || ltb most-nodes n) (refusal 1 0)
-    (cond (columns-bad (length ts) (length hs) (length ls)) (refusal 2 0)
-    (cond (ltb most-wanted (length ws)) (refusal 5 most-wanted)
-    (cond (ltb room (length (file-of n o ts hs ls ws))) (refusal 13 0) no-refusal)))
-
--- the bytes that are put: none in a refusal
-unfoldable pub put-bytes : Refusal → (file : List ℕ) → List ℕ
-put-bytes f file = cond (eqb (f .number) 0) file []
 
 -- the writer's answer
 unfoldable pub write-answer : Refusal → (size : ℕ) → Written

@@ -7,8 +7,8 @@ use mathlib.Core.Path.{_≡_}
 use Prim.Native.Nat.{ℕ, zero, suc, _+_, _-_, _*_, _≤_, _<_}
 use lib.ListN.{length, drop}
 use lib.Seq.{sets}
-use Rattle.link_file.specs.Format.{tails-of, heads-of, lengths-of, content, count-up, counts-from, all-nodes, header-bits, header-bytes, fields-bytes}
-use Rattle.link_file.specs.Reading.{Outcome, Reader, got, refused, accepted, number, read-wanted, read-header, read-record, read-records}
+use Rattle.link_format.specs.Format.{tails-of, heads-of, lengths-of, content, count-up, counts-from, all-nodes, header-bits, header-bytes, fields-bytes}
+use Rattle.link_format.specs.Reading.{Outcome, Reader, got, refused, accepted, number, read-wanted, read-header, read-record, read-records}
 use Rattle.table.specs.Table.{Arc, arc, most-arcs, most-nodes, most-wanted}
 use Rattle.link_file.specs.declared.arcs.Arc as Arcs
 use Rattle.link_file.specs.declared.arcs.Previous.{Previous}
@@ -153,12 +153,6 @@ pub record Put (output : List ℕ) (at : ℕ) (piece : List ℕ) (next : ℕ) (o
 pub record Record-sized (bits size : ℕ) : Type 0 where
   pub is : (a : Arc) → size ≡ suc (length (fields-bytes bits a))
   pub near : size ≤ 9
-
--- three columns of equal length, with not too many arcs
-pub record Equal-columns (tails heads lengths : List ℕ) : Type 0 where
-  pub heads-are : length tails ≡ length heads
-  pub lengths-are : length heads ≡ length lengths
-  pub few : length tails ≤ most-arcs
 
 -- the size of a header with a bit map and so many wanted nodes
 pub record Header-sized (bits wanted size : ℕ) : Type 0 where

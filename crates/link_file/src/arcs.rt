@@ -2,8 +2,8 @@
 ghost use mathlib.Core.Path.{_≡_};
 ghost use mathlib.Core.Bool.{cond};
 ghost use Prim.Native.Nat.{_<_, _≤_};
-ghost use Rattle.link_file.specs.Format.{bit-map, has, record-bits};
-ghost use Rattle.link_file.specs.Reading.{implied, forbidden};
+ghost use Rattle.link_format.specs.Format.{bit-map, has, record-bits};
+ghost use Rattle.link_format.specs.Reading.{implied, forbidden};
 ghost use Rattle.link_file.specs.Says.{arc-of, arc-before, arc-implied, first};
 
 // The weights of a record's bits.

@@ -2,8 +2,8 @@
 ghost use mathlib.Core.Path.{_≡_};
 ghost use Prim.Native.Nat.{ℕ, _+_, _≤_, _<_, _^_};
 ghost use lib.ListN.{length};
-ghost use Rattle.link_file.specs.Format.{bytes, field-bytes};
-ghost use Rattle.link_file.specs.Reading.{field, optional};
+ghost use Rattle.link_format.specs.Format.{bytes, field-bytes};
+ghost use Rattle.link_format.specs.Reading.{field, optional};
 ghost use Rattle.link_file.specs.Says.{Field-says, Put};
 
 // The bytes of a node's number, and of a length.

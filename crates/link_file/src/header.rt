@@ -9,11 +9,11 @@ use crate::grounds;
 ghost use mathlib.Core.Bool.{_&&_, _||_, not};
 ghost use mathlib.Core.Path.{_≡_};
 ghost use Prim.Native.Nat.{_+_, _*_, _≤_, _<_};
-ghost use lib.Dec.{eqb, ltb};
+ghost use lib.Dec.{ltb};
 ghost use lib.ListN.{length, drop};
 ghost use lib.Seq.{sets};
 ghost use Rattle.table.specs.Table.{most-nodes, most-wanted};
-ghost use Rattle.link_file.specs.Format.{has, count-up};
+ghost use Rattle.link_format.specs.Format.{has, count-up};
 ghost use Rattle.link_file.specs.Says.{nodes-in, wanted-in, Nodes-says, Wanted-says, Header-got, Header-says};
 
 // The most wanted nodes.
@@ -108,16 +108,6 @@ fn forbidden(bits: u8) -> bool
     }
 }
 
-// 1: no nodes, or too many.
-pub fn bad_count(n: u32) -> bool
-    ensures { λ r. ⌜ r ≡ (eqb n 0 || ltb most-nodes n) ⌝ }
-{
-    if n == 0 {
-        return true;
-    }
-    table::MOST_NODES < n
-}
-
 // The header at the start of a file.
 pub fn read_header(file: &[u8]) -> HeaderRead
     ensures { λ r. ⌜ Header-says r (now (file .entry)) ⌝ }
@@ -132,7 +122,7 @@ pub fn read_header(file: &[u8]) -> HeaderRead
     let Field::Value(n, from) = read_field(file, 1, NODE) else {
         return HeaderRead::Refused(grounds::CUT, place(file.len()));
     };
-    if bad_count(n) {
+    if table::bad_count(n as usize) {
         return HeaderRead::Refused(grounds::NODES, 0);
     }
     let has_origin = arcs::stands(ORIGIN, bits);

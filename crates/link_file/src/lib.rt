@@ -9,14 +9,12 @@ mod writer;
 
 use header::HeaderRead;
 use records::Counted;
-ghost use mathlib.Core.Bool.{not, _&&_, _||_};
 ghost use mathlib.Core.List.{[]};
 ghost use mathlib.Core.Path.{_≡_};
-ghost use lib.Dec.{eqb, ltb};
 ghost use Rattle.table.specs.Refusals.{refusal};
-ghost use Rattle.table.specs.Table.{most-arcs};
-ghost use Rattle.link_file.specs.Format.{content};
-ghost use Rattle.link_file.specs.Entries.{too-short, read-answer, Read-says, write-answer, Write-says};
+ghost use Rattle.link_format.specs.Buffers.{too-short};
+ghost use Rattle.link_format.specs.Format.{content};
+ghost use Rattle.link_file.specs.Entries.{read-answer, Read-says, write-answer, Write-says};
 
 // What reading a link file answers: the refusal's number and place, both 0 where there is none, and the node count, the origin and how many
 // arcs and wanted nodes there are, all 0 in a refusal.
@@ -116,19 +114,6 @@ fn not_written(number: u32, place: u32) -> Written
     }
 }
 
-// 2: columns of unequal length, or too many arcs.
-fn bad_columns(tails: usize, heads: usize, lengths: usize) -> bool
-    ensures { λ r. ⌜ r ≡ (not (eqb tails heads && eqb heads lengths) || ltb most-arcs tails) ⌝ }
-{
-    if tails != heads {
-        return true;
-    }
-    if heads != lengths {
-        return true;
-    }
-    table::MOST_ARCS < tails
-}
-
 // Writes a table as a link file at the start of the output and gives the file's length. A refusal leaves the output as it was. The elements of
 // the columns are not tested: what a planner would refuse is written, and read back, as it is.
 pub fn write_link_file(
@@ -142,10 +127,10 @@ pub fn write_link_file(
 ) -> Written
     ensures { λ r. ⌜ Write-says n origin (now (tails .entry)) (now (heads .entry)) (now (lengths .entry)) (now (wanted .entry)) (now (output .entry)) (now (output .exit)) r ⌝ }
 {
-    if header::bad_count(n) {
+    if table::bad_count(n as usize) {
         return not_written(grounds::NODES, 0);
     }
-    if bad_columns(tails.len(), heads.len(), lengths.len()) {
+    if table::bad_columns(tails.len(), heads.len(), lengths.len()) {
         return not_written(grounds::ARCS, 0);
     }
     if MOST_WANTED < wanted.len() {

@@ -11,7 +11,7 @@ use crate::grounds;
 ghost use mathlib.Core.Path.{_≡_};
 ghost use Prim.Native.Nat.{_≤_, _<_};
 ghost use lib.ListN.{length};
-ghost use Rattle.link_file.specs.Reading.{list-got};
+ghost use Rattle.link_format.specs.Reading.{list-got};
 ghost use Rattle.link_file.specs.Says.{arc-before, Record-says, tally, records-from, Fillable, Filled};
 
 // A record's answer: its arc with the next offset, or the refusal's number and place.

@@ -8,7 +8,7 @@ use native.Mathlib.Omega.{arith}
 use lib.ListN.{length, drop}
 use borrow.Author.Tests.{eq-eqb, ne-eqb, lt-ltb, le-ltb}
 use Rattle.table.proofs.Basics.{option-or}
-use Rattle.paths.specs.Listing.{Tree, node-count, path, nodes-of, Listing, refused, listed, ground-of, into, listing, Lists}
+use Rattle.paths.specs.Listing.{Tree, node-count, path, nodes-of, Listing, refused, listed, early-of, into, listing, Lists}
 use Rattle.paths.specs.declared.Listed.{Listed}
 use Rattle.paths.proofs.Writing.{path-size, is-some}
 
@@ -31,14 +31,14 @@ unfolding into
 fitting room vs h = rw (le-ltb room (length vs) h)
 
 module _ (o v : ℕ) (k : Tree) (room : ℕ) where
-  pub turned-down : (ground-of o v k ≡ 0 → ⊥) → listing o v k room ≡ refused (ground-of o v k)
+  pub refused-early : (early-of o v k ≡ 0 → ⊥) → listing o v k room ≡ refused (early-of o v k)
   unfolding listing
-  turned-down e = rw (ne-eqb (ground-of o v k) 0 e)
+  refused-early e = rw (ne-eqb (early-of o v k) 0 e)
 
-  module _ (early : ground-of o v k ≡ 0) where
+  module _ (early : early-of o v k ≡ 0) where
     follows : listing o v k room ≡ into room (path o v k)
     unfolding listing
-    follows = rw (eq-eqb (ground-of o v k) 0 early)
+    follows = rw (eq-eqb (early-of o v k) 0 early)
 
     pub without-path : length (nodes-of (path o v k)) ≡ 0 → listing o v k room ≡ refused 14
     unfolding into nodes-of path

@@ -1,10 +1,11 @@
 -- The rows of specs/Examples.antt hold by computing them. Assumes nothing.
 use mathlib.Core.Path.{refl}
-use Rattle.paths.specs.Examples.{Examples, on-T, planned, cut, cycle}
-use Rattle.paths.specs.Listing.{listing, ground-of, early-ground, count-bad, ends-bad, into, refused, listed, path, back-to, leads-back, node-before, entry}
+use Rattle.paths.specs.Examples.{Examples, on-T, tree-of-T, cut, cycle}
+use Rattle.table.specs.Refusals.{count-bad, columns-bad}
+use Rattle.paths.specs.Listing.{listing, early-of, early-number, into, refused, listed, path, back-to, leads-back, node-before, entry}
 
 pub examples : Examples
-unfolding listing ground-of early-ground count-bad ends-bad into refused listed path back-to leads-back node-before entry on-T planned cut cycle
+unfolding listing early-of early-number count-bad columns-bad into refused listed path back-to leads-back node-before entry on-T tree-of-T cut cycle
 examples =
     record {
       path-of-3 = refl;

@@ -5,13 +5,12 @@ use mathlib.Core.List.{List, [], _∷_}
 use Prim.Native.Nat.{ℕ, zero, suc, _<_}
 use native.Mathlib.Omega.{arith}
 use lib.ListN.{length, getD}
-use borrow.Author.Tests.{le-ltb}
 use Rattle.table.specs.Table.{Table, Arc, arc, table, table-of, arcs-of, is-table, arc-count, arc-at, tail-at, head-at, is-walk, no-arc, most-nodes, most-arcs}
 use Rattle.auction.specs.HandOver.{returned}
 use Rattle.auction.proofs.Good.{good}
-use Rattle.paths.specs.Listing.{Tree, tree-in, path, nodes-of, ground-of, listed}
+use Rattle.paths.specs.Listing.{Tree, tree-in, path, nodes-of, early-of, listed}
 use Rattle.paths.specs.Promises.{nodes-of-walk, Gives}
-use Rattle.paths.proofs.Early.{count-fine, ends-fine, no-ground}
+use Rattle.paths.proofs.Early.{count-fine, columns-fine, unrefused}
 use Rattle.paths.proofs.Answers.{at-most-n, without-room, fits}
 use Rattle.paths.proofs.Returned.{Columns, path-is-walk}
 
@@ -52,7 +51,7 @@ module _ (n o : ℕ) (ts hs ls column : List ℕ) (e : length ts ≡ length hs) 
 
     pub walk-listed : is-table t ws ≡ true → v < n → is-walk t (returned t column v) v ≡ true → length (returned t column v) < n →
         Gives o v k (nodes-of-walk t (returned t column v))
-    unfolding table-of table nodes-of-walk nodes-of ground-of
+    unfolding table-of table nodes-of-walk nodes-of early-of
     walk-listed table-good low walk few =
         let g = good t ws table-good in
         let p = path-is-walk t k columns (g .tail-in) v walk few in
@@ -60,9 +59,9 @@ module _ (n o : ℕ) (ts hs ls column : List ℕ) (e : length ts ≡ length hs) 
         let same : nodes-of (path o v k) ≡ nodes = ap nodes-of p in
         let some-node : 0 < length (nodes-of (path o v k)) = omega (arith, ap length same) in
         let fine =
-        no-ground (length column) (length ts) (length hs) o v
-        (count-fine (length column) (λ z. omega (arith, long)) (le-ltb most-nodes (length column) (omega (arith, long, g .few-nodes))))
-        (ends-fine (length ts) (length hs) e (le-ltb most-arcs (length ts) (omega (arith, columns .arcs, g .few-arcs))))
+        unrefused (length column) (length ts) (length hs) o v
+        (count-fine (length column) (λ z. omega (arith, long)) (omega (arith, long, g .few-nodes)))
+        (columns-fine (length ts) (length hs) e (omega (arith, columns .arcs, g .few-arcs)))
         (omega (arith, long, g .origin-in)) (omega (arith, long)) in
         record {
           within = omega (arith, at-most-n o v k, ap length same);

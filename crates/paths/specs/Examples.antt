@@ -1,4 +1,4 @@
--- Listings on document 01's table T, whose origin is 0: the path that its program prints, and an example of each ground. The proof, `examples`, stands
+-- Listings on document 01's table T, whose origin is 0: the path that its program prints, and an example of each refusal. The proof, `examples`, stands
 -- in proofs/Examples.antt. Assumes nothing.
 use mathlib.Core.Path.{_≡_}
 use mathlib.Core.List.{List, [], _∷_}
@@ -11,8 +11,8 @@ unfoldable pub on-T : (column : List ℕ) → Tree
 on-T c = tree-in (0 ∷ 0 ∷ 1 ∷ 2 ∷ 1 ∷ []) (1 ∷ 2 ∷ 2 ∷ 3 ∷ 3 ∷ []) c
 
 -- the tree column of T's plan, and one without an entry for node 1
-unfoldable pub planned : Tree
-planned = on-T (no-arc ∷ 0 ∷ 1 ∷ 3 ∷ [])
+unfoldable pub tree-of-T : Tree
+tree-of-T = on-T (no-arc ∷ 0 ∷ 1 ∷ 3 ∷ [])
 
 unfoldable pub cut : Tree
 cut = on-T (no-arc ∷ no-arc ∷ 1 ∷ 3 ∷ [])
@@ -22,11 +22,11 @@ unfoldable pub cycle : Tree
 cycle = tree-in (2 ∷ 1 ∷ []) (1 ∷ 2 ∷ []) (no-arc ∷ 0 ∷ 1 ∷ [])
 
 pub record Examples : Type 0 where
-  pub path-of-3 : listing 0 3 planned 4 ≡ listed (0 ∷ 2 ∷ 3 ∷ [])
-  pub exact-room : listing 0 3 planned 3 ≡ listed (0 ∷ 2 ∷ 3 ∷ [])
-  pub buffer-2 : listing 0 3 planned 2 ≡ refused 13
+  pub path-of-3 : listing 0 3 tree-of-T 4 ≡ listed (0 ∷ 2 ∷ 3 ∷ [])
+  pub exact-room : listing 0 3 tree-of-T 3 ≡ listed (0 ∷ 2 ∷ 3 ∷ [])
+  pub buffer-2 : listing 0 3 tree-of-T 2 ≡ refused 13
   pub all-nodes : listing 0 1 (tree-in (0 ∷ []) (1 ∷ []) (no-arc ∷ 0 ∷ [])) 2 ≡ listed (0 ∷ 1 ∷ [])
-  pub the-origin : listing 0 0 planned 1 ≡ listed (0 ∷ [])
+  pub the-origin : listing 0 0 tree-of-T 1 ≡ listed (0 ∷ [])
   pub no-entry : listing 0 1 cut 4 ≡ refused 14
   pub in-a-cycle : listing 0 1 cycle 4 ≡ refused 14
   pub in-a-cycle-and-no-room : listing 0 1 cycle 0 ≡ refused 14
@@ -34,5 +34,5 @@ pub record Examples : Type 0 where
   pub tail-too-high : listing 0 1 (tree-in (2 ∷ []) (1 ∷ []) (no-arc ∷ 0 ∷ [])) 4 ≡ refused 14
   pub no-nodes : listing 0 0 (on-T []) 4 ≡ refused 1
   pub unequal-columns : listing 0 0 (tree-in (0 ∷ 0 ∷ []) (1 ∷ []) (no-arc ∷ 0 ∷ [])) 4 ≡ refused 2
-  pub origin-too-high : listing 4 4 planned 4 ≡ refused 4
-  pub node-too-high : listing 0 4 planned 4 ≡ refused 5
+  pub origin-too-high : listing 4 4 tree-of-T 4 ≡ refused 4
+  pub node-too-high : listing 0 4 tree-of-T 4 ≡ refused 5

@@ -1,13 +1,14 @@
--- Listing a path: the nodes from the origin to a node, found by following tree arcs back, and the grounds on which a listing is refused.
+-- Listing a path: the nodes from the origin to a node, found by following tree arcs back, and when a listing is refused.
 -- Assumes nothing: these are definitions.
 use mathlib.Core.Path.{_≡_}
-use mathlib.Core.Bool.{Bool, _&&_, _||_, not, cond}
+use mathlib.Core.Bool.{Bool, _&&_, cond}
 use mathlib.Core.List.{List, [], _∷_, _++_}
 use mathlib.Core.Option.{Option, none, some}
 use Prim.Native.Nat.{ℕ, zero, suc}
 use lib.Dec.{ltb, leb, eqb}
 use lib.ListN.{length, getD, drop}
-use Rattle.table.specs.Table.{most-nodes, most-arcs, no-arc}
+use Rattle.table.specs.Table.{no-arc}
+use Rattle.table.specs.Refusals.{count-bad, columns-bad}
 use Rattle.paths.specs.declared.Listed.{Listed}
 
 -- What a listing goes by: the arcs' tails and heads, and a tree column, which has an entry for each node (a predecessor arc, in the field's terms).
@@ -43,7 +44,7 @@ back-to zero o k v passed = none
 back-to (suc l) o k v passed =
     cond (eqb v o) (some (v ∷ passed)) (cond (leads-back k v) (back-to l o k (node-before k v) (v ∷ passed)) none)
 
--- THE PATH: at most n nodes, which are joined by at most n − 1 arcs; none where ground 14 applies
+-- THE PATH: at most n nodes, which are joined by at most n − 1 arcs; none where it is refused by 14
 unfoldable pub path : (origin node : ℕ) → Tree → Option (List ℕ)
 path o v k = back-to (node-count k) o k v []
 
@@ -65,33 +66,25 @@ refused a = record { number = a; nodes = [] }
 unfoldable pub listed : (nodes : List ℕ) → Listing
 listed vs = record { number = 0; nodes = vs }
 
--- 1: n is 0 or above 1,024
-unfoldable pub count-bad : (n : ℕ) → Bool
-count-bad n = eqb n 0 || ltb most-nodes n
-
--- 2: the arcs' ends, tails and heads, are unequal in number, or too many
-unfoldable pub ends-bad : (tails heads : ℕ) → Bool
-ends-bad a b = not (eqb a b) || ltb most-arcs a
-
--- 1, 2, 4 and 5, the origin and the node not below n, in this order; 0 where none applies
-unfoldable pub early-ground : (n tails heads origin node : ℕ) → ℕ
-early-ground n a b o v = cond (count-bad n) 1 (cond (ends-bad a b) 2 (cond (leb n o) 4 (cond (leb n v) 5 0)))
+-- 1, 2, 4 and 5, the origin and the node not below n, in this order: the refusal's number, 0 where there is none
+unfoldable pub early-number : (n tails heads origin node : ℕ) → ℕ
+early-number n a b o v = cond (count-bad n) 1 (cond (columns-bad a b b) 2 (cond (leb n o) 4 (cond (leb n v) 5 0)))
 
 -- the same of a tree
-unfoldable pub ground-of : (origin node : ℕ) → Tree → ℕ
-ground-of o v k = early-ground (node-count k) (length (k .tails)) (length (k .heads)) o v
+unfoldable pub early-of : (origin node : ℕ) → Tree → ℕ
+early-of o v k = early-number (node-count k) (length (k .tails)) (length (k .heads)) o v
 
 -- 14, then 13: no path, or one with more nodes than the out buffer has room for
 unfoldable pub into : (room : ℕ) → Option (List ℕ) → Listing
 into room none = refused 14
 into room (some vs) = cond (ltb room (length vs)) (refused 13) (listed vs)
 
--- THE LISTING, its grounds in the order 1, 2, 4, 5, 14, 13
+-- THE LISTING, its refusals in the order 1, 2, 4, 5, 14, 13
 unfoldable pub listing : (origin node : ℕ) → Tree → (room : ℕ) → Listing
-listing o v k room = cond (eqb (ground-of o v k) 0) (into room (path o v k)) (refused (ground-of o v k))
+listing o v k room = cond (eqb (early-of o v k) 0) (into room (path o v k)) (refused (early-of o v k))
 
 -- THE CONTRACT of list_path: its answer, and what the out buffer holds before and after the call. The nodes listed stand at the buffer's start and
--- the rest is as it was; a refusal lists none, so the whole buffer is. No ground of a listing names a place.
+-- the rest is as it was; a refusal lists none, so the whole buffer is. No refusal of a listing names a place.
 pub record Lists (l : Listing) (answer : Listed) (output-before output-after : List ℕ) : Type 0 where
   pub number : answer .number ≡ l .number
   pub place : answer .place ≡ 0

@@ -1,6 +1,6 @@
 // Listing a path: the nodes from the origin to a node, read off a tree column. specs/Listing.antt says what a listing gives.
 //
-// The path is followed twice: once to count its nodes, which finds ground 14 before anything is written, and once to write them, from the last to
+// The path is followed twice: once to count its nodes, which finds refusal 14 before anything is written, and once to write them, from the last to
 // the first.
 ghost use mathlib.Core.Path.{_≡_};
 ghost use mathlib.Core.Bool.{true};
@@ -8,7 +8,11 @@ ghost use mathlib.Core.List.{_++_};
 ghost use Prim.Native.Nat.{_≤_, _<_};
 ghost use lib.ListN.{length, getD, drop};
 ghost use Rattle.table.specs.Table.{no-arc};
-ghost use Rattle.paths.specs.Listing.{tree-in, node-before, leads-back, path, nodes-of, early-ground, listing, Lists};
+ghost use Rattle.paths.specs.Listing.{tree-in, node-before, leads-back, path, nodes-of, early-number, listing, Lists};
+use table::Refusal;
+use table::bad_columns;
+use table::bad_count;
+use table::wide;
 
 // The refusal's number, 0 where there is none; its place, always 0; and how many nodes are listed, 0 on a refusal.
 #[repr(C)]
@@ -18,48 +22,23 @@ pub struct Listed {
     pub count: u32,
 }
 
-// The most nodes a table has, as a length.
-const MOST_NODES: usize = table::MOST_NODES as usize;
-
-// The grounds of a listing, by their numbers, and none.
-const NO_REFUSAL: u32 = 0;
-
-const BAD_NODE_COUNT: u32 = 1;
-
-const BAD_COLUMNS: u32 = 2;
-
-const BAD_ORIGIN: u32 = 4;
-
-const BAD_NODE: u32 = 5;
-
-const SHORT_OUTPUT: u32 = 13;
-
-const NO_PATH: u32 = 14;
-
-// A node or a position as an index.
-fn wide(x: u16) -> usize
-    ensures { λ r. ⌜ r ≡ x ⌝ }
+// 1, 2, 4 and 5, by the columns' lengths, the origin and the node: the refusal's number.
+fn early_number(n: usize, tails: usize, heads: usize, origin: u16, node: u16) -> u32
+    ensures { λ r. ⌜ r ≡ early-number n tails heads origin node ⌝ }
 {
-    x as usize
-}
-
-// Grounds 1, 2, 4 and 5, by the columns' lengths, the origin and the node.
-fn early_ground(n: usize, tails: usize, heads: usize, origin: u16, node: u16) -> u32
-    ensures { λ r. ⌜ r ≡ early-ground n tails heads origin node ⌝ }
-{
-    if n == 0 || MOST_NODES < n {
-        return BAD_NODE_COUNT;
+    if bad_count(n) {
+        return Refusal::NODE_COUNT;
     }
-    if tails != heads || table::MOST_ARCS < tails {
-        return BAD_COLUMNS;
+    if bad_columns(tails, heads, heads) {
+        return Refusal::COLUMNS;
     }
-    if n <= origin as usize {
-        return BAD_ORIGIN;
+    if n <= wide(origin) {
+        return Refusal::ORIGIN;
     }
-    if n <= node as usize {
-        return BAD_NODE;
+    if n <= wide(node) {
+        return Refusal::WANTED;
     }
-    NO_REFUSAL
+    Refusal::NONE
 }
 
 // A node's tree entry.
@@ -153,7 +132,7 @@ fn refused(number: u32) -> Listed
     }
 }
 
-// The nodes from the origin to a node, at the start of the output. The grounds are tested in the order 1, 2, 4, 5, 14, 13.
+// The nodes from the origin to a node, at the start of the output. The refusals are tested in the order 1, 2, 4, 5, 14, 13.
 pub fn list_path(
     origin: u16,
     node: u16,
@@ -164,21 +143,21 @@ pub fn list_path(
 ) -> Listed
     ensures { λ r. ⌜ Lists (listing origin node (tree-in (now (tails .entry)) (now (heads .entry)) (now (tree .entry))) (length (now (output .entry)))) r (now (output .entry)) (now (output .exit)) ⌝ }
 {
-    let ground = early_ground(tree.len(), tails.len(), heads.len(), origin, node);
-    if ground != NO_REFUSAL {
-        return refused(ground);
+    let number = early_number(tree.len(), tails.len(), heads.len(), origin, node);
+    if number != Refusal::NONE {
+        return refused(number);
     }
     let count = count_nodes(origin, node, tails, heads, tree);
     if count == 0 {
-        return refused(NO_PATH);
+        return refused(Refusal::NO_PATH);
     }
     if output.len() < count {
-        return refused(SHORT_OUTPUT);
+        return refused(Refusal::ROOM);
     }
     let listed = count as u32;
     write_nodes(count, origin, node, tails, heads, tree, output);
     Listed {
-        number: NO_REFUSAL,
+        number: Refusal::NONE,
         place: 0,
         count: listed,
     }

@@ -1,6 +1,3 @@
-pub mod Begins
-pub mod Decimal
-pub mod Spaced
-pub mod Passing
-pub mod Rest
+pub mod Nodes
 pub mod Promised
+pub mod Examples

@@ -1,50 +1,114 @@
--- Each wanted node that was reached has exactly one path line; and the printed sheets of table T, computed. Assumes nothing.
+-- The promises of specs/Promises.antt, each proved under its own name in small letters. Assumes nothing.
 use mathlib.Core.Path.{_≡_, refl, sym, ap, _∙_}
-use mathlib.Core.Bool.{Bool, true, false}
-use mathlib.Core.Logic.{⊎-elim}
-use Prim.Native.Nat.{ℕ, zero, suc, _+_, _≤_, _<_}
+use mathlib.Core.Bool.{Bool, true, false, _&&_, cond}
+use mathlib.Core.List.{List, [], _∷_, _++_}
+use mathlib.Core.Logic.{_⊎_, ⊎-elim}
+use Prim.Native.Nat.{ℕ, _^_, _≤_, _<_, min}
 use native.Mathlib.Omega.{arith}
+use lib.Dec.{eqb}
+use lib.ListN.{length}
 use borrow.Author.Tests.{eq-eqb, ne-eqb}
-use Rattle.paths.specs.Listing.{entry, node-before, leads-back, back-to, path, listed, refused, count-bad, ends-bad, early-ground, ground-of, into, listing}
-use Rattle.table.proofs.Basics.{same-or, true-or, not-both}
-use Rattle.sheet.specs.Text.{places-from, places, decimal, spaced}
-use Rattle.sheet.specs.Sheet.{refused-line, reached-line, counts-line, arc-text, node-line, path-line, node-count, has-distance, holds, has-path, with-node, passing, node-lines, path-lines, paths-from, nodes-from, from-counts, from-reached, from-refusal, sheet}
-use Rattle.sheet.specs.Promises.{occurrences, path-nodes, Each-once}
-use Rattle.sheet.specs.Examples.{wanted-3, wanted-4, turned-down, Examples}
-
-module _ (f : ℕ → Bool) (v : ℕ) where
-  -- among the nodes from a on
-  absent : (k a : ℕ) → (a ≤ v → v < a + k → f v ≡ false) → occurrences v (passing f k a) ≡ 0
-  unfolding passing with-node occurrences
-  absent zero a h = refl
-  absent (suc k) a h =
-      let later = absent k (suc a) (λ p q. h (omega arith) (omega arith)) in
-      ⊎-elim
-      (λ (t : f a ≡ true).
-      let apart : a ≡ v → ⊥ = λ e. not-both (f v) (ap f (sym e) ∙ t) (h (omega arith) (omega arith)) in
-      rw (t, ne-eqb a v apart) (omega (arith, later)))
-      (λ (t : f a ≡ false). rw t later)
-      (true-or (f a))
-
-  present : (k a : ℕ) → a ≤ v → v < a + k → f v ≡ true → occurrences v (passing f k a) ≡ 1
-  unfolding passing with-node occurrences
-  present zero a p q t = absurd (omega arith)
-  present (suc k) a p q t =
-      ⊎-elim
-      (λ (e : a ≡ v). rw (ap f e ∙ t, eq-eqb a v e) (omega (arith, absent k (suc a) (λ x y. absurd (omega arith)))))
-      (λ (d : a ≡ v → ⊥).
-      let later = present k (suc a) (omega arith) (omega arith) t in
-      ⊎-elim (λ (u : f a ≡ true). rw (u, ne-eqb a v d) (omega (arith, later))) (λ (u : f a ≡ false). rw u later) (true-or (f a)))
-      (same-or a v)
+use Rattle.table.specs.Table.{Table, table, table-of, most-nodes, Below}
+use Rattle.table.proofs.Basics.{both-true, true-both, and-false, true-or, not-both}
+use Rattle.auction.specs.HandOver.{Answer, handed-over, distances, tree}
+use Rattle.auction.specs.Plan.{plan, routes-of}
+use Rattle.auction.specs.Demands.{Given, walk-of}
+use Rattle.auction.proofs.Made.{made}
+use Rattle.auction.proofs.Sums.{entries-length}
+use Rattle.paths.specs.Listing.{tree-in, listing, listed}
+use Rattle.paths.specs.Promises.{Plans-listed, Gives, nodes-of-walk}
+use Rattle.paths.proofs.Promised.{plans-listed}
+use Rattle.sheet.specs.Sheet.{Finished, finished, refused-line, path-line, node-count, has-distance, has-path, holds, reached-nodes, path-nodes, node-lines, path-lines, after-counts, from-counts, from-reached, sheet}
+use Rattle.sheet.specs.Promises.{Each-once, refusal-lines, totals-lines, Shows, Plans-printed, Refusals-printed, Promises}
+use Rattle.sheet.proofs.Nodes.{absent, present, agree, given-has, has-given, not-given, given-low}
 
 pub each-once : Each-once
 unfolding Each-once path-nodes
 each-once p v =
+    let test = has-path (p .answer .distances) (p .wanted) in
+    let n = node-count (p .answer .distances) in
     record {
-      once = λ h t. present (has-path (p .distances) (p .wanted)) v (node-count (p .distances)) 0 (omega arith) (omega arith) t;
-      never = λ h. absent (has-path (p .distances) (p .wanted)) v (node-count (p .distances)) 0 (λ x y. h (omega arith));
+      once = λ h t. present test v n 0 (omega arith) (omega arith) t;
+      never = λ h. absent test v n 0 (λ x y. h (omega arith));
     }
 
-pub examples : Examples
-unfolding entry node-before leads-back back-to path listed refused count-bad ends-bad early-ground ground-of into listing places-from places decimal spaced refused-line reached-line counts-line arc-text node-line path-line node-count has-distance holds has-path with-node passing node-lines path-lines paths-from nodes-from from-counts from-reached from-refusal sheet wanted-3 wanted-4 turned-down
-examples = record { printed = refl; no-route = refl; faulty = refl }
+-- the buffers of a plan that was made have an entry for each of at most 1,024 nodes
+buffers-long : (t : Table) (ws : List ℕ) → (length (routes-of t ws .distances) ≡ t .n) × (length (routes-of t ws .tree) ≡ t .n)
+unfolding routes-of handed-over distances tree
+buffers-long t ws = (entries-length (t .n) 0 _, entries-length (t .n) 0 _)
+
+-- WHERE A PLAN WAS MADE
+made-sheet : (p : Finished) → (p .answer .number ≡ 0) ⊎ (p .answer .number ≡ 8) →
+    sheet p ≡ refusal-lines (p .answer) ++ totals-lines (p .answer) ++ node-lines p (reached-nodes p) ++ path-lines p (path-nodes p)
+unfolding sheet from-reached from-counts after-counts refusal-lines totals-lines
+made-sheet p e =
+    ⊎-elim (λ (z : p .answer .number ≡ 0). rw (eq-eqb (p .answer .number) 0 z) refl)
+    (λ (z : p .answer .number ≡ 8). rw (ne-eqb (p .answer .number) 0 (λ q. omega arith), eq-eqb (p .answer .number) 8 z) refl) e
+
+module _ (n o : ℕ) (ts hs ls ws ds ps tr ms : List ℕ) (low : Below (2 ^ 32) ls)
+    (number : (plan n o ts hs ls ws ds ps tr ms .number ≡ 0) ⊎ (plan n o ts hs ls ws ds ps tr ms .number ≡ 8)) where
+  abbrev a : Answer
+  a = plan n o ts hs ls ws ds ps tr ms
+
+  abbrev t : Table
+  t = table-of n o ts hs ls
+
+  abbrev p : Finished
+  p = finished o ts hs ws a
+
+  few : n ≤ most-nodes
+  few = made n o ts hs ls ws ds ps tr ms low number .fine .few-nodes
+
+  long : (length (a .distances) ≡ n) × (length (a .tree) ≡ n)
+  unfolding table-of table
+  long =
+      let e = made n o ts hs ls ws ds ps tr ms low number .routes in
+      (ap (λ (b : Answer). length (b .distances)) e ∙ buffers-long t ws .0, ap (λ (b : Answer). length (b .tree)) e ∙ buffers-long t ws .1)
+
+  count : node-count (a .distances) ≡ length (a .distances)
+  unfolding node-count
+  count = omega (arith, few, long .0)
+
+  -- a path line lists the nodes of the walk returned
+  path-shown : (v : ℕ) → has-path (a .distances) ws v ≡ true →
+      path-line v (listing o v (tree-in ts hs (a .tree)) most-nodes .nodes) ≡ path-line v (nodes-of-walk t (walk-of t a v))
+  unfolding has-path listed Plans-listed
+  path-shown v e =
+      let has = both-true (has-distance (a .distances) v) (holds v ws) e .0 in
+      let g = plans-listed n o ts hs ls ws ds ps tr ms v low number (has-given a v has) in
+      ap (λ l. path-line v (l .nodes)) (g .roomy most-nodes (omega (arith, g .within, few, long .1)))
+
+  shows : Shows t p a
+  unfolding reached-nodes path-nodes node-lines path-lines has-path
+  shows =
+      let test = has-path (a .distances) ws in
+      record {
+        lines =
+            made-sheet p number
+            ∙ ap (λ ls. refusal-lines a ++ totals-lines a ++ node-lines p (reached-nodes p) ++ ls) (agree test _ _ path-shown (node-count (a .distances)) 0);
+        nodes = λ v g. present (has-distance (a .distances)) v (node-count (a .distances)) 0 (omega arith) (omega (arith, count, given-low a v g)) (given-has a v g);
+        no-others = λ v d. absent (has-distance (a .distances)) v (node-count (a .distances)) 0 (λ x y. not-given a v d);
+        paths =
+            λ v g w.
+            present test v (node-count (a .distances)) 0 (omega arith) (omega (arith, count, given-low a v g))
+            (true-both (has-distance (a .distances) v) (holds v ws) (given-has a v g) w);
+        no-other-paths =
+            λ v d.
+            absent test v (node-count (a .distances)) 0
+            (λ x y.
+            ⊎-elim
+            (λ (h : has-distance (a .distances) v ≡ true). and-false (has-distance (a .distances) v) (holds v ws) (d (has-given a v h)))
+            (λ (h : has-distance (a .distances) v ≡ false). rw h refl)
+            (true-or (has-distance (a .distances) v)));
+      }
+
+pub plans-printed : Plans-printed
+unfolding Plans-printed
+plans-printed n o ts hs ls ws ds ps tr ms low number = shows n o ts hs ls ws ds ps tr ms low number
+
+pub refusals-printed : Refusals-printed
+unfolding Refusals-printed sheet
+refusals-printed p not-zero not-eight = rw (ne-eqb (p .answer .number) 0 not-zero, ne-eqb (p .answer .number) 8 not-eight) refl
+
+pub promised : Promises
+promised = record { each-once = each-once; plans-printed = plans-printed; refusals-printed = refusals-printed }

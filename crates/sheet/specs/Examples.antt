@@ -3,60 +3,29 @@ use mathlib.Core.Path.{_≡_}
 use mathlib.Core.List.{List, [], _∷_}
 use Prim.Native.Nat.{ℕ}
 use Rattle.table.specs.Table.{no-arc, no-distance}
-use Rattle.planner.specs.declared.Planned.{Planned}
+use Rattle.auction.specs.HandOver.{Answer, answer}
 use Rattle.sheet.specs.Text.{text}
-use Rattle.sheet.specs.Sheet.{Plan, plan, sheet}
+use Rattle.sheet.specs.Sheet.{Finished, finished, node-line, sheet}
 
-abbrev pub on-T : Planned → (wanted distances prices tree : List ℕ) → Plan
-on-T a ws ds ps ts = plan a 0 (0 ∷ 0 ∷ 1 ∷ 2 ∷ 1 ∷ []) (1 ∷ 2 ∷ 2 ∷ 3 ∷ 3 ∷ []) ws ds ps ts
+abbrev pub on-T : (wanted : List ℕ) → Answer → Finished
+on-T ws a = finished 0 (0 ∷ 0 ∷ 1 ∷ 2 ∷ 1 ∷ []) (1 ∷ 2 ∷ 2 ∷ 3 ∷ 3 ∷ []) ws a
 
 -- wanted 3
-unfoldable pub wanted-3 : Plan
+unfoldable pub wanted-3 : Finished
 wanted-3 =
-    on-T
-    (record {
-      number = 0;
-      place = 0;
-      reached = 4;
-      horizon = 6;
-      iterations = 9;
-      contractions = 5;
-      extensions = 4;
-      deletions = 0;
-    })
-    (3 ∷ []) (0 ∷ 2 ∷ 5 ∷ 6 ∷ []) (6 ∷ 4 ∷ 1 ∷ 0 ∷ []) (no-arc ∷ 0 ∷ 1 ∷ 3 ∷ [])
+    on-T (3 ∷ [])
+    (answer 0 0 4 6 9 5 4 0 (0 ∷ 2 ∷ 5 ∷ 6 ∷ []) (6 ∷ 4 ∷ 1 ∷ 0 ∷ []) (no-arc ∷ 0 ∷ 1 ∷ 3 ∷ []) (3 ∷ 3 ∷ 1 ∷ 3 ∷ 1 ∷ []))
 
 -- with a fifth node, wanted 4 and, twice, 1: no route to 4
-unfoldable pub wanted-4 : Plan
+unfoldable pub wanted-4 : Finished
 wanted-4 =
-    on-T
-    (record {
-      number = 8;
-      place = 0;
-      reached = 4;
-      horizon = 6;
-      iterations = 14;
-      contractions = 6;
-      extensions = 5;
-      deletions = 3;
-    })
-    (4 ∷ 1 ∷ 1 ∷ []) (0 ∷ 2 ∷ 5 ∷ 6 ∷ no-distance ∷ []) (6 ∷ 4 ∷ 1 ∷ 0 ∷ 0 ∷ []) (no-arc ∷ 0 ∷ 1 ∷ 3 ∷ no-arc ∷ [])
+    on-T (4 ∷ 1 ∷ 1 ∷ [])
+    (answer 8 0 4 6 14 6 5 3 (0 ∷ 2 ∷ 5 ∷ 6 ∷ no-distance ∷ []) (6 ∷ 4 ∷ 1 ∷ 0 ∷ 0 ∷ []) (no-arc ∷ 0 ∷ 1 ∷ 3 ∷ no-arc ∷ [])
+    (3 ∷ 3 ∷ 1 ∷ 3 ∷ 1 ∷ []))
 
--- turned down: an arc's end is not below n
-unfoldable pub turned-down : Plan
-turned-down =
-    on-T
-    (record {
-      number = 6;
-      place = 2;
-      reached = 0;
-      horizon = 0;
-      iterations = 0;
-      contractions = 0;
-      extensions = 0;
-      deletions = 0;
-    })
-    (3 ∷ []) (0 ∷ 0 ∷ []) (0 ∷ 0 ∷ []) (0 ∷ 0 ∷ [])
+-- refused: an arc's end is not below n
+unfoldable pub refused : Finished
+refused = on-T (3 ∷ []) (answer 6 2 0 0 0 0 0 0 (0 ∷ 0 ∷ []) (0 ∷ 0 ∷ []) (0 ∷ 0 ∷ []) (0 ∷ 0 ∷ 0 ∷ 0 ∷ 0 ∷ []))
 
 pub record Examples : Type 0 where
   pub printed :
@@ -80,4 +49,8 @@ pub record Examples : Type 0 where
       ∷ text "node 3 distance 6 price 0 arc 3\n"
       ∷ text "path 1: 0 1\n"
       ∷ []
-  pub faulty : sheet turned-down ≡ text "refused 6 at 2\n" ∷ []
+  pub faulty : sheet refused ≡ text "refused 6 at 2\n" ∷ []
+  -- numbers of twenty digits, the most that 64 bits hold
+  pub twenty-digits :
+      node-line 1023 18446744073709551614 10000000000000000000 5999
+      ≡ text "node 1023 distance 18446744073709551614 price 10000000000000000000 arc 5999\n"

@@ -1,24 +1,66 @@
--- What is promised of a sheet: each wanted node that was reached has exactly one path line. Assumes nothing.
+-- What is promised of a sheet. Each promise is a type; its proof, by the same name in small letters, stands in proofs/Promised.antt. Assumes nothing.
 use mathlib.Core.Path.{_≡_}
 use mathlib.Core.Bool.{true, false, cond}
-use mathlib.Core.List.{List, [], _∷_}
-use Prim.Native.Nat.{ℕ, _+_, _<_}
+use mathlib.Core.List.{List, [], _∷_, _++_, map}
+use mathlib.Core.Logic.{_⊎_}
+use Prim.Native.Nat.{ℕ, _+_, _^_, _<_}
 use lib.Dec.{eqb}
-use Rattle.sheet.specs.Sheet.{Plan, node-count, has-path, passing}
+use Rattle.table.specs.Table.{Table, table-of, Below}
+use Rattle.auction.specs.HandOver.{Answer}
+use Rattle.auction.specs.Plan.{plan}
+use Rattle.auction.specs.Demands.{Given, distance-of, price-of, link-of, walk-of}
+use Rattle.paths.specs.Promises.{nodes-of-walk}
+use Rattle.sheet.specs.Sheet.{Finished, finished, refused-line, reached-line, counts-line, node-line, path-line, node-count, has-path, holds, reached-nodes, path-nodes, sheet}
 
 -- how often a node stands in a list
 unfoldable pub occurrences : (v : ℕ) → List ℕ → ℕ
 occurrences v [] = 0
 occurrences v (w ∷ ws) = cond (eqb w v) 1 0 + occurrences v ws
 
--- the nodes that have a path line, in the lines' order (Sheet.antt, `paths-from` at 0)
-unfoldable pub path-nodes : Plan → List ℕ
-path-nodes p = passing (has-path (p .distances) (p .wanted)) (node-count (p .distances)) 0
-
--- A node below n that has a distance and is wanted, however often, stands there once, and no other node stands there.
-pub record Once (p : Plan) (v : ℕ) : Type 0 where
-  pub once : v < node-count (p .distances) → has-path (p .distances) (p .wanted) v ≡ true → occurrences v (path-nodes p) ≡ 1
-  pub never : (v < node-count (p .distances) → has-path (p .distances) (p .wanted) v ≡ false) → occurrences v (path-nodes p) ≡ 0
+-- EACH PATH LINE ONCE, whatever the buffers hold: a node that has a distance and is wanted, however often, has one path line, and no other node has any.
+pub record Once (p : Finished) (v : ℕ) : Type 0 where
+  pub once : v < node-count (p .answer .distances) → has-path (p .answer .distances) (p .wanted) v ≡ true → occurrences v (path-nodes p) ≡ 1
+  pub never : (v < node-count (p .answer .distances) → has-path (p .answer .distances) (p .wanted) v ≡ false) → occurrences v (path-nodes p) ≡ 0
 
 unfoldable pub Each-once : Type 0
-Each-once = (p : Plan) (v : ℕ) → Once p v
+Each-once = (p : Finished) (v : ℕ) → Once p v
+
+-- WHERE A PLAN WAS MADE, the sheet shows it: after the refusal's line, if there is one, come the two lines of totals, a line for each node that was given
+-- a walk, and a path line for each of these that is wanted, which lists the nodes of the walk returned to it.
+unfoldable pub refusal-lines : Answer → List (List ℕ)
+refusal-lines a = cond (eqb (a .number) 0) [] (refused-line (a .number) (a .place) ∷ [])
+
+unfoldable pub totals-lines : Answer → List (List ℕ)
+totals-lines a =
+    reached-line (a .reached) (a .horizon) (a .iterations) ∷ counts-line (a .contractions) (a .extensions) (a .deletions) ∷ []
+
+pub record Shows (t : Table) (p : Finished) (a : Answer) : Type 0 where
+  pub lines :
+      sheet p
+      ≡ refusal-lines a
+      ++ totals-lines a
+      ++ map (λ v. node-line v (distance-of a v) (price-of a v) (link-of a v)) (reached-nodes p)
+      ++ map (λ v. path-line v (nodes-of-walk t (walk-of t a v))) (path-nodes p)
+  -- each node that was given a walk has one line, and no other has any;
+  pub nodes : (v : ℕ) → Given a v → occurrences v (reached-nodes p) ≡ 1
+  pub no-others : (v : ℕ) → (Given a v → ⊥) → occurrences v (reached-nodes p) ≡ 0
+  -- each of these that is wanted has one path line, and no other has any
+  pub paths : (v : ℕ) → Given a v → holds v (p .wanted) ≡ true → occurrences v (path-nodes p) ≡ 1
+  pub no-other-paths : (v : ℕ) → (Given a v → holds v (p .wanted) ≡ false) → occurrences v (path-nodes p) ≡ 0
+
+unfoldable pub Plans-printed : Type 0
+Plans-printed =
+    (n o : ℕ) (tails heads lengths wanted distances prices tree marks : List ℕ) →
+    let a = plan n o tails heads lengths wanted distances prices tree marks in
+    Below (2 ^ 32) lengths → (a .number ≡ 0) ⊎ (a .number ≡ 8) → Shows (table-of n o tails heads lengths) (finished o tails heads wanted a) a
+
+-- Any other number prints its line and nothing else.
+unfoldable pub Refusals-printed : Type 0
+Refusals-printed =
+    (p : Finished) → (p .answer .number ≡ 0 → ⊥) → (p .answer .number ≡ 8 → ⊥) → sheet p ≡ refused-line (p .answer .number) (p .answer .place) ∷ []
+
+-- ALL OF THEM together: the one theorem `promised` of proofs/Promised.antt
+pub record Promises : Type 0 where
+  pub each-once : Each-once
+  pub plans-printed : Plans-printed
+  pub refusals-printed : Refusals-printed

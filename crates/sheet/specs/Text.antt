@@ -1,12 +1,10 @@
--- Texts as lists of bytes, and what it means that a buffer begins with one. Assumes nothing: these are definitions.
-use mathlib.Core.Path.{_≡_}
+-- Texts as lists of bytes. Assumes nothing: these are definitions.
 use mathlib.Core.Bool.{cond}
 use mathlib.Core.List.{List, [], _∷_, _++_}
 use Prim.Native.Nat.{ℕ, zero, suc, _^_}
 use Prim.Native.String as string
 use Prim.Native.Char as char
 use lib.Dec.{ltb}
-use lib.ListN.{length, drop}
 use Rattle.io.specs.Digits.{digits}
 
 -- the bytes of a text in ASCII
@@ -29,8 +27,3 @@ decimal n = digits 10 (places n) n
 unfoldable pub spaced : (before numbers : List ℕ) → List ℕ
 spaced line [] = line
 spaced line (a ∷ more) = spaced (line ++ text " " ++ decimal a) more
-
--- a buffer begins with a text, of which `count` says how long it is; the rest is as it was before
-pub record Begins (with before after : List ℕ) (count : ℕ) : Type 0 where
-  pub counted : count ≡ length with
-  pub holds : after ≡ with ++ drop (length with) before

@@ -1,7 +1,7 @@
 -- `not_read` meets its contract: the definition is the code. Assumes nothing.
 use mathlib.Core.Path.{refl}
 use Rattle.table.specs.Refusals.{refusal}
-use Rattle.link_file.specs.Format.{content}
+use Rattle.link_format.specs.Format.{content}
 use Rattle.link_file.specs.Entries.{read-answer}
 use Rattle.link_file.proofs.not_read.Statement.{statement}
 use Rattle.link_file.proofs.not_read.Tie as tie

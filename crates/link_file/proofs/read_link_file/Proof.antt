@@ -6,11 +6,13 @@ use mathlib.Core.Path.{_≡_, sym, _∙_}
 use Prim.Native.Nat.{ℕ}
 use denote.Ref.{now}
 use lib.ListN.{length}
-use Rattle.link_file.specs.Reading.{read-file}
+use Rattle.link_format.specs.Buffers.{too-short, reading}
+use Rattle.link_format.specs.Reading.{read-file}
+use Rattle.link_format.proofs.Counts.{Roomy, roomy}
+use Rattle.link_format.proofs.Outcomes.{reading-short, reading-roomy}
 use Rattle.link_file.specs.Says.{Header-got, Header-says, tally, records-from}
-use Rattle.link_file.specs.Entries.{too-short, reading}
+use Rattle.link_file.proofs.Whole.{none-read, header-refuses, records-refuse, tally-accepted, all-read}
 use Rattle.link_file.specs.declared.records.Counted.the-variants.{Arcs}
-use Rattle.link_file.proofs.Whole.{Roomy, roomy, reading-short, reading-roomy, none-read, header-refuses, records-refuse, tally-accepted, all-read}
 use Rattle.link_file.proofs.read_link_file.Statement.{statement}
 use Rattle.link_file.proofs.read_link_file.Tie as tie
 

@@ -1,7 +1,7 @@
 -- `short` meets its contract: by its tests, in order. Assumes nothing.
 use borrow.Author.Tests.{lt-ltb, le-ltb}
 use Rattle.table.specs.Table.{most-arcs}
-use Rattle.link_file.specs.Entries.{too-short}
+use Rattle.link_format.specs.Buffers.{too-short}
 use Rattle.link_file.proofs.short.Statement.{statement}
 use Rattle.link_file.proofs.short.Tie as tie
 

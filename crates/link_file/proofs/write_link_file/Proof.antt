@@ -1,20 +1,18 @@
 -- `write_link_file` meets its contract: each `return` is one way out of writing a file. Assumes nothing.
 use borrow.Author.Needs.{needs}
-use mathlib.Core.Bool.{false, _||_}
+use mathlib.Core.Bool.{false}
 use mathlib.Core.List.{List}
 use mathlib.Core.Path.{_≡_, refl, sym, _∙_}
 use Prim.Native.Nat.{ℕ, _+_, _≤_}
 use native.Mathlib.Omega.{arith}
-use borrow.Author.Tests.{ltb-false}
 use denote.Ref.{now}
-use lib.Dec.{eqb, ltb}
 use lib.ListN.{length}
-use Rattle.table.specs.Refusals.{columns-bad}
+use Rattle.table.specs.Refusals.{count-bad, columns-bad}
 use Rattle.table.specs.Table.{most-nodes}
-use Rattle.link_file.specs.Entries.{file-of}
-use Rattle.link_file.proofs.Booleans.{or-false-second}
+use Rattle.link_format.specs.Buffers.{file-of}
+use Rattle.link_format.proofs.Counts.{few-nodes, equal-columns}
 use Rattle.link_file.proofs.Pieces.{put-kept}
-use Rattle.link_file.proofs.WriteWays.{equal-columns, file-size, none-written, refuses-count, refuses-columns, refuses-wanted, refuses-room, all-written}
+use Rattle.link_file.proofs.WriteWays.{file-size, none-written, refuses-count, refuses-columns, refuses-wanted, refuses-room, all-written}
 use Rattle.link_file.proofs.write_link_file.Statement.{statement}
 use Rattle.link_file.proofs.write_link_file.Tie as tie
 
@@ -36,11 +34,11 @@ module _ (s : tie.Start) where
   out = now (s .args .output)
 
 -- what is known after each test
-fine : (c : tie.Else1) → let n = c .before .before .before .before .before .before .before .args .n in (eqb n 0 || ltb most-nodes n) ≡ false
+fine : (c : tie.Else1) → let n = c .before .before .before .before .before .before .before .args .n in count-bad n ≡ false
 fine c = sym (c .before .bad-count .ensures) ∙ c .if1 .left
 
 low : (c : tie.Else1) → c .before .before .before .before .before .before .before .args .n ≤ most-nodes
-low c = let n = c .before .before .before .before .before .before .before .args .n in ltb-false most-nodes n (or-false-second (eqb n 0) _ (fine c))
+low c = few-nodes (fine c)
 
 equal : (c : tie.Else2) → let s = c .before .before .before .before .before .before .before .before .before in columns-bad (length (ts s)) (length (hs s)) (length (ls s)) ≡ false
 unfolding columns-bad

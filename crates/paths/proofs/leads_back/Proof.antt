@@ -49,7 +49,7 @@ unfolding entry
 returns-3 c =
     let s = c .before .before .before .before .before .before .before .before .before in
     let e = c .before .before .before .before .before .entry-at in
-    ap (λ (a : ℕ). ltb a (length (s .args .tree .now))) (c .wide .ensures)
+    ap (λ (a : ℕ). ltb a (length (s .args .tree .now))) (c .wide .ensures .0)
     ∙ sym
     (by-tail (tree-in (s .args .tails .now) (s .args .heads .now) (s .args .tree .now)) (s .args .node) (e .result) (e .ensures)
     (c .before .before .before .before .if1 .left) (c .before .before .if2 .left))

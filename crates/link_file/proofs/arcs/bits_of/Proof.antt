@@ -1,7 +1,7 @@
 -- `arcs::bits_of` meets its contract: each bit is its weight or 0. Assumes nothing.
 use borrow.Author.Needs.{needs}
 use native.Mathlib.Omega.{arith}
-use Rattle.link_file.specs.Format.{bit-map}
+use Rattle.link_format.specs.Format.{bit-map}
 use Rattle.link_file.proofs.arcs.bits_of.Statement.{statement}
 use Rattle.link_file.proofs.arcs.bits_of.Tie as tie
 

@@ -4,7 +4,7 @@ use Rattle.table.specs.Table.{arc}
 use native.Mathlib.Omega.{arith}
 use mathlib.Core.Path.{_≡_}
 use Rattle.link_file.specs.declared.arcs.Previous.the-variants.{Record}
-use Rattle.link_file.specs.Reading.{implied}
+use Rattle.link_format.specs.Reading.{implied}
 use Rattle.link_file.specs.Says.{arc-before, arc-implied, arc-of}
 use Rattle.link_file.proofs.arcs.implied.Statement.{statement}
 use Rattle.link_file.proofs.arcs.implied.Tie as tie

@@ -3,7 +3,7 @@ use borrow.Author.Needs.{needs}
 use Rattle.table.specs.Table.{arc}
 use mathlib.Core.Path.{_≡_, _∙_}
 use Rattle.link_file.specs.declared.arcs.Previous.the-variants.{Record}
-use Rattle.link_file.specs.Format.{record-bits}
+use Rattle.link_format.specs.Format.{record-bits}
 use Rattle.link_file.specs.Says.{arc-before, arc-of}
 use Rattle.link_file.proofs.arcs.record_bits.Statement.{statement}
 use Rattle.link_file.proofs.arcs.record_bits.Tie as tie

@@ -1,6 +1,6 @@
 -- `arcs::stands` meets its contract: the definition is the code. Assumes nothing.
 use borrow.Author.Needs.{needs}
-use Rattle.link_file.specs.Format.{has}
+use Rattle.link_format.specs.Format.{has}
 use Rattle.link_file.proofs.arcs.stands.Statement.{statement}
 use Rattle.link_file.proofs.arcs.stands.Tie as tie
 

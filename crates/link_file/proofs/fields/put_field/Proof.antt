@@ -1,7 +1,7 @@
 -- `fields::put_field` meets its contract: the loop's invariant is `Putting`. Assumes nothing.
 use Prim.Native.Nat.{_-_}
 use native.Mathlib.Omega.{arith}
-use Rattle.link_file.proofs.Numbers.{length-bytes}
+use Rattle.link_format.proofs.Numbers.{length-bytes}
 use Rattle.link_file.proofs.Putting.{Putting, putting-begins, putting-next, putting-done}
 use Rattle.link_file.proofs.fields.put_field.Statement.{statement}
 use Rattle.link_file.proofs.fields.put_field.Tie as tie

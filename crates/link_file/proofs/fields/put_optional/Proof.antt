@@ -3,8 +3,8 @@ use borrow.Author.Needs.{needs}
 use mathlib.Core.Path.{refl, sym}
 use native.Mathlib.Nat.{add-zero}
 use native.Mathlib.Omega.{arith}
-use Rattle.link_file.specs.Format.{field-bytes}
-use Rattle.link_file.proofs.Numbers.{length-bytes}
+use Rattle.link_format.specs.Format.{field-bytes}
+use Rattle.link_format.proofs.Numbers.{length-bytes}
 use Rattle.link_file.proofs.fields.put_optional.Statement.{statement}
 use Rattle.link_file.proofs.fields.put_optional.Tie as tie
 

@@ -4,9 +4,8 @@ use native.Mathlib.Omega.{arith}
 use borrow.Author.Needs.{needs}
 use denote.Ref.{now}
 use Rattle.link_file.specs.Says.{Field-says}
+use Rattle.link_file.proofs.Parts.{column-below, Passed, passed-none, passed-next, passed-small, passed-all, field-got, field-ends}
 use mir.Syntax.{w8}
-use Rattle.link_file.proofs.Numbers.{column-below}
-use Rattle.link_file.proofs.Parts.{Passed, passed-none, passed-next, passed-small, passed-all, field-got, field-ends}
 use Rattle.link_file.proofs.fields.read_field.Statement.{statement}
 use Rattle.link_file.proofs.fields.read_field.Tie as tie
 

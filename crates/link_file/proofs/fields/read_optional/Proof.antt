@@ -2,7 +2,7 @@
 use borrow.Author.Needs.{needs}
 use Prim.Native.Nat.{ℕ, _^_, _≤_, _<_}
 use denote.Ref.{now}
-use Rattle.link_file.specs.Reading.{field, optional}
+use Rattle.link_format.specs.Reading.{field, optional}
 use Rattle.link_file.specs.Says.{Field-says}
 use Rattle.link_file.proofs.Parts.{field-wider, absent-got}
 use Rattle.link_file.proofs.fields.read_optional.Statement.{statement}

@@ -6,17 +6,17 @@ use mathlib.Core.List.{List}
 use mathlib.Core.Path.{_≡_, refl, sym, _∙_}
 use Prim.Native.Nat.{ℕ, _≤_}
 use native.Mathlib.Omega.{arith}
-use borrow.Author.Tests.{ltb-false}
 use denote.Ref.{now}
-use lib.Dec.{eqb, ltb}
+use lib.Dec.{ltb}
 use lib.ListN.{getD, drop}
+use Rattle.table.specs.Refusals.{count-bad}
 use Rattle.table.specs.Table.{most-nodes}
-use Rattle.link_file.specs.Format.{has, header-bits}
-use Rattle.link_file.specs.Reading.{got, field, optional}
+use Rattle.link_format.specs.Format.{has, header-bits}
+use Rattle.link_format.specs.Reading.{got, field, optional}
+use Rattle.link_format.proofs.Counts.{few-nodes}
 use Rattle.link_file.specs.Says.{Got, Field-says, Wanted-got, Wanted-says, Header-says, wanted-in}
-use Rattle.link_file.proofs.Booleans.{or-false-second}
-use Rattle.link_file.proofs.Parts.{as-got, as-ends, renamed, first-byte}
 use Rattle.link_file.proofs.HeaderWays.{header-empty, header-forbidden, cut-n, bad-n, cut-origin, wanted-refused, header-needless, header-got}
+use Rattle.link_file.proofs.Parts.{as-got, as-ends, renamed, first-byte}
 use Rattle.link_file.proofs.header.read_header.Statement.{statement}
 use Rattle.link_file.proofs.header.read_header.Tie as tie
 
@@ -38,11 +38,11 @@ module _ (c : tie.Else2) where
 nodes-got : (c : tie.After-n) → let k = c .before .before .before in Got (field 2) (file k) 1 2 65536 (c .n .given .0 .0) (c .n .given .0 .1 .0)
 nodes-got c = as-got (c .n .given .1) (c .before .before .read-field .ensures)
 
-fine : (c : tie.Else3) → let n = c .before .before .before .n .given .0 .0 in (eqb n 0 || ltb most-nodes n) ≡ false
+fine : (c : tie.Else3) → let n = c .before .before .before .n .given .0 .0 in count-bad n ≡ false
 fine c = sym (c .before .bad-count .ensures) ∙ c .if3 .left
 
 low : (c : tie.Else3) → c .before .before .before .n .given .0 .0 ≤ most-nodes
-low c = ltb-false _ _ (or-false-second (eqb (c .before .before .before .n .given .0 .0) 0) _ (fine c))
+low c = few-nodes (fine c)
 
 -- the origin
 origin-says : (c : tie.After-read-optional) → let n = c .before .before .before .before .before in let k = n .before .before .before in
@@ -105,6 +105,9 @@ unfolding Header-says
 returns-3 c =
     let k = c .before .before .before .before in
     rw (c .place .ensures) (cut-n _ _ (one k) (allowed k) (as-ends 65536 (c .before .enum-told .given .1) (c .before .before .before .read-field .ensures)))
+
+cast-bad-count : tie.Need-cast-bad-count
+cast-bad-count c = search needs
 
 bad-count-requires : tie.Need-bad-count-requires
 bad-count-requires c κs = search needs
@@ -209,6 +212,7 @@ read-header-spec =
     enum-told
     place-requires
     returns-3
+    cast-bad-count
     bad-count-requires
     returns-4
     stands-requires

@@ -5,11 +5,11 @@ use mathlib.Core.Path.{_≡_}
 use native.Mathlib.Omega.{arith}
 use borrow.Author.Tests.{not-true, not-false}
 use denote.Ref.{now}
-use Rattle.link_file.specs.Reading.{field}
+use Rattle.link_format.specs.Reading.{field}
 use Rattle.link_file.specs.Says.{Got, Wanted-says}
-use Rattle.link_file.proofs.Parts.{as-got, as-ends}
 use Rattle.link_file.proofs.HeaderWays.{wanted-absent, wanted-cut-count, wanted-many, wanted-cut, wanted-got}
 use Rattle.link_file.proofs.Nodes.{nodes-as-got, nodes-as-cut}
+use Rattle.link_file.proofs.Parts.{as-got, as-ends}
 use Rattle.link_file.proofs.header.read_wanted.Statement.{statement}
 use Rattle.link_file.proofs.header.read_wanted.Tie as tie
 

@@ -8,10 +8,10 @@ use native.Mathlib.Omega.{arith}
 use borrow.Author.Needs.{needs}
 use lib.ListN.{length, drop, length-drop}
 use Rattle.table.specs.Table.{Arc, most-arcs}
-use Rattle.link_file.specs.Reading.{read-records}
+use Rattle.link_format.specs.Reading.{read-records}
 use Rattle.link_file.specs.Says.{tally, arc-before, arc-of, Record-got}
-use Rattle.link_file.specs.declared.records.Counted.the-variants.{Arcs}
 use Rattle.link_file.proofs.Runs.{remaining, Standing, standing-next, run-none, run-full, run-refused, run-more, tally-more, part-is, answer-record, answer-refused}
+use Rattle.link_file.specs.declared.records.Counted.the-variants.{Arcs}
 use Rattle.link_file.proofs.records.count_records.Statement.{statement}
 use Rattle.link_file.proofs.records.count_records.Tie as tie
 

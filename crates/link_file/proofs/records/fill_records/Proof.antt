@@ -6,8 +6,8 @@ use borrow.Author.Needs.{needs}
 use lib.ListN.{length, drop, length-drop}
 use Rattle.table.specs.Table.{arc, most-arcs}
 use Rattle.link_file.specs.Says.{arc-before, arc-of, Record-got}
-use Rattle.link_file.proofs.Runs.{part-is, answer-record, answer-refused}
 use Rattle.link_file.proofs.Filling.{Filling, filling-begins, filling-next, filling-done, still-few, no-refusal-here}
+use Rattle.link_file.proofs.Runs.{part-is, answer-record, answer-refused}
 use Rattle.link_file.proofs.records.fill_records.Statement.{statement}
 use Rattle.link_file.proofs.records.fill_records.Tie as tie
 

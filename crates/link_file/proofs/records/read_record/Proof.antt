@@ -6,14 +6,14 @@ use Prim.Native.Nat.{ℕ, _+_, _<_}
 use native.Mathlib.Omega.{arith}
 use mathlib.Core.List.{List}
 use mathlib.Core.Option.{Option}
-use lib.ListN.{length, getD, drop}
+use lib.ListN.{getD, drop}
 use denote.Ref.{now}
 use Rattle.table.specs.Table.{Arc, arc}
-use Rattle.link_file.specs.Format.{has, record-bits}
-use Rattle.link_file.specs.Reading.{Reader, got, field, optional, implied, forbidden}
+use Rattle.link_format.specs.Format.{has, record-bits}
+use Rattle.link_format.specs.Reading.{Reader, got, field, optional, implied, forbidden}
 use Rattle.link_file.specs.Says.{Got, Field-says, Record-says, arc-before, arc-of, arc-implied}
-use Rattle.link_file.proofs.RecordWays.{refused-bits, cut-tail, cut-head, cut-length, refused-head, refused-needless, got-record}
 use Rattle.link_file.proofs.Parts.{as-got, as-ends, renamed, loose, first-byte}
+use Rattle.link_file.proofs.RecordWays.{refused-bits, cut-tail, cut-head, cut-length, refused-head, refused-needless, got-record}
 use borrow.Author.Needs.{needs}
 use Rattle.link_file.proofs.records.read_record.Statement.{statement}
 use Rattle.link_file.proofs.records.read_record.Tie as tie

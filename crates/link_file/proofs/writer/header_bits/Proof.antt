@@ -1,7 +1,7 @@
 -- `writer::header_bits` meets its contract: the canonical bit map of the format. Assumes nothing.
 use borrow.Author.Needs.{needs}
 use mathlib.Core.Path.{_∙_}
-use Rattle.link_file.specs.Format.{header-bits}
+use Rattle.link_format.specs.Format.{header-bits}
 use Rattle.link_file.proofs.writer.header_bits.Statement.{statement}
 use Rattle.link_file.proofs.writer.header_bits.Tie as tie
 

@@ -1,10 +1,10 @@
 -- `writer::write_header` meets its contract: the bit map and the fields are put one after the other, each with its room. Assumes nothing.
 use borrow.Author.Needs.{needs}
 use denote.Ref.{now}
-use Rattle.link_file.specs.Format.{has, field-bytes, header-bytes}
+use Rattle.link_format.specs.Format.{has, field-bytes, header-bytes}
 use Rattle.link_file.specs.Says.{Put}
-use Rattle.link_file.proofs.Pieces.{put-renamed, piece-room, put-kept}
 use Rattle.link_file.proofs.HeaderBytes.{byte-room, count-room, origin-room, wanted-room, put-header, list-renamed, list-room-renamed}
+use Rattle.link_file.proofs.Pieces.{put-renamed, piece-room, put-kept}
 use Rattle.link_file.proofs.writer.write_header.Statement.{statement}
 use Rattle.link_file.proofs.writer.write_header.Tie as tie
 

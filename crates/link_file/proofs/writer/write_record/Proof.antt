@@ -7,7 +7,7 @@ use native.Mathlib.Omega.{arith}
 use denote.Ref.{now}
 use lib.ListN.{length, set}
 use Rattle.table.specs.Table.{Arc, arc}
-use Rattle.link_file.specs.Format.{has, field-bytes, fields-bytes, record-bytes}
+use Rattle.link_format.specs.Format.{has, field-bytes, fields-bytes, record-bytes}
 use Rattle.link_file.specs.Says.{Put, arc-of, arc-before}
 use Rattle.link_file.proofs.Pieces.{put-renamed, piece-room, put-kept, room-by-bits, put-by-bits, room-tail, room-head, room-length, put-record}
 use Rattle.link_file.proofs.writer.write_record.Statement.{statement}

@@ -4,10 +4,10 @@ use native.Mathlib.Omega.{arith}
 use borrow.Author.Tests.{not-true, not-false}
 use denote.Ref.{now}
 use lib.ListN.{length}
-use Rattle.link_file.specs.Format.{bytes, nodes-bytes}
-use Rattle.link_file.proofs.Numbers.{length-bytes}
-use Rattle.link_file.proofs.Pieces.{put-then, room-first, room-rest}
+use Rattle.link_format.specs.Format.{bytes, nodes-bytes}
+use Rattle.link_format.proofs.Numbers.{length-bytes}
 use Rattle.link_file.proofs.HeaderBytes.{list-room, list-put, list-absent}
+use Rattle.link_file.proofs.Pieces.{put-then, room-first, room-rest}
 use Rattle.link_file.proofs.writer.write_wanted.Statement.{statement}
 use Rattle.link_file.proofs.writer.write_wanted.Tie as tie
 

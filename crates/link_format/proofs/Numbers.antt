@@ -6,11 +6,9 @@ use Prim.Native.Nat.{ℕ, zero, suc, _+_, _*_, _/_, _%_, _^_, _≤_, _<_}
 use native.Mathlib.Omega.{arith}
 use lib.ListN.{length, take, drop, getD}
 use lib.Seq.{drop-cons, getD-drop}
-use mir.Syntax.{Width}
-use mir.Val.{Fits, bits}
 use Rattle.table.specs.Table.{Below}
-use Rattle.link_file.specs.Format.{bytes}
-use Rattle.link_file.specs.Reading.{number}
+use Rattle.link_format.specs.Format.{bytes}
+use Rattle.link_format.specs.Reading.{number}
 
 -- one byte more, from the highest down
 pub number-more : (k j : ℕ) (part : List ℕ) → j < length part
@@ -58,8 +56,3 @@ three-bytes (suc zero) h = omega arith
 three-bytes (suc (suc zero)) h = omega arith
 three-bytes (suc (suc (suc zero))) h = omega arith
 three-bytes (suc (suc (suc (suc k)))) h = absurd (omega arith)
-
--- a column of a type's values is below the type's bound
-pub column-below : (w : Width) (xs : List ℕ) → ((i : ℕ) → Fits w (getD xs i 0)) → Below (2 ^ bits w) xs
-unfolding Below
-column-below w xs h = λ (i : ℕ). h i .fits

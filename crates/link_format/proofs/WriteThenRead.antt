@@ -3,22 +3,25 @@
 use mathlib.Core.Bool.{Bool, true, false, not, _||_}
 use mathlib.Core.List.{List, [], _∷_, _++_, append-assoc}
 use mathlib.Core.Option.{Option, none, some}
-use mathlib.Core.Path.{_≡_, refl, ap, sym, _∙_}
+use mathlib.Core.Path.{_≡_, refl, sym, _∙_}
 use Prim.Native.Nat.{ℕ, zero, suc, _+_, _^_, _≤_, _<_}
 use native.Mathlib.Nat.{zero-add, add-zero}
 use native.Mathlib.Omega.{arith}
 use lib.Dec.{eqb, ltb}
 use lib.ListN.{length, length-append}
 use lib.Seq.{drop-at}
-use borrow.Author.Tests.{le-leb, le-ltb, eq-eqb, ne-eqb, eqb-true, not-false}
+use borrow.Author.Tests.{le-leb, le-ltb, eq-eqb, eqb-true, not-false}
+use Rattle.table.specs.Refusals.{count-bad}
 use Rattle.table.specs.Table.{Arc, arc, Below, most-nodes, most-arcs, most-wanted}
-use Rattle.link_file.specs.Format.{content, bytes, bit-map, has, field-bytes, count-up, counts-from, all-nodes, nodes-bytes, wanted-bytes, header-bits, header-bytes, record-bits, fields-bytes, record-bytes, records-bytes, file-bytes}
-use Rattle.link_file.specs.Reading.{_>>_, _>>=_, got, after, give, here, refuse-if, number, field, optional, implied, forbidden, read-nodes, read-wanted, read-header, read-record, read-records, read-content, read-file}
-use Rattle.link_file.specs.Promises.{Small-arc, Small-arcs, Implied-where-absent, Written-tables-read-back}
-use Rattle.link_file.proofs.Booleans.{true-false, and-true-first, and-true-second}
-use Rattle.link_file.proofs.Numbers.{length-bytes, number-bytes}
-use Rattle.link_file.proofs.BitMaps.{made-of}
-use Rattle.link_file.proofs.Runs.{then, records-none, records-more}
+use Rattle.link_format.specs.Format.{content, bytes, bit-map, has, field-bytes, all-nodes, nodes-bytes, wanted-bytes, header-bits, header-bytes, record-bits, fields-bytes, record-bytes, records-bytes, file-bytes}
+use Rattle.link_format.specs.Promises.{Small-arc, Small-arcs, Implied-where-absent, Written-tables-read-back}
+use Rattle.link_format.specs.Reading.{_>>_, _>>=_, got, after, give, here, refuse-if, number, field, optional, implied, forbidden, read-nodes, read-wanted, read-header, read-record, read-records, read-content, read-file}
+use Rattle.link_format.proofs.AllNodes.{all-nodes-are}
+use Rattle.link_format.proofs.BitMaps.{made-of}
+use Rattle.link_format.proofs.Counts.{good-count}
+use Rattle.link_format.proofs.Numbers.{length-bytes, number-bytes}
+use Rattle.link_format.proofs.Records.{then, records-none, records-more}
+use Rattle.table.proofs.Basics.{not-both}
 
 -- a field
 field-again : (w v at : ℕ) (rest : List ℕ) → v < 256 ^ w → field w at (bytes w v ++ rest) ≡ got v (at + length (bytes w v)) rest
@@ -52,21 +55,6 @@ nodes-again (w ∷ ws) at rest small =
       sum,
     )
 
--- a list that is all nodes is the list of all nodes
-counts-up : (i : ℕ) (ws : List ℕ) → counts-from i ws ≡ true → ws ≡ count-up i (length ws)
-unfolding counts-from count-up
-counts-up i [] e = refl
-counts-up i (w ∷ ws) e =
-    let here-is : w ≡ i = eqb-true w i (and-true-first (eqb w i) (counts-from (suc i) ws) e) in
-    let more : ws ≡ count-up (suc i) (length ws) = counts-up (suc i) ws (and-true-second (eqb w i) (counts-from (suc i) ws) e) in
-    rw here-is (ap (λ (l : List ℕ). i ∷ l) more)
-
-all-nodes-are : (n : ℕ) (ws : List ℕ) → all-nodes n ws ≡ true → ws ≡ count-up 0 n
-unfolding all-nodes
-all-nodes-are n ws e =
-    let size : length ws ≡ n = eqb-true (length ws) n (and-true-first (eqb (length ws) n) (counts-from 0 ws) e) in
-    counts-up 0 ws (and-true-second (eqb (length ws) n) (counts-from 0 ws) e) ∙ rw size
-
 -- the wanted list
 wanted-again : (stands : Bool) (n : ℕ) (ws : List ℕ) (at : ℕ) (rest : List ℕ) → (stands ≡ false → all-nodes n ws ≡ true) → length ws ≤ most-wanted
     → Below 65536 ws → read-wanted stands n at (wanted-bytes stands ws ++ rest) ≡ got ws (at + length (wanted-bytes stands ws)) rest
@@ -92,11 +80,14 @@ canonical-allowed (some p) a = le-ltb 7 _ (made-of (not (eqb (a .tail) (p .tail)
 said : {b : Bool} (x y : ℕ) → b ≡ not (eqb x y) → b ≡ false → x ≡ y
 said x y e f = eqb-true x y (not-false (eqb x y) (sym e ∙ f))
 
+never : {X : Type 0} {b : Bool} → b ≡ true → b ≡ false → X
+never t f = absurd (not-both _ t f)
+
 pub canonical-implied : (before : Option Arc) (a : Arc) → Implied-where-absent before (record-bits before a) a
 unfolding record-bits implied arc
 canonical-implied none a =
     let made = made-of true true true in
-    record { tail-said = true-false (made .first-bit); head-said = true-false (made .second-bit); length-said = true-false (made .third-bit) }
+    record { tail-said = never (made .first-bit); head-said = never (made .second-bit); length-said = never (made .third-bit) }
 canonical-implied (some p) a =
     let made = made-of (not (eqb (a .tail) (p .tail))) (not (eqb (a .head) (p .head + 1))) (not (eqb (a .arc-length) (p .arc-length))) in
     record {
@@ -178,7 +169,7 @@ header-again n o ws at rest pos low small few fits =
     let y : List ℕ = field-bytes (has 2 bits) 2 o in
     let z : List ℕ = wanted-bytes (has 4 bits) ws in
     let sum : at + 1 + length x + length y + length z ≡ at + suc (length (x ++ (y ++ z))) = omega (arith, length-append x (y ++ z), length-append y z) in
-    let good : (eqb n 0 || ltb most-nodes n) ≡ false = rw (ne-eqb n 0 (omega arith), le-ltb most-nodes n low) in
+    let good : count-bad n ≡ false = good-count n pos low in
     rw (
       byte-again bits at ((x ++ (y ++ z)) ++ rest),
       header-allowed n o ws,

@@ -11,15 +11,16 @@ use native.Mathlib.Omega.{arith}
 use lib.Dec.{eqb, ltb}
 use lib.ListN.{length, drop, take-append-drop}
 use borrow.Author.Tests.{le-leb, lt-leb, ltb-false, eqb-true, not-false}
+use Rattle.table.specs.Refusals.{count-bad}
 use Rattle.table.specs.Table.{Arc, arc, Below, most-nodes, most-arcs, most-wanted}
-use Rattle.link_file.specs.Format.{Content, content, bytes, has, count-up, field-bytes, nodes-bytes, wanted-bytes, header-bits, header-bytes, record-bits, fields-bytes, record-bytes, records-bytes, file-bytes}
-use Rattle.link_file.specs.Reading.{_>>_, _>>=_, Outcome, Reader, got, refused, list-got, after, give, here, refuse-if, number, field, optional, implied, forbidden, read-nodes, read-wanted, read-header, read-record, read-records, read-content, read-file}
-use Rattle.link_file.specs.Promises.{Accepted-files-write-back}
-use Rattle.link_file.proofs.Booleans.{or-false-second}
-use Rattle.link_file.proofs.Nodes.{length-count-up}
-use Rattle.link_file.proofs.Whole.{few-records}
-use Rattle.link_file.proofs.Numbers.{bytes-number, below-drop}
-use Rattle.link_file.proofs.Parts.{got-value, got-rest, refused-got}
+use Rattle.link_format.specs.Format.{Content, content, bytes, has, count-up, field-bytes, nodes-bytes, wanted-bytes, header-bits, header-bytes, record-bits, fields-bytes, record-bytes, records-bytes, file-bytes}
+use Rattle.link_format.specs.Promises.{Accepted-files-write-back}
+use Rattle.link_format.specs.Reading.{_>>_, _>>=_, Outcome, Reader, got, refused, list-got, after, give, here, refuse-if, number, field, optional, implied, forbidden, read-nodes, read-wanted, read-header, read-record, read-records, read-content, read-file}
+use Rattle.link_format.proofs.AllNodes.{length-count-up}
+use Rattle.link_format.proofs.Counts.{few-nodes}
+use Rattle.link_format.proofs.Numbers.{bytes-number, below-drop}
+use Rattle.link_format.proofs.Outcomes.{got-value, got-rest, refused-got}
+use Rattle.link_format.proofs.Records.{few-records}
 
 -- What follows a step of a `do` block that got a value: the step got one too.
 module _ {B : Type 0} {b : B} {next : ℕ} {end : List ℕ} {P : Type 0} where
@@ -104,13 +105,13 @@ wanted-back true n at rest {ws} {next} {more} small low e =
 pub record Header-back (rest more : List ℕ) (t : Content) : Type 0 where
   pub bytes-are : rest ≡ header-bytes (t .n) (t .origin) (t .wanted) ++ more
   pub small : Below 256 more
-  pub fine : (eqb (t .n) 0 || ltb most-nodes (t .n)) ≡ false
+  pub fine : count-bad (t .n) ≡ false
   pub few : length (t .wanted) ≤ most-wanted
 
 -- the pieces of a header, and of a record, put together
 header-made : (bits n o : ℕ) (ws rest r₁ r₂ r₃ r₄ : List ℕ) {t : Content} {at next : ℕ} {more : List ℕ} → rest ≡ bits ∷ r₁ → r₁ ≡ bytes 2 n ++ r₂
     → r₂ ≡ field-bytes (has 2 bits) 2 o ++ r₃ → r₃ ≡ wanted-bytes (has 4 bits) ws ++ r₄ → Below 256 r₄ → bits ≡ header-bits n o ws
-    → (eqb n 0 || ltb most-nodes n) ≡ false → length ws ≤ most-wanted → got (content n o ws []) at r₄ ≡ got t next more → Header-back rest more t
+    → count-bad n ≡ false → length ws ≤ most-wanted → got (content n o ws []) at r₄ ≡ got t next more → Header-back rest more t
 unfolding header-bytes content
 header-made bits n o ws rest r₁ r₂ r₃ r₄ {t} {at} {next} {more} e₁ e₂ e₃ e₄ small same fine few e =
     let is : content n o ws [] ≡ t = got-value e in
@@ -147,13 +148,13 @@ header-back at rest {t} {next} {more} small e =
     byte-first at rest _ small e λ (bits : ℕ) (r₁ : List ℕ) e₁ s₁ k₁.
     passed (ltb 7 bits || not (has 1 bits)) 10 at (at + 1) r₁ _ k₁ λ ok₁ k₂.
     then-got (field 2 (at + 1) r₁) _ k₂ λ (n at₂ : ℕ) (r₂ : List ℕ) e₂ k₃.
-    passed (eqb n 0 || ltb most-nodes n) 1 0 at₂ r₂ _ k₃ λ ok₂ k₄.
+    passed (count-bad n) 1 0 at₂ r₂ _ k₃ λ ok₂ k₄.
     then-got (optional (has 2 bits) 2 0 at₂ r₂) _ k₄ λ (o at₃ : ℕ) (r₃ : List ℕ) e₃ k₅.
     then-got (read-wanted (has 4 bits) n at₃ r₃) _ k₅ λ (ws : List ℕ) (at₄ : ℕ) (r₄ : List ℕ) e₄ k₆.
     passed (not (eqb bits (header-bits n o ws))) 12 at at₄ r₄ _ k₆ λ ok₃ k₇.
     let f₂ = field-back 2 (at + 1) r₁ s₁ e₂ in
     let f₃ = optional-back (has 2 bits) 2 0 at₂ r₂ (f₂ .1) e₃ in
-    let f₄ = wanted-back (has 4 bits) n at₃ r₃ (f₃ .1) (ltb-false most-nodes n (or-false-second (eqb n 0) (ltb most-nodes n) ok₂)) e₄ in
+    let f₄ = wanted-back (has 4 bits) n at₃ r₃ (f₃ .1) (few-nodes ok₂) e₄ in
     header-made bits n o ws rest r₁ r₂ r₃ r₄ e₁ (f₂ .0) (f₃ .0) (f₄ .0) (f₄ .1) (eqb-true bits (header-bits n o ws) (not-false _ ok₃)) ok₂ (f₄ .2) k₇
 
 -- one record
@@ -191,7 +192,7 @@ records-back (suc k) before at (b ∷ rest) {arcs} small e =
 -- What an accepted file is: the bytes of its content, whose counts are good.
 pub record File-back (file : List ℕ) (t : Content) : Type 0 where
   pub bytes-are : file-bytes t ≡ file
-  pub fine : (eqb (t .n) 0 || ltb most-nodes (t .n)) ≡ false
+  pub fine : count-bad (t .n) ≡ false
   pub wanted-few : length (t .wanted) ≤ most-wanted
   pub arcs-few : length (t .arcs) ≤ most-arcs
 

@@ -9,8 +9,9 @@ use mathlib.Core.Option.{Option, none, some}
 use Prim.Native.Nat.{ℕ, zero, suc, _+_, _*_}
 use lib.Dec.{eqb, ltb, leb}
 use lib.ListN.{length, drop}
-use Rattle.table.specs.Table.{Arc, arc, most-nodes, most-arcs, most-wanted}
-use Rattle.link_file.specs.Format.{Content, content, last-head, has, count-up, header-bits, record-bits}
+use Rattle.table.specs.Refusals.{count-bad}
+use Rattle.table.specs.Table.{Arc, arc, most-arcs, most-wanted}
+use Rattle.link_format.specs.Format.{Content, content, last-head, has, count-up, header-bits, record-bits}
 
 pub data Outcome (A : Type 0) : Type 0 where
   got : (value : A) → (next : ℕ) → (rest : List ℕ) → Outcome A
@@ -86,7 +87,7 @@ read-header = do
   bits ← field 1
   refuse-if (ltb 7 bits || not (has 1 bits)) 10 start
   n ← field 2
-  refuse-if (eqb n 0 || ltb most-nodes n) 1 0
+  refuse-if (count-bad n) 1 0
   origin ← optional (has 2 bits) 2 0
   wanted ← read-wanted (has 4 bits) n
   refuse-if (not (eqb bits (header-bits n origin wanted))) 12 start

@@ -3,8 +3,8 @@ use mathlib.Core.List.{List, [], _∷_}
 use mathlib.Core.Path.{_≡_}
 use Prim.Native.Nat.{ℕ}
 use Rattle.table.specs.Table.{arc}
-use Rattle.link_file.specs.Format.{Content, content, file-bytes}
-use Rattle.link_file.specs.Reading.{got, refused, read-file}
+use Rattle.link_format.specs.Format.{Content, content, file-bytes}
+use Rattle.link_format.specs.Reading.{got, refused, read-file}
 
 -- 01's input of `routes`: 05 0400 0100 0300; 07 0000 0100 02000000; 04 05000000; 07 0100 0200 03000000; 05 0200 01000000; 07 0100 0300 09000000
 abbrev pub example-file : List ℕ

@@ -1,0 +1,11 @@
+pub mod Numbers
+pub mod AllNodes
+pub mod BitMaps
+pub mod Counts
+pub mod ArcColumns
+pub mod Outcomes
+pub mod Records
+pub mod ReadThenWrite
+pub mod WriteThenRead
+pub mod Unrefused
+pub mod Rows

@@ -1,0 +1,5 @@
+pub mod Format
+pub mod Reading
+pub mod Buffers
+pub mod Promises
+pub mod Rows

@@ -1,0 +1,72 @@
+-- Which lines of a sheet are still to come from a cursor, and what the functions that put one line of it say. Assumes nothing: these are definitions.
+use mathlib.Core.Path.{_≡_}
+use mathlib.Core.Bool.{Bool, true, false}
+use mathlib.Core.List.{List, [], _∷_, _++_}
+use mathlib.Core.Logic.{_⊎_}
+use Prim.Native.Nat.{ℕ, _+_, _*_, _-_, _≤_, _<_}
+use lib.ListN.{length}
+use Rattle.table.specs.Table.{most-nodes}
+use Rattle.planner.specs.declared.Planned.{Planned}
+use Rattle.planner.specs.Plan.{answered}
+use Rattle.sheet.specs.Sheet.{Finished, finished, node-count, has-distance, has-path, passing, path-nodes, node-lines, path-lines, from-counts, from-reached, sheet}
+use Rattle.printer.specs.declared.lines.Cursor.{Cursor}
+use Rattle.printer.specs.declared.lines.Cursor.the-variants.{Start, Reached, Counts, Node, Path, End}
+use Rattle.printer.specs.declared.lines.Line.{Line}
+use Rattle.printer.specs.declared.lines.Line.the-variants.{Put, Last}
+use Rattle.printer.specs.Buffers.{Begins}
+
+-- what is printed, as the code has it: the answer and the columns. A sheet does not show the marks.
+unfoldable pub printing : Planned → (origin : ℕ) → (tails heads wanted distances prices tree : List ℕ) → Finished
+printing a o ts hs ws ds ps tr = finished o ts hs ws (answered a ds ps tr [])
+
+-- the lines from the line of a node on, and from the path line of a node on
+unfoldable pub paths-from : Finished → (v : ℕ) → List (List ℕ)
+paths-from p v = path-lines p (passing (has-path (p .answer .distances) (p .wanted)) (node-count (p .answer .distances) - v) v)
+
+unfoldable pub nodes-from : Finished → (v : ℕ) → List (List ℕ)
+nodes-from p v =
+    node-lines p (passing (has-distance (p .answer .distances)) (node-count (p .answer .distances) - v) v) ++ path-lines p (path-nodes p)
+
+-- THE LINES STILL TO COME from a cursor
+unfoldable pub rest : Finished → Cursor → List (List ℕ)
+rest p Start = sheet p
+rest p Reached = from-reached p
+rest p Counts = from-counts p
+rest p (Node v) = nodes-from p v
+rest p (Path v) = paths-from p v
+rest p End = []
+
+-- how many bytes a number, the nodes of a path and a line have at the most
+abbrev pub most-digits : ℕ
+most-digits = 20
+
+abbrev pub most-path : ℕ
+most-path = most-nodes * (1 + most-digits)
+
+abbrev pub line-room : ℕ
+line-room = 32768
+
+-- A line was put at the start of a buffer: the next of those to come, which has at least its line end, and the cursor given back leads to the rest of them.
+pub record Puts (p : Finished) (line : List ℕ) (later : List (List ℕ)) (answer : Line) (before after : List ℕ) : Type 0 where
+  pub count : ℕ
+  pub next : Cursor
+  pub put : answer ≡ Put count next
+  pub begins : Begins line before after count
+  pub some : 0 < count
+  pub leads : rest p next ≡ later
+
+-- What putting a line does, where these lines are to come: past the last of them nothing is put.
+unfoldable pub Gives : Finished → (lines : List (List ℕ)) → Line → (before after : List ℕ) → Type 0
+Gives p [] r b a = (r ≡ Last) × (a ≡ b)
+Gives p (l ∷ later) r b a = Puts p l later r b a
+
+-- the first node from v on that passes a test, n where there is none
+pub record First-passing (test : ℕ → Bool) (n v u : ℕ) : Type 0 where
+  pub low : u ≤ n
+  pub same : passing test (n - v) v ≡ passing test (n - u) u
+  pub passes : u < n → test u ≡ true
+
+-- the lesser of the node found so far and another one, which counts where it has a distance and is not before `from`
+pub record Lesser (distances : List ℕ) (from found v r : ℕ) : Type 0 where
+  pub either : (r ≡ found) ⊎ ((r ≡ v) × (from ≤ v) × (v < found) × (has-distance distances v ≡ true))
+  pub least : from ≤ v → v < r → has-distance distances v ≡ false

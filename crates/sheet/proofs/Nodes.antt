@@ -1,0 +1,75 @@
+-- How often a node stands among those that pass a test, and which nodes have a distance. Assumes nothing.
+use mathlib.Core.Path.{_≡_, refl, sym, ap, ap₂, _∙_}
+use mathlib.Core.Bool.{Bool, true, false, not}
+use mathlib.Core.List.{List, [], _∷_, map}
+use mathlib.Core.Logic.{⊎-elim}
+use Prim.Native.Nat.{ℕ, zero, suc, _+_, _≤_, _<_}
+use native.Mathlib.Omega.{arith}
+use lib.ListN.{length, getD}
+use borrow.Author.Tests.{eq-eqb, ne-eqb, eqb-false, not-true}
+use Rattle.table.specs.Table.{no-distance}
+use Rattle.table.proofs.Basics.{same-or, below-or, true-or, not-both}
+use Rattle.auction.specs.HandOver.{Answer}
+use Rattle.auction.specs.Demands.{Given, distance-of}
+use Rattle.sheet.specs.Sheet.{passing, with-node, has-distance}
+use Rattle.sheet.specs.Promises.{occurrences}
+
+module _ (f : ℕ → Bool) (v : ℕ) where
+  -- among the nodes from a on
+  pub absent : (k a : ℕ) → (a ≤ v → v < a + k → f v ≡ false) → occurrences v (passing f k a) ≡ 0
+  unfolding passing with-node occurrences
+  absent zero a h = refl
+  absent (suc k) a h =
+      let later = absent k (suc a) (λ p q. h (omega arith) (omega arith)) in
+      ⊎-elim
+      (λ (t : f a ≡ true).
+      let apart : a ≡ v → ⊥ = λ e. not-both (f v) (ap f (sym e) ∙ t) (h (omega arith) (omega arith)) in
+      rw (t, ne-eqb a v apart) (omega (arith, later)))
+      (λ (t : f a ≡ false). rw t later)
+      (true-or (f a))
+
+  pub present : (k a : ℕ) → a ≤ v → v < a + k → f v ≡ true → occurrences v (passing f k a) ≡ 1
+  unfolding passing with-node occurrences
+  present zero a p q t = absurd (omega arith)
+  present (suc k) a p q t =
+      ⊎-elim
+      (λ (e : a ≡ v). rw (ap f e ∙ t, eq-eqb a v e) (omega (arith, absent k (suc a) (λ x y. absurd (omega arith)))))
+      (λ (d : a ≡ v → ⊥).
+      let later = present k (suc a) (omega arith) (omega arith) t in
+      ⊎-elim (λ (u : f a ≡ true). rw (u, ne-eqb a v d) (omega (arith, later))) (λ (u : f a ≡ false). rw u later) (true-or (f a)))
+      (same-or a v)
+
+-- two functions that agree on the nodes that pass give the same lines
+pub agree : (f : ℕ → Bool) (g h : ℕ → List ℕ) → ((v : ℕ) → f v ≡ true → g v ≡ h v) → (k a : ℕ) → map g (passing f k a) ≡ map h (passing f k a)
+unfolding passing with-node
+agree f g h same zero a = refl
+agree f g h same (suc k) a =
+    let later = agree f g h same k (suc a) in
+    ⊎-elim (λ (t : f a ≡ true). rw t (ap₂ (λ (l : List ℕ) (ls : List (List ℕ)). l ∷ ls) (same a t) later)) (λ (t : f a ≡ false). rw t later) (true-or (f a))
+
+-- past its end a list has only what stands for nothing
+pub outside : (l : List ℕ) (i d : ℕ) → length l ≤ i → getD l i d ≡ d
+outside [] i d h = refl
+outside (x ∷ l) zero d h = absurd (omega arith)
+outside (x ∷ l) (suc i) d h = outside l i d (omega arith)
+
+-- a node has a distance exactly where it was given a walk, and then it is a node
+module _ (a : Answer) (v : ℕ) where
+  pub given-has : Given a v → has-distance (a .distances) v ≡ true
+  unfolding Given distance-of has-distance
+  given-has g = ap not (ne-eqb (getD (a .distances) v no-distance) no-distance g)
+
+  pub has-given : has-distance (a .distances) v ≡ true → Given a v
+  unfolding Given distance-of has-distance
+  has-given h = eqb-false (getD (a .distances) v no-distance) no-distance (not-true _ h)
+
+  pub not-given : (Given a v → ⊥) → has-distance (a .distances) v ≡ false
+  not-given d =
+      ⊎-elim (λ (t : has-distance (a .distances) v ≡ true). absurd (d (has-given t))) (λ (t : has-distance (a .distances) v ≡ false). t)
+      (true-or (has-distance (a .distances) v))
+
+  pub given-low : Given a v → v < length (a .distances)
+  unfolding Given distance-of
+  given-low g =
+      ⊎-elim (λ (h : v < length (a .distances)). h) (λ (h : length (a .distances) ≤ v). absurd (g (outside (a .distances) v no-distance h)))
+      (below-or v (length (a .distances)))
