@@ -17,8 +17,8 @@ use Rattle.auction.specs.Demands.{distance-of, price-of, link-of, walk-o
 use Rattle.table.proofs.Basics.{same-or, true-or, below-or, not-both, some-none, some-same}
 use Rattle.auction.proofs.Sums.{column, past-column}
 use Rattle.auction.proofs.Good.{Good, good}
-use Rattle.auction.proofs.Effects.{estimate, status-in, reached-status, status-reached}
-use Rattle.auction.proofs.Sound.{Sound}
+use Rattle.auction.proofs.Steps.Effects.{estimate, status-in, reached-status, status-reached}
+use Rattle.auction.proofs.Invariant.Sound.{Sound}
 use Rattle.auction.proofs.Walks.{kept-link, tree-origin}
 use Rattle.auction.proofs.Promised.{walk-shortest, walk-given, prices-fit, prices-show, route-to-all, no-route, few-iterations, fewer-iterations, ends-by-itself, iterations-counted, earliest-link, invariant}
 

@@ -1,23 +1,16 @@
-pub mod Answers
-pub mod Sums
+-- tables, walks, and columns of numbers
 pub mod Good
-pub mod Effects
-pub mod Offers
-pub mod Sound
-pub mod Reaching
-pub mod Bids
-pub mod Potential
-pub mod Stages
-pub mod Counting
-pub mod Steps
-pub mod Contracting
-pub mod Deleting
-pub mod Extending
-pub mod Starting
-pub mod Run
 pub mod Back
+pub mod Sums
+-- steps, the invariant that they keep, and the run
+pub mod Steps
+pub mod Invariant
+pub mod Run
+-- what a sound state says of walks, and the promises
 pub mod Walks
 pub mod Promised
 pub mod Demanded
 pub mod Made
 pub mod Stability
+-- the test rack
+pub mod Answers

@@ -15,11 +15,11 @@ use Rattle.auction.specs.HandOver.{prices, first-missing}
 use Rattle.auction.specs.Promises.{Promises, last-state, route, price, link, Walk-shortest, Walk-given, Prices-fit, equal-along, Prices-show, Has-walk, No-walk, First-without-walk, Route-to-all, No-route, Few-iterations, Fewer-iterations, Ends-by-itself, Iterations-counted, Attains, Earliest-link, Never-above, Distances-stay, Ascending, Small-distances, Small-sums}
 use Rattle.table.proofs.Basics.{true-or, both-true, true-both, some-none, not-both}
 use Rattle.auction.proofs.Good.{Good, good, unrefused-is-table, table-is-unrefused, longest-of-32-bits, lengths-of-32-bits}
-use Rattle.auction.proofs.Effects.{estimate, known-distance, reached-status, status-reached, unreached-status}
-use Rattle.auction.proofs.Bids.{Child, no-child, best-bid}
-use Rattle.auction.proofs.Sound.{Sound, reached-low}
-use Rattle.auction.proofs.Counting.{Invariant, few, fewer}
-use Rattle.auction.proofs.Steps as steps
+use Rattle.auction.proofs.Steps.Effects.{estimate, known-distance, reached-status, status-reached, unreached-status}
+use Rattle.auction.proofs.Steps.Bids.{Child, no-child, best-bid}
+use Rattle.auction.proofs.Invariant.Sound.{Sound, reached-low}
+use Rattle.auction.proofs.Invariant.Counting.{Invariant, few, fewer}
+use Rattle.auction.proofs.Invariant.Terminal as at-terminal
 use Rattle.auction.proofs.Run.{Finish, finish, passed, stepped}
 use Rattle.auction.proofs.Walks.{All, prices-fit-at, prices-equal, origin-price, no-shorter, kept-link, returned-walk, returned-short, returned-long, returned-links, earliest, walk-reached}
 
@@ -262,7 +262,7 @@ pub never-above : Never-above
 unfolding Never-above
 never-above t k x b e p q =
     let i = passed t (good t [] e) k x p .0 in
-    steps.never-above (i .sound .nodes) (terminal x) b (best-bid t (terminal x) x b q)
+    at-terminal.never-above (i .sound .nodes) (terminal x) b (best-bid t (terminal x) x b q)
 
 pub distances-stay : Distances-stay
 unfolding Distances-stay

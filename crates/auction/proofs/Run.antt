@@ -13,15 +13,15 @@ use Rattle.table.specs.Table.{Table, arc-count, head-at, is-table, longest}
 use Rattle.auction.specs.Auction.{State, Bid, price-at, kept-at, distance, terminal, best, deletion, contraction, extension, iteration, next, go-on, run, ended, all-reached, start, auction, after, then-next, iterations, most-iterations}
 use Rattle.table.proofs.Basics.{same-or, true-or, option-or, some-none, some-same}
 use Rattle.auction.proofs.Good.{Good, good}
-use Rattle.auction.proofs.Effects.{estimate, status-in}
-use Rattle.auction.proofs.Bids.{best-bid}
-use Rattle.auction.proofs.Sound.{Nodes, Chain, chain-status}
-use Rattle.auction.proofs.Counting.{Invariant, Stepped, path-short, few}
-use Rattle.auction.proofs.Steps.{never-above}
-use Rattle.auction.proofs.Contracting.{by-contraction}
-use Rattle.auction.proofs.Deleting.{by-deletion}
-use Rattle.auction.proofs.Extending.{by-extension}
-use Rattle.auction.proofs.Starting.{started, started-iterations}
+use Rattle.auction.proofs.Steps.Effects.{estimate, status-in}
+use Rattle.auction.proofs.Steps.Bids.{best-bid}
+use Rattle.auction.proofs.Invariant.Sound.{Nodes, Chain, chain-status}
+use Rattle.auction.proofs.Invariant.Counting.{Invariant, Stepped, path-short, few}
+use Rattle.auction.proofs.Invariant.Terminal.{never-above}
+use Rattle.auction.proofs.Invariant.Contracting.{by-contraction}
+use Rattle.auction.proofs.Invariant.Deleting.{by-deletion}
+use Rattle.auction.proofs.Invariant.Extending.{by-extension}
+use Rattle.auction.proofs.Invariant.Starting.{started, started-iterations}
 
 -- ONE ITERATION keeps the invariant
 module _ (t : Table) (g : Good t) (x : State) (i : Invariant t x) where

@@ -16,9 +16,9 @@ use Rattle.table.proofs.Basics.{same-or, below-or, true-or, true-both, option-o
 use Rattle.auction.proofs.Sums.{column, past-column, greatest-bound, greatest-least}
 use Rattle.auction.proofs.Good.{Good}
 use Rattle.auction.proofs.Back.{first, at-origin, one-back}
-use Rattle.auction.proofs.Effects.{known-distance, reached-status, status-reached, unreached-status, status-in}
-use Rattle.auction.proofs.Bids.{Child}
-use Rattle.auction.proofs.Sound.{Kept-arc, Nodes, Sound, reached-bounded, unreached-far, reached-low}
+use Rattle.auction.proofs.Steps.Effects.{known-distance, reached-status, status-reached, unreached-status, status-in}
+use Rattle.auction.proofs.Steps.Bids.{Child}
+use Rattle.auction.proofs.Invariant.Sound.{Kept-arc, Nodes, Sound, reached-bounded, unreached-far, reached-low}
 
 -- what holds of every position of a list
 unfoldable pub All : (ℕ → Type 0) → List ℕ → Type 0

@@ -14,8 +14,8 @@ use Rattle.auction.specs.Auction.{State, state, bid, best, next, iteration, ter
 use Rattle.auction.specs.HandOver.{first-missing}
 use Rattle.table.proofs.Basics.{same-or, true-or}
 use Rattle.auction.proofs.Good.{wanted-in}
-use Rattle.auction.proofs.Effects.{reached-status, status-reached, known-distance}
-use Rattle.auction.proofs.Bids.{best-bid}
+use Rattle.auction.proofs.Steps.Effects.{reached-status, status-reached, known-distance}
+use Rattle.auction.proofs.Steps.Bids.{best-bid}
 use Rattle.auction.proofs.Run.{Running, begins, goes-on, done, stuck, stepped}
 use Rattle.solver.specs.declared.state.Progress.{Progress}
 use Rattle.solver.specs.Seen.{bound-of, bid-of, seen, Sized, greatest-sum}

@@ -13,13 +13,13 @@ use Rattle.auction.specs.HandOver.{reached-count}
 use Rattle.table.proofs.Basics.{same-or, true-or, some-none}
 use Rattle.auction.proofs.Sums.{total-le, total-same}
 use Rattle.auction.proofs.Good.{Good}
-use Rattle.auction.proofs.Effects.{Sizes, Same, estimate, same-distance, same-estimate, Restatused, restatused, longer-same, longer-sizes, kept-below, reached-status, unreached-status}
-use Rattle.auction.proofs.Bids.{Child, Best}
-use Rattle.auction.proofs.Sound.{Relaxed, Relaxed-to, Nodes, Chain, Link, Sound, path-moves, top-status, top-estimate, same-reached, one-more-reached}
-use Rattle.auction.proofs.Reaching.{Reaching, Offered, all-offered}
-use Rattle.auction.proofs.Potential.{slack, slack-falls, stages, reach-potential}
-use Rattle.auction.proofs.Counting.{Counts, Stepped, one-if-deleted, undeleted-none, same-deleted}
-use Rattle.auction.proofs.Steps.{bid-estimate, child-depth, never-above}
+use Rattle.auction.proofs.Steps.Effects.{Sizes, Same, estimate, same-distance, same-estimate, Restatused, restatused, longer-same, longer-sizes, kept-below, reached-status, unreached-status}
+use Rattle.auction.proofs.Steps.Bids.{Child, Best}
+use Rattle.auction.proofs.Invariant.Sound.{Relaxed, Relaxed-to, Nodes, Chain, Link, Sound, path-moves, top-status, top-estimate, same-reached, one-more-reached}
+use Rattle.auction.proofs.Invariant.Reaching.{Reaching, Offered, all-offered}
+use Rattle.auction.proofs.Invariant.Potential.{slack, slack-falls, stages, reach-potential}
+use Rattle.auction.proofs.Invariant.Counting.{Counts, Stepped, one-if-deleted, undeleted-none, same-deleted}
+use Rattle.auction.proofs.Invariant.Terminal.{bid-estimate, child-depth, never-above}
 
 -- the invariant speaks of the nodes alone
 nodes-alike : {t : Table} {x y : State} {dep : ℕ → ℕ} → ((v : ℕ) → Same x y v) → Sizes t y → Nodes t x dep → Nodes t y dep

@@ -9,7 +9,7 @@ use borrow.Author.Tests.{ltb-true, ltb-false, eqb-true, eq-eqb, not-true}
 use Rattle.table.specs.Table.{Table, tail-at, head-at, length-at}
 use Rattle.auction.specs.Auction.{State, bound-at, kept-at, status-at, distance, or-zero, was-reached, improves, takes, unreached}
 use Rattle.table.proofs.Basics.{either-true, either-false, true-or, both-true, not-both, option-or}
-use Rattle.auction.proofs.Effects.{reached-status, unreached-status}
+use Rattle.auction.proofs.Steps.Effects.{reached-status, unreached-status}
 
 both-false : (a b : Bool) → (a && b) ≡ false → a ≡ true → b ≡ false
 both-false a b e h = subst (λ (c : Bool). (c && b) ≡ false) h e

@@ -19,7 +19,7 @@ use Rattle.auction.specs.Auction.{State, price-at, bound-at, kept-at, st
 use Rattle.auction.specs.HandOver.{reached-count}
 use Rattle.table.proofs.Basics.{same-or, option-or}
 use Rattle.auction.proofs.Sums.{total, total-same, total-le, total-const, total-one, only-at, only-same, only-other}
-use Rattle.auction.proofs.Effects.{Sizes, Same, estimate, same-estimate, known-distance, status-reached, status-unreached}
+use Rattle.auction.proofs.Steps.Effects.{Sizes, Same, estimate, same-estimate, known-distance, status-reached, status-unreached}
 
 -- K IS V'S KEPT ARC
 pub record Kept-arc (t : Table) (x : State) (dep : ℕ → ℕ) (v k : ℕ) : Type 0 where

@@ -10,12 +10,12 @@ use Rattle.auction.specs.HandOver.{reached-count}
 use Rattle.table.proofs.Basics.{same-or}
 use Rattle.auction.proofs.Sums.{total-le, total-same, total-one, only-at, only-same, only-other}
 use Rattle.auction.proofs.Good.{Good}
-use Rattle.auction.proofs.Effects.{Same, estimate, same-distance, Restatused, deletion-effect, status-in}
-use Rattle.auction.proofs.Bids.{no-child}
-use Rattle.auction.proofs.Sound.{Live-arc, Nodes, Sound, top-status, as-reached}
-use Rattle.auction.proofs.Potential.{slack, slack-falls, stages}
-use Rattle.auction.proofs.Counting.{Counts, Stepped, one-if-deleted, deleted-one, undeleted-none, same-deleted}
-use Rattle.auction.proofs.Steps.{shorter, pop}
+use Rattle.auction.proofs.Steps.Effects.{Same, estimate, same-distance, Restatused, deletion-effect, status-in}
+use Rattle.auction.proofs.Steps.Bids.{no-child}
+use Rattle.auction.proofs.Invariant.Sound.{Live-arc, Nodes, Sound, top-status, as-reached}
+use Rattle.auction.proofs.Invariant.Potential.{slack, slack-falls, stages}
+use Rattle.auction.proofs.Invariant.Counting.{Counts, Stepped, one-if-deleted, deleted-one, undeleted-none, same-deleted}
+use Rattle.auction.proofs.Invariant.Terminal.{shorter, pop}
 
 -- A DELETION at the terminal node v, which is not the origin and has no children
 module _ (t : Table) (g : Good t) (x : State) (dep : ℕ → ℕ) (s : Sound t x dep) (k : Counts t x dep) (childless : best t (terminal x) x ≡ none)

@@ -17,8 +17,8 @@ use Rattle.auction.specs.Auction.{State, kept-at, status-at, is-deleted,
 use Rattle.auction.specs.HandOver.{reached-count}
 use Rattle.table.proofs.Basics.{same-or, true-or, both-true, option-or}
 use Rattle.auction.proofs.Sums.{total, total-le, total-add, total-scale, total-const}
-use Rattle.auction.proofs.Effects.{estimate, deleted-status, undeleted-status}
-use Rattle.auction.proofs.Sound.{Nodes, reached-low, one-if-reached, reached-one, unreached-none, reached-total}
+use Rattle.auction.proofs.Steps.Effects.{estimate, deleted-status, undeleted-status}
+use Rattle.auction.proofs.Invariant.Sound.{Nodes, reached-low, one-if-reached, reached-one, unreached-none, reached-total}
 
 -- a node is loose where it is not deleted and its estimate is above that of its kept arc's tail
 unfoldable pub loose : Table → State → (v : ℕ) → Option ℕ → Bool

@@ -4,7 +4,7 @@ use Prim.Native.Nat.{ℕ, zero, suc, _+_, _*_, _-_, _/_, _≤_}
 use native.Mathlib.Omega.{arith}
 use native.Mathlib.Nat.{mul-add, mul-suc, suc-mul, mul-zero, mul-comm, mul-assoc, add-mul}
 use Rattle.auction.specs.Auction.{most-iterations}
-use Rattle.auction.proofs.Potential.{stages}
+use Rattle.auction.proofs.Invariant.Potential.{stages}
 
 -- squares and cubes of a successor
 square-suc : (r : ℕ) → suc r * suc r ≡ r * r + (r + suc r)

@@ -13,9 +13,9 @@ use Rattle.auction.specs.HandOver.{reached-count}
 use Rattle.table.proofs.Basics.{same-or}
 use Rattle.auction.proofs.Sums.{total, total-le, total-const, total-one, only-at, only-same, only-other}
 use Rattle.auction.proofs.Good.{Good}
-use Rattle.auction.proofs.Sound.{Sound, top-status, reached-low}
-use Rattle.auction.proofs.Potential.{slack, stages}
-use Rattle.auction.proofs.Stages.{stages-most, sharper, demanded}
+use Rattle.auction.proofs.Invariant.Sound.{Sound, top-status, reached-low}
+use Rattle.auction.proofs.Invariant.Potential.{slack, stages}
+use Rattle.auction.proofs.Invariant.Stages.{stages-most, sharper, demanded}
 
 -- 1 for a deleted node, else 0
 unfoldable pub one-if-deleted : State → (v : ℕ) → ℕ

@@ -12,12 +12,12 @@ use Rattle.auction.specs.Auction.{State, Bid, state, price-at, kept-at, 
 use Rattle.table.proofs.Basics.{same-or}
 use Rattle.auction.proofs.Sums.{total, total-same, total-trade}
 use Rattle.auction.proofs.Good.{Good}
-use Rattle.auction.proofs.Effects.{estimate, same-distance, same-estimate, Repriced, repriced, status-in}
-use Rattle.auction.proofs.Bids.{Child, Best}
-use Rattle.auction.proofs.Sound.{Relaxed, Live-arc, Nodes, Chain, Sound, top-status, same-reached}
-use Rattle.auction.proofs.Potential.{slack, slack-low, slack-tight, slack-loose, slack-falls, stages}
-use Rattle.auction.proofs.Counting.{Counts, Stepped, one-if-deleted, same-deleted}
-use Rattle.auction.proofs.Steps.{shorter, pop, alone, bid-estimate, child-depth}
+use Rattle.auction.proofs.Steps.Effects.{estimate, same-distance, same-estimate, Repriced, repriced, status-in}
+use Rattle.auction.proofs.Steps.Bids.{Child, Best}
+use Rattle.auction.proofs.Invariant.Sound.{Relaxed, Live-arc, Nodes, Chain, Sound, top-status, same-reached}
+use Rattle.auction.proofs.Invariant.Potential.{slack, slack-low, slack-tight, slack-loose, slack-falls, stages}
+use Rattle.auction.proofs.Invariant.Counting.{Counts, Stepped, one-if-deleted, same-deleted}
+use Rattle.auction.proofs.Invariant.Terminal.{shorter, pop, alone, bid-estimate, child-depth}
 
 -- A CONTRACTION at the terminal node v
 module _ (t : Table) (g : Good t) (x : State) (dep : ℕ → ℕ) (s : Sound t x dep) (k : Counts t x dep) (b : Bid)

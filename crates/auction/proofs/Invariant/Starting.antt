@@ -13,11 +13,11 @@ use Rattle.auction.specs.HandOver.{reached-count}
 use Rattle.table.proofs.Basics.{same-or, some-none}
 use Rattle.auction.proofs.Sums.{total-same, total-const}
 use Rattle.auction.proofs.Good.{Good}
-use Rattle.auction.proofs.Effects.{Sizes, estimate, known-distance, zero-distance, Restatused, restatused}
-use Rattle.auction.proofs.Sound.{Relaxed-to, Nodes, Chain, Sound, same-reached, one-more-reached, one-if-reached, reached-total, unreached-none}
-use Rattle.auction.proofs.Reaching.{Reaching, Offered, all-offered}
-use Rattle.auction.proofs.Potential.{slack, slack-unkept, stages, reach-potential}
-use Rattle.auction.proofs.Counting.{Counts, Invariant, one-if-deleted, undeleted-none}
+use Rattle.auction.proofs.Steps.Effects.{Sizes, estimate, known-distance, zero-distance, Restatused, restatused}
+use Rattle.auction.proofs.Invariant.Sound.{Relaxed-to, Nodes, Chain, Sound, same-reached, one-more-reached, one-if-reached, reached-total, unreached-none}
+use Rattle.auction.proofs.Invariant.Reaching.{Reaching, Offered, all-offered}
+use Rattle.auction.proofs.Invariant.Potential.{slack, slack-unkept, stages, reach-potential}
+use Rattle.auction.proofs.Invariant.Counting.{Counts, Invariant, one-if-deleted, undeleted-none}
 
 -- a list of one value has no other, also past its end
 blank : {A : Type 0} {a : A} (n i : ℕ) → getD (replicate n a) i a ≡ a

@@ -10,7 +10,7 @@ use borrow.Author.Tests.{leb-true, leb-false, eqb-true, eq-eqb, not-true}
 use Rattle.table.specs.Table.{Table, arc-count, tail-at, head-at, length-at}
 use Rattle.auction.specs.Auction.{State, Bid, bid, price-at, kept-at, status-at, is-kept, is-deleted, to-child, lower-bid, with-bid, best-from, best, deleted}
 use Rattle.table.proofs.Basics.{same-or, true-or, both-true, not-both}
-use Rattle.auction.proofs.Effects.{undeleted-status, deleted-status}
+use Rattle.auction.proofs.Steps.Effects.{undeleted-status, deleted-status}
 
 -- the arc at a position leads from v to a child of it
 pub record Child (t : Table) (v i : ℕ) (x : State) : Type 0 where

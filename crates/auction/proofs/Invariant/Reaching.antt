@@ -12,9 +12,9 @@ use Rattle.table.specs.Table.{Table, arc-count, tail-at, head-at, length-at, lo
 use Rattle.auction.specs.Auction.{State, state, price-at, bound-at, kept-at, status-at, distance, or-zero, terminal, takes, with-kept, offer, offers, unreached, reached, deleted}
 use Rattle.table.proofs.Basics.{same-or, true-or, option-or, some-none, some-same}
 use Rattle.auction.proofs.Good.{Good}
-use Rattle.auction.proofs.Effects.{Same, estimate, same-distance, same-estimate, known-distance, Rehung, rehung}
-use Rattle.auction.proofs.Offers.{Taken, No-better, taken, dropped}
-use Rattle.auction.proofs.Sound.{Kept-arc, Relaxed, Live-arc, Nodes, Relaxed-to, Chain, reached-bounded, top-status, path-moves, same-reached, reached-low}
+use Rattle.auction.proofs.Steps.Effects.{Same, estimate, same-distance, same-estimate, known-distance, Rehung, rehung}
+use Rattle.auction.proofs.Steps.Offers.{Taken, No-better, taken, dropped}
+use Rattle.auction.proofs.Invariant.Sound.{Kept-arc, Relaxed, Live-arc, Nodes, Relaxed-to, Chain, reached-bounded, top-status, path-moves, same-reached, reached-low}
 
 -- a depth that changes at one node
 unfoldable pub depth-at : (u d : ℕ) → (ℕ → ℕ) → (v : ℕ) → ℕ
