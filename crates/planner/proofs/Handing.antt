@@ -19,9 +19,8 @@ use Rattle.solver.specs.declared.state.Progress.{Progress}
 use Rattle.solver.specs.Seen.{seen, arc-of}
 use Rattle.solver.specs.Steps.{Ran}
 use Rattle.solver.proofs.Arrays.{seen-status, seen-distance, seen-kept, some-arc, no-kept}
-use Rattle.planner.specs.declared.grounds.Fault.{Fault}
 use Rattle.auction.specs.Plan.{routes-of}
-use Rattle.planner.specs.Lent.{Known, Ends, refusal-of}
+use Rattle.planner.specs.Lent.{Known, Ends}
 use Rattle.planner.proofs.Entries.{entries-same}
 
 -- one entry each, as the code makes it
@@ -129,23 +128,23 @@ at-most-one true = omega arith
 at-most-one false = omega arith
 
 -- THE WHOLE ANSWER
-fault-so : (t : Table) (ws : List ℕ) (missing : ℕ) (x : State) → Ran t ws missing x → (f : Fault) →
-    refusal-of f ≡ cond (eqb missing (length ws)) no-refusal (refusal 8 missing) → refusal-of f ≡ route-refusal ws (auction t ws)
+route-so : (t : Table) (ws : List ℕ) (missing : ℕ) (x : State) → Ran t ws missing x → (f : Refusal) →
+    f ≡ cond (eqb missing (length ws)) no-refusal (refusal 8 missing) → f ≡ route-refusal ws (auction t ws)
 unfolding route-refusal ended
-fault-so t ws missing x ran f e =
-    rw (ran .ended-so) (subst (λ (m : ℕ). refusal-of f ≡ cond (eqb missing (length ws)) no-refusal (refusal 8 m)) (ran .first-so) e)
+route-so t ws missing x ran f e =
+    rw (ran .ended-so) (subst (λ (m : ℕ). f ≡ cond (eqb missing (length ws)) no-refusal (refusal 8 m)) (ran .first-so) e)
 
 last-so : (t : Table) (ws : List ℕ) (missing : ℕ) (x : State) → Ran t ws missing x → auction t ws .last ≡ x
 unfolding ended
 last-so t ws missing x ran = ap (λ (e : Ended). e .last) (ran .ended-so)
 
-pub assembled : (t : Table) (ws : List ℕ) (missing : ℕ) (x : State) → Ran t ws missing x → (f : Fault) (reached h i c e d : ℕ) (ds ps ts ms : List ℕ) →
-    refusal-of f ≡ cond (eqb missing (length ws)) no-refusal (refusal 8 missing) → reached ≡ reached-count t x → h ≡ horizon t x → i ≡ iterations x →
+pub assembled : (t : Table) (ws : List ℕ) (missing : ℕ) (x : State) → Ran t ws missing x → (f : Refusal) (reached h i c e d : ℕ) (ds ps ts ms : List ℕ) →
+    f ≡ cond (eqb missing (length ws)) no-refusal (refusal 8 missing) → reached ≡ reached-count t x → h ≡ horizon t x → i ≡ iterations x →
     c ≡ x .contractions → e ≡ x .extensions → d ≡ x .deletions → ds ≡ distances t x → ps ≡ prices t x → ts ≡ tree t x → ms ≡ marks t x →
     answer (f .number) (f .place) reached h i c e d ds ps ts ms ≡ routes-of t ws
-unfolding routes-of handed-over refusal-of refusal
+unfolding routes-of handed-over refusal
 assembled t ws missing x ran f reached h i c e d ds ps ts ms ef er eh ei ec ee ed ads aps ats ams =
-    let r = fault-so t ws missing x ran f ef in
+    let r = route-so t ws missing x ran f ef in
     let number : f .number ≡ route-refusal ws (auction t ws) .number = ap (λ (q : Refusal). q .number) r in
     let place : f .place ≡ route-refusal ws (auction t ws) .place = ap (λ (q : Refusal). q .place) r in
     rw (number, place, er, eh, ei, ec, ee, ed, ads, aps, ats, ams, last-so t ws missing x ran)

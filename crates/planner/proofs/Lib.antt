@@ -1,4 +1,4 @@
-pub mod Faults
+pub mod Refusing
 pub mod Entries
 pub mod Marks
 pub mod Handing

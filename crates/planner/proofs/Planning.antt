@@ -1,4 +1,4 @@
--- From the run to the hand-over, and from the grounds to the run. Assumes nothing.
+-- From the run to the hand-over, and from the refusals to the run. Assumes nothing.
 use mathlib.Core.Logic.{_⊎_, ⊎-elim}
 use mathlib.Core.Path.{_≡_, refl, sym, _∙_}
 use mathlib.Core.Bool.{true, _&&_, _||_, not, Bool, false, cond}
@@ -9,9 +9,9 @@ use lib.Dec.{ltb, leb, eqb}
 use lib.ListN.{length, getD, take}
 use lib.Seq.{length-take-le}
 use borrow.Author.Tests.{lt-ltb, leb-true, eqb-true, eq-eqb, ne-eqb, not-false, ltb-false}
-use Rattle.table.specs.Table.{Table, table, table-of, is-table, arc-count, arcs-good, nodes-below, most-nodes, most-arcs, Below, Arc, arcs-of, most-wanted}
+use Rattle.table.specs.Table.{Table, table, table-of, is-table, arc-count, arcs-good, nodes-below, most-nodes, Below, Arc, arcs-of, most-wanted}
 use Rattle.table.specs.declared.Refusal.{Refusal}
-use Rattle.table.specs.Refusals.{refusal, room, table-refusal, columns-bad, rooms-fit, no-refusal, or-else, wanted-from, wanted-refusal, arc-fault, arcs-from, arcs-refusal}
+use Rattle.table.specs.Refusals.{refusal, room, table-refusal, count-bad, columns-bad, rooms-fit, no-refusal, or-else, wanted-from, wanted-refusal, arc-fault, arcs-from, arcs-refusal}
 use Rattle.auction.specs.Auction.{fresh, was-reached}
 use Rattle.auction.specs.HandOver.{Answer, answer}
 use Rattle.table.proofs.Basics.{both-true, either-false, inside, same-or, true-or}
@@ -22,9 +22,9 @@ use Rattle.solver.specs.Seen.{seen}
 use Rattle.solver.specs.Steps.{Ran}
 use Rattle.solver.proofs.Arrays.{seen-bound, seen-status, no-bound}
 use Rattle.solver.proofs.Columns.{count-so, tail-so, head-so, nodes-so, origin-so}
-use Rattle.planner.specs.declared.grounds.Fault.{Fault}
 use Rattle.auction.specs.Plan.{rooms, plan-refusal, plan, routes-of, refused-plan}
-use Rattle.planner.specs.Lent.{Known, Ends, Fitting, Columns, refusal-of}
+use Rattle.planner.specs.Lent.{Known, Ends, Fitting, Columns}
+use Rattle.planner.proofs.Refusing.{columns-fit}
 
 -- AFTER THE RUN
 module _ (t : Table) (ws : List ℕ) (m : ℕ) (p u b k s : List ℕ) (g : Progress) (ran : Ran t ws m (seen p u b k s g)) where
@@ -97,16 +97,16 @@ part-fits l n e h = omega arith
 pub part-long : (l : List ℕ) (n : ℕ) → length l ≡ 1024 → n ≤ most-nodes → n ≡ length (take n l)
 part-long l n e h = sym (length-take-le n l (omega arith))
 
--- THE GROUNDS
+-- THE REFUSALS
 module _ (n o : ℕ) (ts hs ls ws ds ps tr ms : List ℕ) where
-  pub turned : (f : Fault) → refusal-of f ≡ plan-refusal n o ts hs ls ws ds ps tr ms → (f .number ≡ 0 → ⊥) →
+  pub refused : (f : Refusal) → f ≡ plan-refusal n o ts hs ls ws ds ps tr ms → (f .number ≡ 0 → ⊥) →
       answer (f .number) (f .place) 0 0 0 0 0 0 ds ps tr ms ≡ plan n o ts hs ls ws ds ps tr ms
-  unfolding plan refused-plan refusal-of refusal
-  turned f e d = rw (← e, ne-eqb (f .number) 0 d)
+  unfolding plan refused-plan refusal
+  refused f e d = rw (← e, ne-eqb (f .number) 0 d)
 
-  pub planned : (f : Fault) (a : Answer) → refusal-of f ≡ plan-refusal n o ts hs ls ws ds ps tr ms → f .number ≡ 0 → a ≡ routes-of (table-of n o ts hs ls) ws →
+  pub planned : (f : Refusal) (a : Answer) → f ≡ plan-refusal n o ts hs ls ws ds ps tr ms → f .number ≡ 0 → a ≡ routes-of (table-of n o ts hs ls) ws →
       a ≡ plan n o ts hs ls ws ds ps tr ms
-  unfolding plan refusal-of refusal
+  unfolding plan refusal
   planned f a e z r = rw (← e, eq-eqb (f .number) 0 z) r
 
   -- where none applies
@@ -126,32 +126,29 @@ module _ (n o : ℕ) (ts hs ls ws ds ps tr ms : List ℕ) where
       (eqb-true a n (p .0), eqb-true b n (q .0), eqb-true c n (r .0), eqb-true d m (s .0))
 
   pub fine : Below (2 ^ 32) ls → plan-refusal n o ts hs ls ws ds ps tr ms .number ≡ 0 → Fine
-  unfolding plan-refusal table-refusal columns-bad Unrefused-is-table
+  unfolding plan-refusal table-refusal count-bad Unrefused-is-table
   fine low e =
-      let p = passed (eqb n 0 || ltb most-nodes n) _ 0 0 e in
+      let p = passed (count-bad n) _ 0 0 e in
       let q = passed (columns-bad (length ts) (length hs) (length ls)) _ 1 0 (p .1) in
       let r = passed (not (rooms-fit (rooms n (length ts) (length ds) (length ps) (length tr) (length ms)))) _ 2 0 (q .1) in
-      let c = either-false (not (eqb (length ts) (length hs) && eqb (length hs) (length ls))) (ltb most-arcs (length ts)) (q .0) in
-      let h = both-true (eqb (length ts) (length hs)) (eqb (length hs) (length ls)) (not-false _ (c .0)) in
-      let eh = eqb-true (length ts) (length hs) (h .0) in
-      let el = eqb-true (length hs) (length ls) (h .1) in
+      let c = columns-fit (length ts) (length hs) (length ls) (q .0) in
       let fit = rooms-so (length ts) (length ds) (length ps) (length tr) (length ms) (not-false _ (r .0)) in
       record {
-        heads-count = sym eh;
-        lengths-count = sym (eh ∙ el);
+        heads-count = c .heads;
+        lengths-count = c .lengths;
         table-good = unrefused-is-table n o ts hs ls ws _ low e;
         fitting =
             record {
               few-nodes = ltb-false most-nodes n (either-false (eqb n 0) (ltb most-nodes n) (p .0) .1);
-              few-arcs = omega (arith, ltb-false most-arcs (length ts) (c .1), eh);
+              few-arcs = omega (arith, c .few, c .heads);
               distances-long = fit .0;
               prices-long = fit .1;
               tree-long = fit .2;
-              marks-long = fit .3 ∙ eh;
+              marks-long = fit .3 ∙ sym (c .heads);
             };
       }
 
--- AN ANSWER 0 OR 8 is the auction's: no other ground has such a number
+-- AN ANSWER 0 OR 8 is the auction's: no refusal before the run has such a number
 cond-low : (b : Bool) (x y : Refusal) (m : ℕ) → x .number ≤ m → y .number ≤ m → cond b x y .number ≤ m
 cond-low true x y m p q = p
 cond-low false x y m p q = q
@@ -161,9 +158,9 @@ unfolding wanted-from no-refusal refusal
 wanted-low i n [] = omega arith
 wanted-low i n (w ∷ ws) = cond-low (ltb w n) (wanted-from (suc i) n ws) (refusal 5 i) 7 (wanted-low (suc i) n ws) (omega arith)
 
-fault-low : (n : ℕ) (a : Arc) → arc-fault n a ≤ 7
+arc-low : (n : ℕ) (a : Arc) → arc-fault n a ≤ 7
 unfolding arc-fault
-fault-low n a =
+arc-low n a =
     ⊎-elim (λ (e : (leb n (a .tail) || leb n (a .head)) ≡ true). rw e (omega arith))
     (λ (e : (leb n (a .tail) || leb n (a .head)) ≡ false).
     rw e
@@ -175,35 +172,35 @@ arcs-low : (i n : ℕ) (arcs : List Arc) → arcs-from i n arcs .number ≤ 7
 unfolding arcs-from no-refusal refusal
 arcs-low i n [] = omega arith
 arcs-low i n (a ∷ more) =
-    cond-low (eqb (arc-fault n a) 0) (arcs-from (suc i) n more) (refusal (arc-fault n a) i) 7 (arcs-low (suc i) n more) (fault-low n a)
+    cond-low (eqb (arc-fault n a) 0) (arcs-from (suc i) n more) (refusal (arc-fault n a) i) 7 (arcs-low (suc i) n more) (arc-low n a)
 
 module _ (n o : ℕ) (ts hs ls ws ds ps tr ms : List ℕ) where
-  ground-low : plan-refusal n o ts hs ls ws ds ps tr ms .number ≤ 7
+  refusal-low : plan-refusal n o ts hs ls ws ds ps tr ms .number ≤ 7
   unfolding plan-refusal table-refusal or-else wanted-refusal arcs-refusal refusal
-  ground-low =
+  refusal-low =
       let w = cond-low (ltb most-wanted (length ws)) (refusal 5 most-wanted) (wanted-from 0 n ws) 7 (omega arith) (wanted-low 0 n ws) in
       let a = arcs-low 0 n (arcs-of ts hs ls) in
-      cond-low (eqb n 0 || ltb most-nodes n) (refusal 1 0) _ 7 (omega arith)
+      cond-low (count-bad n) (refusal 1 0) _ 7 (omega arith)
       (cond-low (columns-bad (length ts) (length hs) (length ls)) (refusal 2 0) _ 7 (omega arith)
       (cond-low (not (rooms-fit (rooms n (length ts) (length ds) (length ps) (length tr) (length ms)))) (refusal 3 0) _ 7 (omega arith)
       (cond-low (leb n o) (refusal 4 0) _ 7 (omega arith) (cond-low (eqb (wanted-refusal n ws .number) 0) (arcs-refusal n (arcs-of ts hs ls)) (wanted-refusal n ws) 7 a w))))
 
-  turned-number : (plan-refusal n o ts hs ls ws ds ps tr ms .number ≡ 0 → ⊥) → plan n o ts hs ls ws ds ps tr ms .number ≡ plan-refusal n o ts hs ls ws ds ps tr ms .number
+  refused-number : (plan-refusal n o ts hs ls ws ds ps tr ms .number ≡ 0 → ⊥) → plan n o ts hs ls ws ds ps tr ms .number ≡ plan-refusal n o ts hs ls ws ds ps tr ms .number
   unfolding plan refused-plan
-  turned-number d = rw (ne-eqb (plan-refusal n o ts hs ls ws ds ps tr ms .number) 0 d)
+  refused-number d = rw (ne-eqb (plan-refusal n o ts hs ls ws ds ps tr ms .number) 0 d)
 
-  routed-so : plan-refusal n o ts hs ls ws ds ps tr ms .number ≡ 0 → plan n o ts hs ls ws ds ps tr ms ≡ routes-of (table-of n o ts hs ls) ws
+  routes-so : plan-refusal n o ts hs ls ws ds ps tr ms .number ≡ 0 → plan n o ts hs ls ws ds ps tr ms ≡ routes-of (table-of n o ts hs ls) ws
   unfolding plan
-  routed-so e = rw (eq-eqb (plan-refusal n o ts hs ls ws ds ps tr ms .number) 0 e)
+  routes-so e = rw (eq-eqb (plan-refusal n o ts hs ls ws ds ps tr ms .number) 0 e)
 
   pub of-the-auction : Below (2 ^ 32) ls → ((plan n o ts hs ls ws ds ps tr ms .number ≡ 0) ⊎ (plan n o ts hs ls ws ds ps tr ms .number ≡ 8)) →
       (is-table (table-of n o ts hs ls) ws ≡ true) × (plan n o ts hs ls ws ds ps tr ms ≡ routes-of (table-of n o ts hs ls) ws)
   of-the-auction low e =
       ⊎-elim
-      (λ (z : plan-refusal n o ts hs ls ws ds ps tr ms .number ≡ 0). (fine n o ts hs ls ws ds ps tr ms low z .table-good, routed-so z))
+      (λ (z : plan-refusal n o ts hs ls ws ds ps tr ms .number ≡ 0). (fine n o ts hs ls ws ds ps tr ms low z .table-good, routes-so z))
       (λ (z : plan-refusal n o ts hs ls ws ds ps tr ms .number ≡ 0 → ⊥).
       absurd
-      (⊎-elim (λ (q : plan n o ts hs ls ws ds ps tr ms .number ≡ 0). z (sym (turned-number z) ∙ q))
-      (λ (q : plan n o ts hs ls ws ds ps tr ms .number ≡ 8). omega (arith, turned-number z, q, ground-low))
+      (⊎-elim (λ (q : plan n o ts hs ls ws ds ps tr ms .number ≡ 0). z (sym (refused-number z) ∙ q))
+      (λ (q : plan n o ts hs ls ws ds ps tr ms .number ≡ 8). omega (arith, refused-number z, q, refusal-low))
       e))
       (same-or (plan-refusal n o ts hs ls ws ds ps tr ms .number) 0)

@@ -27,7 +27,7 @@ plans-kept n o ts hs ls ws ds ps tr ms ds′ ps′ tr′ ms′ r fits e number =
     (⊎-elim (λ (z : r .number ≡ 0). inl (same ∙ z)) (λ (z : r .number ≡ 8). inr (same ∙ z)) number) in
     subst (λ (a : Answer). Demands t ws a) (sym (e ∙ q .1)) (demands-met t ws (q .0))
 
--- a table that is not turned down gives number 0 or 8
+-- a table that is not refused gives number 0 or 8
 route-number : (t : Table) (ws : List ℕ) → (routes-of t ws .number ≡ 0) ⊎ (routes-of t ws .number ≡ 8)
 unfolding routes-of handed-over route-refusal no-refusal refusal
 route-number t ws =

@@ -1,16 +1,9 @@
--- What the functions below the entry rely on, and how a ground stands in the code. Assumes nothing: these are definitions.
+-- What the functions below the entry rely on. Assumes nothing: these are definitions.
 use mathlib.Core.Path.{_≡_}
 use mathlib.Core.List.{List}
 use Prim.Native.Nat.{ℕ, _≤_, _<_}
 use lib.ListN.{length, getD}
 use Rattle.table.specs.Table.{Table, arc-count, tail-at, head-at, no-distance, most-nodes, most-arcs}
-use Rattle.table.specs.declared.Refusal.{Refusal}
-use Rattle.table.specs.Refusals.{refusal}
-use Rattle.planner.specs.declared.grounds.Fault.{Fault}
-
--- a ground's number and place, as the code has them
-unfoldable pub refusal-of : Fault → Refusal
-refusal-of f = refusal (f .number) (f .place)
 
 -- what the hand-over may rely on: the two arrays are as long as each other, and every reached node has a distance
 pub record Known (bound status : List ℕ) : Type 0 where

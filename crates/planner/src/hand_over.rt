@@ -13,14 +13,14 @@ ghost use Rattle.solver.specs.Seen.{seen, too-many};
 ghost use Rattle.solver.specs.Steps.{Ran};
 ghost use Rattle.auction.specs.Plan.{routes-of};
 ghost use Rattle.planner.specs.Plan.{answered};
-ghost use Rattle.planner.specs.Lent.{Known, Ends, Fitting, Columns, refusal-of};
+ghost use Rattle.planner.specs.Lent.{Known, Ends, Fitting, Columns};
 use super::Planned;
-use super::grounds::Fault;
 use solver::run::Ended;
 use solver::state::State;
-use solver::wide;
 use table::NO_ARC;
 use table::NO_DISTANCE;
+use table::Refusal;
+use table::wide;
 
 // A reached node's distance, or another number.
 fn distance_or(other: u64, v: usize, bound: &[u64], status: &[u8]) -> u64
@@ -179,15 +179,15 @@ fn fill_marks(tails: &[u16], heads: &[u16], kept: &[u16], status: &[u8], out: &m
 }
 
 // 8 at the first wanted node that is missing, or no refusal where none is.
-fn route_fault(missing: usize, wanted: usize) -> Fault
+fn route_refusal(missing: usize, wanted: usize) -> Refusal
     requires { ⌜ missing ≤ 1024 ⌝ }
-    ensures { λ r. ⌜ refusal-of r ≡ cond (eqb missing wanted) no-refusal (refusal 8 missing) ⌝ }
+    ensures { λ r. ⌜ r ≡ cond (eqb missing wanted) no-refusal (refusal 8 missing) ⌝ }
 {
     if missing == wanted {
-        return Fault::none();
+        return Refusal::none();
     }
-    Fault {
-        number: 8,
+    Refusal {
+        number: Refusal::NO_ROUTE,
         place: missing as u32,
     }
 }
@@ -212,7 +212,7 @@ pub fn hand_over(
     requires { ⌜ (end .missing ≤ 1024) × (end .progress .contractions + end .progress .extensions + end .progress .deletions < too-many) ⌝ }
     ensures { λ r. ⌜ ((t : Table) (ws path price : List ℕ) → Columns t (length (now (status .entry))) (now (tails .entry)) (now (heads .entry)) → length ws ≡ wanted → Ran t ws (end .missing) (seen path price (now (bound .entry)) (now (kept .entry)) (now (status .entry)) (end .progress)) → answered r (now (distances .exit)) (now (prices .exit)) (now (tree .exit)) (now (marks .exit)) ≡ routes-of t ws) ⌝ }
 {
-    let fault = route_fault(end.missing, wanted);
+    let refusal = route_refusal(end.missing, wanted);
     let reached = count_reached(status);
     let horizon = horizon_of(bound, status);
     fill_distances(bound, status, distances);
@@ -221,8 +221,8 @@ pub fn hand_over(
     fill_marks(tails, heads, kept, status, marks);
     let counts = end.progress;
     Planned {
-        number: fault.number,
-        place: fault.place,
+        number: refusal.number,
+        place: refusal.place,
         reached: reached,
         horizon: horizon,
         iterations: counts.contractions + counts.extensions + counts.deletions,

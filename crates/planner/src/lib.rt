@@ -1,4 +1,4 @@
-// Planning: the grounds on which a table is turned down, the run, and the four buffers that are handed over.
+// Planning: the grounds on which a table is refused, the run, and the four buffers that are handed over.
 ghost use mathlib.Core.Path.{_≡_};
 ghost use mathlib.Core.Bool.{true};
 ghost use lib.ListN.{length};
@@ -8,14 +8,15 @@ ghost use Rattle.solver.specs.Seen.{seen, Sized};
 ghost use Rattle.auction.specs.Plan.{routes-of, plan};
 ghost use Rattle.planner.specs.Plan.{answered};
 ghost use Rattle.planner.specs.Lent.{Fitting};
-use grounds::table_fault;
 use hand_over::hand_over;
+use refusals::table_refusal;
 use solver::run::run;
 use solver::state::Progress;
 use solver::state::State;
+use table::Refusal;
 
-mod grounds;
 mod hand_over;
+mod refusals;
 
 // Number and place of a refusal, number 0 where there is none; nodes reached, horizon and the counts of the run.
 #[repr(C)]
@@ -83,7 +84,7 @@ fn run_lent(
     )
 }
 
-// The plan of a table that is not turned down.
+// The plan of a table that is not refused.
 fn plan_table(
     n: usize,
     origin: u16,
@@ -143,7 +144,7 @@ pub fn plan_routes(
 ) -> Planned
     ensures { λ r. ⌜ answered r (now (distances .exit)) (now (prices .exit)) (now (tree .exit)) (now (marks .exit)) ≡ plan n origin (now (tails .entry)) (now (heads .entry)) (now (lengths .entry)) (now (wanted .entry)) (now (distances .entry)) (now (prices .entry)) (now (tree .entry)) (now (marks .entry)) ⌝ }
 {
-    let fault = table_fault(
+    let refusal = table_refusal(
         n,
         origin,
         tails,
@@ -155,10 +156,10 @@ pub fn plan_routes(
         tree.len(),
         marks.len(),
     );
-    if fault.number != 0 {
+    if refusal.number != Refusal::NONE {
         return Planned {
-            number: fault.number,
-            place: fault.place,
+            number: refusal.number,
+            place: refusal.place,
             reached: 0,
             horizon: 0,
             iterations: 0,

@@ -12,8 +12,8 @@ ghost use Rattle.solver.specs.Lists.{Listed, Some-table};
 ghost use Rattle.solver.specs.Steps.{lower-of, Leads};
 use super::long;
 use super::state::State;
-use super::wide;
 use table::NO_ARC;
+use table::wide;
 
 // A bid's value, the position of the child's kept arc and the child; no arc where there is no child.
 pub struct LeastBid {

@@ -12,14 +12,6 @@ pub mod run;
 pub mod state;
 mod steps;
 
-// A 16-bit node number or position as an index.
-pub fn wide(x: u16) -> usize
-    ensures same { λ r. ⌜ r ≡ x ⌝ }
-    ensures low { λ r. ⌜ r < 65536 ⌝ }
-{
-    x as usize
-}
-
 // A 32-bit length in 64 bits.
 fn long(x: u32) -> u64
     ensures same { λ r. ⌜ r ≡ x ⌝ }

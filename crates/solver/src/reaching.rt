@@ -11,8 +11,8 @@ ghost use Rattle.solver.specs.Lists.{Listed, Some-table};
 ghost use Rattle.solver.specs.Steps.{Offered};
 use super::long;
 use super::state::State;
-use super::wide;
 use table::NO_ARC;
+use table::wide;
 
 // Whether a bound offered by the arc at a position is to be kept: it is smaller, or equal and from a lower position. A node that has
 // no bound takes any.

@@ -11,13 +11,13 @@ ghost use Rattle.solver.specs.Steps.{Begun, Ran, First-from};
 use super::bids::least_bid;
 use super::lists::link_arcs;
 use super::reaching::reach;
-use super::state::NODES;
 use super::state::Progress;
 use super::state::State;
 use super::steps::step;
-use super::wide;
 use table::MOST_ARCS;
+use table::MOST_NODES;
 use table::NO_ARC;
+use table::wide;
 
 // Where a run has ended: the index of the first wanted node that was not reached, which is their number where all were; the counts.
 pub struct Ended {
@@ -156,7 +156,7 @@ pub fn run(
     let n = status.len();
     let m = tails.len();
     let at = wide(origin);
-    let mut first: [u16; NODES] = [NO_ARC; NODES];
+    let mut first: [u16; MOST_NODES] = [NO_ARC; MOST_NODES];
     let mut next: [u16; MOST_ARCS] = [NO_ARC; MOST_ARCS];
     link_arcs(tails, &mut first[..n], &mut next[..m]);
     run_listed(

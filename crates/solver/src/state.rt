@@ -9,9 +9,7 @@ ghost use Rattle.solver.specs.Seen.{seen, Sized};
 use table::MOST_NODES;
 use table::NO_ARC;
 use table::NO_DISTANCE;
-
-// The arrays have room for the most nodes.
-pub const NODES: usize = MOST_NODES as usize;
+use table::wide;
 
 // How many nodes are on the path, and the three counts.
 pub struct Progress {
@@ -21,13 +19,13 @@ pub struct Progress {
     pub deletions: u64,
 }
 
-// The path from the origin on; for each node its price, bound, kept arc and status; the progress.
+// The path from the origin on, with room for the most nodes; for each node its price, bound, kept arc and status; the progress.
 pub struct State {
-    pub path: [u16; NODES],
-    pub price: [u64; NODES],
-    pub bound: [u64; NODES],
-    pub kept: [u16; NODES],
-    pub status: [u8; NODES],
+    pub path: [u16; MOST_NODES],
+    pub price: [u64; MOST_NODES],
+    pub bound: [u64; MOST_NODES],
+    pub kept: [u16; MOST_NODES],
+    pub status: [u8; MOST_NODES],
     pub progress: Progress,
 }
 
@@ -44,10 +42,10 @@ impl State {
         ensures so { λ r. ⌜ ((t : Table) → t .origin ≡ origin → t .origin < t .n → t .n ≤ most-nodes → seen (take (t .n) (r .path)) (take (t .n) (r .price)) (take (t .n) (r .bound)) (take (t .n) (r .kept)) (take (t .n) (r .status)) (r .progress) ≡ fresh t) ⌝ }
         ensures long { λ r. ⌜ (length (r .path) ≡ most-nodes) × Sized most-nodes (r .price) (r .bound) (r .kept) (r .status) ⌝ }
     {
-        let at = super::wide(origin);
-        let mut path: [u16; NODES] = [0; NODES];
+        let at = wide(origin);
+        let mut path: [u16; MOST_NODES] = [0; MOST_NODES];
         path[0] = origin;
-        let mut bound: [u64; NODES] = [NO_DISTANCE; NODES];
+        let mut bound: [u64; MOST_NODES] = [NO_DISTANCE; MOST_NODES];
         bound[at] = 0;
         let progress = Progress {
             depth: 1,
@@ -57,10 +55,10 @@ impl State {
         };
         State {
             path: path,
-            price: [0; NODES],
+            price: [0; MOST_NODES],
             bound: bound,
-            kept: [NO_ARC; NODES],
-            status: [State::UNREACHED; NODES],
+            kept: [NO_ARC; MOST_NODES],
+            status: [State::UNREACHED; MOST_NODES],
             progress: progress,
         }
     }

@@ -13,8 +13,8 @@ use super::bids::LeastBid;
 use super::reaching::reach;
 use super::state::Progress;
 use super::state::State;
-use super::wide;
 use table::NO_ARC;
+use table::wide;
 
 // A node without children is deleted and leaves the path.
 fn delete(g: Progress, v: usize, status: &mut [u8]) -> Progress

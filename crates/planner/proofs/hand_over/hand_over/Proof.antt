@@ -8,14 +8,13 @@ use mathlib.Core.Bool.{cond}
 use lib.Dec.{eqb}
 use Rattle.table.specs.Refusals.{no-refusal, refusal}
 use Rattle.planner.specs.Plan.{answered}
-use Rattle.planner.specs.Lent.{refusal-of}
 use Rattle.planner.proofs.Handing.{assembled}
 use borrow.Author.Needs.{needs}
 use Rattle.planner.proofs.hand_over.hand_over.Statement.{statement}
 use Rattle.planner.proofs.hand_over.hand_over.Tie as tie
 
-route-fault-requires : tie.Need-route-fault-requires
-route-fault-requires c κs = search needs
+route-refusal-requires : tie.Need-route-refusal-requires
+route-refusal-requires c κs = search needs
 
 count-reached-requires : tie.Need-count-reached-requires
 count-reached-requires c κs = search needs
@@ -64,8 +63,8 @@ returns c =
     let a = s .args in
     let e = columns .nodes in
     let h = c .before .before .before .before .before .before .before .before .before .before .before .before .before .before .before .before .before .before .before .horizon-of .ensures .0 t path price (a .kept .now) (a .end .progress) e in
-    assembled t ws (a .end .missing) _ ran (c .before .before .before .before .before .before .before .before .before .before .before .before .before .before .before .before .before .before .before .before .before .route-fault .result) _ _ _ _ _ _ _ _ _ _
-    (subst (λ (m : ℕ). refusal-of (c .before .before .before .before .before .before .before .before .before .before .before .before .before .before .before .before .before .before .before .before .before .route-fault .result) ≡ cond (eqb (a .end .missing) m) no-refusal (refusal 8 (a .end .missing))) (sym many) (c .before .before .before .before .before .before .before .before .before .before .before .before .before .before .before .before .before .before .before .before .before .route-fault .ensures))
+    assembled t ws (a .end .missing) _ ran (c .before .before .before .before .before .before .before .before .before .before .before .before .before .before .before .before .before .before .before .before .before .route-refusal .result) _ _ _ _ _ _ _ _ _ _
+    (subst (λ (m : ℕ). (c .before .before .before .before .before .before .before .before .before .before .before .before .before .before .before .before .before .before .before .before .before .route-refusal .result) ≡ cond (eqb (a .end .missing) m) no-refusal (refusal 8 (a .end .missing))) (sym many) (c .before .before .before .before .before .before .before .before .before .before .before .before .before .before .before .before .before .before .before .before .before .route-refusal .ensures))
     (c .before .before .before .before .before .before .before .before .before .before .before .before .before .before .before .before .before .before .before .before .count-reached .ensures t path price (a .bound .now) (a .kept .now) (a .end .progress) e) h refl refl refl refl
     (c .before .before .before .before .before .before .before .before .before .before .before .before .before .before .before .before .before .fill-distances .ensures t path price (a .kept .now) (a .end .progress) e)
     (c .before .before .before .before .before .before .before .before .before .before .before .before .before .fill-prices .ensures t path price (a .kept .now) (a .end .progress) e h)
@@ -76,7 +75,7 @@ pub hand-over-spec : {M : Type 1} → statement M
 hand-over-spec =
     tie.close
     (tie.spec
-    route-fault-requires
+    route-refusal-requires
     count-reached-requires
     horizon-of-requires
     fill-distances-requires

@@ -5,11 +5,10 @@ use borrow.Author.Needs.{needs}
 use native.Mathlib.Omega.{arith}
 use lib.ListN.{length, drop}
 use Rattle.table.specs.Table.{arcs-of}
-use Rattle.table.specs.Refusals.{arcs-from, arcs-refusal}
-use Rattle.planner.specs.Lent.{refusal-of}
-use Rattle.planner.proofs.Faults.{no-fault, arc-good, arc-bad, arcs-done}
-use Rattle.planner.proofs.grounds.arcs_fault.Statement.{statement}
-use Rattle.planner.proofs.grounds.arcs_fault.Tie as tie
+use Rattle.table.specs.Refusals.{refusal, arcs-from, arcs-refusal}
+use Rattle.planner.proofs.Refusing.{arc-good, arc-bad, arcs-done}
+use Rattle.planner.proofs.refusals.arcs_refusal.Statement.{statement}
+use Rattle.planner.proofs.refusals.arcs_refusal.Tie as tie
 
 abbrev Inv-loop : tie.InvT-loop
 Inv-loop n tails heads lengths i₀ i = (i ≤ length tails) × (arcs-from i n (arcs-of (drop i tails) (drop i heads) (drop i lengths)) ≡ arcs-refusal n (arcs-of tails heads lengths))
@@ -21,37 +20,37 @@ loop-holds : tie.Need-loop-holds Inv-loop μ-loop
 unfolding arcs-refusal
 loop-holds c = (search needs, refl)
 
-mul-arc-number : tie.Need-mul-arc-number Inv-loop μ-loop
-mul-arc-number c = search needs
+mul-arc-refusal : tie.Need-mul-arc-refusal Inv-loop μ-loop
+mul-arc-refusal c = search needs
 
-shared-slice-read-arc-number : tie.Need-shared-slice-read-arc-number Inv-loop μ-loop
-shared-slice-read-arc-number c = search needs
+shared-slice-read-arc-refusal : tie.Need-shared-slice-read-arc-refusal Inv-loop μ-loop
+shared-slice-read-arc-refusal c = search needs
 
-mul-arc-number-2 : tie.Need-mul-arc-number-2 Inv-loop μ-loop
-mul-arc-number-2 c = search needs
+mul-arc-refusal-2 : tie.Need-mul-arc-refusal-2 Inv-loop μ-loop
+mul-arc-refusal-2 c = search needs
 
-shared-slice-read-arc-number-2 : tie.Need-shared-slice-read-arc-number-2 Inv-loop μ-loop
-shared-slice-read-arc-number-2 c = omega (arith, c .before .before .before .before .before .before .before .pre .0)
+shared-slice-read-arc-refusal-2 : tie.Need-shared-slice-read-arc-refusal-2 Inv-loop μ-loop
+shared-slice-read-arc-refusal-2 c = omega (arith, c .before .before .before .before .before .before .before .pre .0)
 
-mul-arc-number-3 : tie.Need-mul-arc-number-3 Inv-loop μ-loop
-mul-arc-number-3 c = omega (arith, c .before .before .before .before .before .before .before .pre .1 .1)
+mul-arc-refusal-3 : tie.Need-mul-arc-refusal-3 Inv-loop μ-loop
+mul-arc-refusal-3 c = omega (arith, c .before .before .before .before .before .before .before .pre .1 .1)
 
-shared-slice-read-arc-number-3 : tie.Need-shared-slice-read-arc-number-3 Inv-loop μ-loop
-shared-slice-read-arc-number-3 c = omega (arith, c .before .before .before .before .before .before .before .before .pre .1 .0)
+shared-slice-read-arc-refusal-3 : tie.Need-shared-slice-read-arc-refusal-3 Inv-loop μ-loop
+shared-slice-read-arc-refusal-3 c = omega (arith, c .before .before .before .before .before .before .before .before .pre .1 .0)
 
-arc-number-requires : tie.Need-arc-number-requires Inv-loop μ-loop
-arc-number-requires c κs = search needs
+arc-refusal-requires : tie.Need-arc-refusal-requires Inv-loop μ-loop
+arc-refusal-requires c κs = search needs
 
 place-requires : tie.Need-place-requires Inv-loop μ-loop
 place-requires c κs = omega (arith, c .before .before .before .before .before .before .before .before .before .before .pre .1 .1)
 
 returns : tie.Need-returns Inv-loop μ-loop
-unfolding refusal-of
+unfolding refusal
 returns c =
     let s = c .before .before .before .before .before .before .before .before .before .before .before in
     let a = s .args in
     arc-bad (a .n) (a .tails .now) (a .heads .now) (a .lengths .now) (s .pre .0) (s .pre .1 .0) (c .before .before .before .before .before .before .before .loop .i) (c .before .before .before .before .before .before .loop-test .taken)
-    (c .before .before .arc-number .result) (c .place .result) (c .before .before .arc-number .ensures) (c .before .if1 .taken) (c .place .ensures)
+    (c .before .before .arc-refusal .result) (c .place .result) (c .before .before .arc-refusal .ensures) (c .before .if1 .taken) (c .place .ensures)
     ∙ c .before .before .before .before .before .before .before .loop .inv .1
 
 add-i : tie.Need-add-i Inv-loop μ-loop
@@ -66,7 +65,7 @@ loop-again c =
     let a = s .args in (
       omega arith,
       arc-good (a .n) (a .tails .now) (a .heads .now) (a .lengths .now) (s .pre .0) (s .pre .1 .0) (c .before .before .before .before .before .before .loop .i) (c .before .before .before .before .before .loop-test .taken)
-          (sym (c .before .arc-number .ensures) ∙ c .if1 .left)
+          (sym (c .before .arc-refusal .ensures) ∙ c .if1 .left)
           ∙ c .before .before .before .before .before .before .loop .inv .1,
     )
 
@@ -77,24 +76,24 @@ returns-2 : tie.Need-returns-2 Inv-loop μ-loop
 returns-2 c =
     let s = c .before .before .before .before .before .before in
     let a = s .args in
-    no-fault (c .none .result) (c .none .ensures)
+    c .none .ensures
     ∙ arcs-done (a .n) (a .tails .now) (a .heads .now) (a .lengths .now) (s .pre .0) (s .pre .1 .0) (c .before .before .loop .i) (c .before .loop-test .left)
     ∙ c .before .before .loop .inv .1
 
-pub arcs-fault-spec : {M : Type 1} → statement M
-arcs-fault-spec =
+pub arcs-refusal-spec : {M : Type 1} → statement M
+arcs-refusal-spec =
     tie.close
     (tie.spec
     Inv-loop
     μ-loop
     loop-holds
-    mul-arc-number
-    shared-slice-read-arc-number
-    mul-arc-number-2
-    shared-slice-read-arc-number-2
-    mul-arc-number-3
-    shared-slice-read-arc-number-3
-    arc-number-requires
+    mul-arc-refusal
+    shared-slice-read-arc-refusal
+    mul-arc-refusal-2
+    shared-slice-read-arc-refusal-2
+    mul-arc-refusal-3
+    shared-slice-read-arc-refusal-3
+    arc-refusal-requires
     place-requires
     returns
     add-i

@@ -5,11 +5,10 @@ use borrow.Author.Needs.{needs}
 use native.Mathlib.Omega.{arith}
 use lib.ListN.{length, drop}
 use Rattle.table.specs.Table.{most-wanted}
-use Rattle.table.specs.Refusals.{wanted-from, wanted-refusal}
-use Rattle.planner.specs.Lent.{refusal-of}
-use Rattle.planner.proofs.Faults.{no-fault, too-many, few-enough, wanted-good, wanted-bad, wanted-done}
-use Rattle.planner.proofs.grounds.wanted_fault.Statement.{statement}
-use Rattle.planner.proofs.grounds.wanted_fault.Tie as tie
+use Rattle.table.specs.Refusals.{refusal, wanted-from, wanted-refusal}
+use Rattle.planner.proofs.Refusing.{too-many, few-enough, wanted-good, wanted-bad, wanted-done}
+use Rattle.planner.proofs.refusals.wanted_refusal.Statement.{statement}
+use Rattle.planner.proofs.refusals.wanted_refusal.Tie as tie
 
 abbrev Inv-loop : tie.InvT-loop
 Inv-loop n wanted i₀ i = (length wanted ≤ most-wanted) × (i ≤ length wanted) × (wanted-from i n (drop i wanted) ≡ wanted-refusal n wanted)
@@ -21,31 +20,31 @@ place-requires : tie.Need-place-requires Inv-loop μ-loop
 place-requires c κs = omega arith
 
 returns : tie.Need-returns Inv-loop μ-loop
-unfolding refusal-of
+unfolding refusal
 returns c = too-many (c .before .before .before .args .n) (c .before .before .before .args .wanted .now) (c .place .result) (c .place .ensures) (c .before .if1 .taken)
 
 loop-holds : tie.Need-loop-holds Inv-loop μ-loop
 loop-holds c =
     let a = c .before .before .args in (c .if1 .left, search needs, few-enough (a .n) (a .wanted .now) (c .if1 .left))
 
-mul-node : tie.Need-mul-node Inv-loop μ-loop
-mul-node c = search needs
+mul-wide : tie.Need-mul-wide Inv-loop μ-loop
+mul-wide c = search needs
 
-shared-slice-read-node : tie.Need-shared-slice-read-node Inv-loop μ-loop
-shared-slice-read-node c = search needs
+shared-slice-read-wide : tie.Need-shared-slice-read-wide Inv-loop μ-loop
+shared-slice-read-wide c = search needs
 
-node-requires : tie.Need-node-requires Inv-loop μ-loop
-node-requires c κs = search needs
+wide-requires : tie.Need-wide-requires Inv-loop μ-loop
+wide-requires c κs = search needs
 
 place-requires-2 : tie.Need-place-requires-2 Inv-loop μ-loop
 place-requires-2 c κs = omega arith
 
 returns-2 : tie.Need-returns-2 Inv-loop μ-loop
-unfolding refusal-of
+unfolding refusal
 returns-2 c =
     let a = c .before .before .before .before .before .before .before .before .args in
     let i = c .before .before .before .before .before .loop .i in
-    wanted-bad (a .n) (a .wanted .now) i (c .place2 .result) (c .place2 .ensures) (c .before .before .before .before .loop-test .taken) (omega (arith, c .before .before .node .ensures, c .before .if2 .taken))
+    wanted-bad (a .n) (a .wanted .now) i (c .place2 .result) (c .place2 .ensures) (c .before .before .before .before .loop-test .taken) (omega (arith, c .before .before .wide .ensures .0, c .before .if2 .taken))
     ∙ c .before .before .before .before .before .loop .inv .2
 
 add-i : tie.Need-add-i Inv-loop μ-loop
@@ -60,7 +59,7 @@ loop-again c =
     let l = c .before .before .before .before .loop in (
       l .inv .0,
       omega arith,
-      wanted-good (a .n) (a .wanted .now) (l .i) (c .before .before .before .loop-test .taken) (omega (arith, c .before .node .ensures, c .if2 .left)) ∙ l .inv .2,
+      wanted-good (a .n) (a .wanted .now) (l .i) (c .before .before .before .loop-test .taken) (omega (arith, c .before .wide .ensures .0, c .if2 .left)) ∙ l .inv .2,
     )
 
 none-requires : tie.Need-none-requires Inv-loop μ-loop
@@ -69,10 +68,10 @@ none-requires c κs = search needs
 returns-3 : tie.Need-returns-3 Inv-loop μ-loop
 returns-3 c =
     let a = c .before .before .before .before .before .args in
-    no-fault (c .none .result) (c .none .ensures) ∙ wanted-done (a .n) (a .wanted .now) (c .before .before .loop .i) (c .before .loop-test .left) ∙ c .before .before .loop .inv .2
+    c .none .ensures ∙ wanted-done (a .n) (a .wanted .now) (c .before .before .loop .i) (c .before .loop-test .left) ∙ c .before .before .loop .inv .2
 
-pub wanted-fault-spec : {M : Type 1} → statement M
-wanted-fault-spec =
+pub wanted-refusal-spec : {M : Type 1} → statement M
+wanted-refusal-spec =
     tie.close
     (tie.spec
     Inv-loop
@@ -80,9 +79,9 @@ wanted-fault-spec =
     place-requires
     returns
     loop-holds
-    mul-node
-    shared-slice-read-node
-    node-requires
+    mul-wide
+    shared-slice-read-wide
+    wide-requires
     place-requires-2
     returns-2
     add-i
