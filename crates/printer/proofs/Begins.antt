@@ -6,7 +6,7 @@ use native.Mathlib.Omega.{arith}
 use native.Mathlib.Numerals.{add-one}
 use lib.ListN.{length, getD, set, take, drop, length-append}
 use lib.Seq.{paste, take-at, take-length, drop-append-add, drop-drop, length-paste, paste-suc}
-use Rattle.sheet.specs.Text.{Begins}
+use Rattle.printer.specs.Buffers.{Begins}
 
 pub begins-nothing : (out : List ℕ) → Begins [] out out 0
 begins-nothing out = record { counted = refl; holds = refl }

@@ -1,6 +1,5 @@
 pub mod Begins
 pub mod Decimal
-pub mod Spaced
 pub mod Passing
+pub mod Spaced
 pub mod Rest
-pub mod Promised

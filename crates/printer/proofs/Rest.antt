@@ -11,32 +11,74 @@ use lib.ListN.{length, getD, take, drop, length-append}
 use lib.Seq.{take-at}
 use borrow.Author.Tests.{ltb-false, lt-ltb, le-ltb, eq-eqb, ne-eqb}
 use Rattle.table.specs.Table.{no-arc, most-nodes}
+use Rattle.auction.specs.Demands.{distance-of, price-of, link-of}
 use Rattle.paths.specs.declared.Listed.{Listed}
-use Rattle.paths.specs.Listing.{Tree, Listing, Lists, listing, into, listed, refused, path, ground-of, tree-in}
+use Rattle.paths.specs.Listing.{Tree, Listing, Lists, listing, into, listed, refused, path, early-of, tree-in}
 use Rattle.table.proofs.Basics.{true-or}
-use Rattle.sheet.specs.declared.lines.Cursor.{Cursor}
-use Rattle.sheet.specs.declared.lines.Cursor.the-variants.{Start, Node, Path}
-use Rattle.sheet.specs.declared.lines.Line.{Line}
-use Rattle.sheet.specs.declared.lines.Line.the-variants.{Put, Last, Short}
-use Rattle.sheet.specs.Text.{Begins}
-use Rattle.sheet.specs.Sheet.{Plan, passing, First-passing, node-count, has-distance, has-path, node-line, path-line, node-lines, path-lines, nodes-from, paths-from, from-reached, from-refusal, refused-line, sheet, rest, Gives, Says, line-room}
-use Rattle.sheet.proofs.Passing.{passing-here, passing-none}
+use Rattle.printer.specs.declared.lines.Cursor.{Cursor}
+use Rattle.printer.specs.declared.lines.Cursor.the-variants.{Start, Node, Path}
+use Rattle.printer.specs.declared.lines.Line.{Line}
+use Rattle.printer.specs.declared.lines.Line.the-variants.{Put, Last}
+use Rattle.printer.specs.Buffers.{Begins}
+use Rattle.sheet.specs.Text.{text, decimal, spaced}
+use Rattle.sheet.specs.Sheet.{Finished, arc-text, reached-line, counts-line, path-nodes, reached-nodes, after-counts, passing, node-count, has-distance, has-path, node-line, path-line, node-lines, path-lines, from-reached, refused-line, sheet}
+use Rattle.printer.specs.Lines.{First-passing, nodes-from, paths-from, rest, Gives}
+use Rattle.printer.proofs.Passing.{passing-here, passing-none}
 
-pub gives-last : (p : Plan) (lines : List (List ℕ)) (b : List ℕ) → lines ≡ [] → Gives p lines Last b b
+pub gives-last : (p : Finished) (lines : List (List ℕ)) (b : List ℕ) → lines ≡ [] → Gives p lines Last b b
 unfolding Gives
 gives-last p lines b e = subst (λ (ls : List (List ℕ)). Gives p ls Last b b) (sym e) (refl, refl)
 
-pub gives-put : (p : Plan) (lines : List (List ℕ)) (line : List ℕ) (later : List (List ℕ)) (count : ℕ) (next : Cursor) (b a : List ℕ) → lines ≡ line ∷ later →
-    Begins line b a count → rest p next ≡ later → Gives p lines (Put count next) b a
+pub gives-put : (p : Finished) (lines : List (List ℕ)) (line : List ℕ) (later : List (List ℕ)) (count : ℕ) (next : Cursor) (b a : List ℕ) → lines ≡ line ∷ later →
+    0 < length line → Begins line b a count → rest p next ≡ later → Gives p lines (Put count next) b a
 unfolding Gives
-gives-put p lines line later count next b a e begins leads =
+gives-put p lines line later count next b a e long begins leads =
     subst (λ (ls : List (List ℕ)). Gives p ls (Put count next) b a) (sym e)
-    (record { count = count; next = next; put = refl; begins = begins; leads = leads })
+    (record { count = count; next = next; put = refl; begins = begins; some = omega (arith, long, begins .counted); leads = leads })
 
-module _ (p : Plan) (n from v : ℕ) (all : n ≡ node-count (p .distances)) where
-  module _ (f : First-passing (has-path (p .distances) (p .wanted)) n from v) where
+-- EVERY LINE has a byte
+starts : (first more : List ℕ) → 0 < length first → 0 < length (first ++ more)
+starts first more h = omega (arith, length-append first more)
+
+pub refused-some : (n p : ℕ) → 0 < length (refused-line n p)
+unfolding refused-line
+refused-some n p = starts (text "refused ") (decimal n ++ text " at " ++ decimal p ++ text "\n") (omega arith)
+
+pub reached-some : (r h i : ℕ) → 0 < length (reached-line r h i)
+unfolding reached-line
+reached-some r h i = starts (text "reached ") (decimal r ++ text " horizon " ++ decimal h ++ text " iterations " ++ decimal i ++ text "\n") (omega arith)
+
+pub counts-some : (c e d : ℕ) → 0 < length (counts-line c e d)
+unfolding counts-line
+counts-some c e d =
+    starts (text "contractions ") (decimal c ++ text " extensions " ++ decimal e ++ text " deletions " ++ decimal d ++ text "\n") (omega arith)
+
+node-some : (v d p i : ℕ) → 0 < length (node-line v d p i)
+unfolding node-line
+node-some v d p i =
+    starts (text "node ") (decimal v ++ text " distance " ++ decimal d ++ text " price " ++ decimal p ++ text " arc " ++ arc-text i ++ text "\n") (omega arith)
+
+path-some : (v : ℕ) (vs : List ℕ) → 0 < length (path-line v vs)
+unfolding path-line
+path-some v vs = omega (arith, length-append (spaced (text "path " ++ decimal v ++ text ":") vs) (text "\n"))
+
+-- from the first node on come all of them
+paths-all : (p : Finished) → paths-from p 0 ≡ path-lines p (path-nodes p)
+unfolding paths-from path-nodes
+paths-all p =
+    let whole : node-count (p .answer .distances) - 0 ≡ node-count (p .answer .distances) = omega arith in
+    ap (λ (k : ℕ). path-lines p (passing (has-path (p .answer .distances) (p .wanted)) k 0)) whole
+
+pub nodes-all : (p : Finished) → nodes-from p 0 ≡ after-counts p
+unfolding nodes-from after-counts reached-nodes
+nodes-all p =
+    let whole : node-count (p .answer .distances) - 0 ≡ node-count (p .answer .distances) = omega arith in
+    ap (λ (k : ℕ). node-lines p (passing (has-distance (p .answer .distances)) k 0) ++ path-lines p (path-nodes p)) whole
+
+module _ (p : Finished) (n from v : ℕ) (all : n ≡ node-count (p .answer .distances)) where
+  module _ (f : First-passing (has-path (p .answer .distances) (p .wanted)) n from v) where
     abbrev test : ℕ → Bool
-    test = has-path (p .distances) (p .wanted)
+    test = has-path (p .answer .distances) (p .wanted)
 
     paths-as : paths-from p from ≡ path-lines p (passing test (n - v) v)
     unfolding paths-from
@@ -46,39 +88,39 @@ module _ (p : Plan) (n from v : ℕ) (all : n ≡ node-count (p .distances)) whe
     unfolding path-lines
     path-last b h = gives-last p (paths-from p from) b (paths-as ∙ ap (path-lines p) (passing-none test n v h))
 
-    pub path-put : {count : ℕ} {b a vs : List ℕ} → v < n → vs ≡ listing (p .origin) v (tree-in (p .tails) (p .heads) (p .tree)) most-nodes .nodes →
+    pub path-put : {count : ℕ} {b a vs : List ℕ} → v < n → vs ≡ listing (p .origin) v (tree-in (p .tails) (p .heads) (p .answer .tree)) most-nodes .nodes →
         Begins (path-line v vs) b a count →
         Gives p (paths-from p from) (Put count (Path (v + 1))) b a
     unfolding path-lines rest paths-from
     path-put {count} {b} {a} {vs} h same begins =
         gives-put p (paths-from p from) _ (path-lines p (passing test (n - (v + 1)) (v + 1))) count (Path (v + 1)) b a
-        (paths-as ∙ ap (path-lines p) (passing-here test n v h (f .passes h)))
+        (paths-as ∙ ap (path-lines p) (passing-here test n v h (f .passes h))) (path-some v _)
         (subst (λ (l : List ℕ). Begins (path-line v l) b a count) same begins)
         (ap (λ (k : ℕ). path-lines p (passing test (k - (v + 1)) (v + 1))) (sym all))
 
-  module _ (f : First-passing (has-distance (p .distances)) n from v) where
-    nodes-as : nodes-from p from ≡ node-lines p (passing (has-distance (p .distances)) (n - v) v) ++ paths-from p 0
+  module _ (f : First-passing (has-distance (p .answer .distances)) n from v) where
+    nodes-as : nodes-from p from ≡ node-lines p (passing (has-distance (p .answer .distances)) (n - v) v) ++ path-lines p (path-nodes p)
     unfolding nodes-from
     nodes-as =
-        ap (λ (k : ℕ). node-lines p (passing (has-distance (p .distances)) (k - from) from) ++ paths-from p 0) (sym all)
-        ∙ ap (λ (vs : List ℕ). node-lines p vs ++ paths-from p 0) (f .same)
+        ap (λ (k : ℕ). node-lines p (passing (has-distance (p .answer .distances)) (k - from) from) ++ path-lines p (path-nodes p)) (sym all)
+        ∙ ap (λ (vs : List ℕ). node-lines p vs ++ path-lines p (path-nodes p)) (f .same)
 
     pub node-last : (r : Line) (b a : List ℕ) → n ≤ v → Gives p (paths-from p 0) r b a → Gives p (nodes-from p from) r b a
     unfolding node-lines
     node-last r b a h g =
         subst (λ (ls : List (List ℕ)). Gives p ls r b a)
-        (sym (nodes-as ∙ ap (λ (vs : List ℕ). node-lines p vs ++ paths-from p 0) (passing-none (has-distance (p .distances)) n v h)))
+        (paths-all p ∙ sym (nodes-as ∙ ap (λ (vs : List ℕ). node-lines p vs ++ path-lines p (path-nodes p)) (passing-none (has-distance (p .answer .distances)) n v h)))
         g
 
-    pub node-put : {count price arc : ℕ} {b a : List ℕ} → v < n → price ≡ getD (p .prices) v 0 → arc ≡ getD (p .tree) v no-arc →
-        Begins (node-line v (getD (p .distances) v 0) price arc) b a count →
-        Gives p (nodes-from p from) (Put count (Node (v + 1))) b a
+    pub node-put : {count distance price arc : ℕ} {b a : List ℕ} → v < n → distance ≡ distance-of (p .answer) v → price ≡ price-of (p .answer) v →
+        arc ≡ link-of (p .answer) v → Begins (node-line v distance price arc) b a count → Gives p (nodes-from p from) (Put count (Node (v + 1))) b a
     unfolding node-lines rest nodes-from
-    node-put {count} {price} {arc} {b} {a} h same-price same-arc begins =
-        gives-put p (nodes-from p from) _ (node-lines p (passing (has-distance (p .distances)) (n - (v + 1)) (v + 1)) ++ paths-from p 0) count (Node (v + 1)) b a
-        (nodes-as ∙ ap (λ (vs : List ℕ). node-lines p vs ++ paths-from p 0) (passing-here (has-distance (p .distances)) n v h (f .passes h)))
-        (subst₂ (λ (q k : ℕ). Begins (node-line v (getD (p .distances) v 0) q k) b a count) same-price same-arc begins)
-        (ap (λ (k : ℕ). node-lines p (passing (has-distance (p .distances)) (k - (v + 1)) (v + 1)) ++ paths-from p 0) (sym all))
+    node-put {count} {distance} {price} {arc} {b} {a} h same-distance same-price same-arc begins =
+        gives-put p (nodes-from p from) _ (node-lines p (passing (has-distance (p .answer .distances)) (n - (v + 1)) (v + 1)) ++ path-lines p (path-nodes p)) count (Node (v + 1)) b a
+        (nodes-as ∙ ap (λ (vs : List ℕ). node-lines p vs ++ path-lines p (path-nodes p)) (passing-here (has-distance (p .answer .distances)) n v h (f .passes h))) (node-some v _ _ _)
+        (subst (λ (d : ℕ). Begins (node-line v d (price-of (p .answer) v) (link-of (p .answer) v)) b a count) same-distance
+        (subst₂ (λ (q k : ℕ). Begins (node-line v distance q k) b a count) same-price same-arc begins))
+        (ap (λ (k : ℕ). node-lines p (passing (has-distance (p .answer .distances)) (k - (v + 1)) (v + 1)) ++ path-lines p (path-nodes p)) (sym all))
 
 -- A LISTING fits into the buffer it was given, and stands at its start
 module _ (l : Listing) (r : Listed) (b a : List ℕ) (s : Lists l r b a) where
@@ -108,37 +150,30 @@ pub listing-fits : (o v : ℕ) (k : Tree) (room : ℕ) → length (listing o v k
 unfolding listing refused
 listing-fits o v k room =
     ⊎-elim
-    (λ (e : eqb (ground-of o v k) 0 ≡ true).
+    (λ (e : eqb (early-of o v k) 0 ≡ true).
     let z : length (listing o v k room .nodes) ≡ length (into room (path o v k) .nodes) =
-    ap (λ (b : Bool). length (cond b (into room (path o v k)) (refused (ground-of o v k)) .nodes)) e in
+    ap (λ (b : Bool). length (cond b (into room (path o v k)) (refused (early-of o v k)) .nodes)) e in
     omega (arith, into-fits room (path o v k)))
-    (λ (e : eqb (ground-of o v k) 0 ≡ false).
-    let z : length (listing o v k room .nodes) ≡ 0 = ap (λ (b : Bool). length (cond b (into room (path o v k)) (refused (ground-of o v k)) .nodes)) e in
+    (λ (e : eqb (early-of o v k) 0 ≡ false).
+    let z : length (listing o v k room .nodes) ≡ 0 = ap (λ (b : Bool). length (cond b (into room (path o v k)) (refused (early-of o v k)) .nodes)) e in
     omega arith)
-    (true-or (eqb (ground-of o v k) 0))
+    (true-or (eqb (early-of o v k) 0))
 
--- WITH ROOM FOR A LINE, at a known cursor
-pub says : (p : Plan) (c at : Cursor) (r : Line) (b a : List ℕ) → line-room ≤ length b → c ≡ at → Gives p (rest p at) r b a →
-    Says (ltb (length b) line-room) p c r b a
-unfolding Says
-says p c at r b a h e g =
-    subst (λ (s : Bool). Says s p c r b a) (sym (le-ltb (length b) line-room h)) (subst (λ (k : Cursor). Gives p (rest p k) r b a) (sym e) g)
-
-pub says-short : (p : Plan) (c : Cursor) (b : List ℕ) → length b < line-room → Says (ltb (length b) line-room) p c Short b b
-unfolding Says
-says-short p c b h = subst (λ (s : Bool). Says s p c Short b b) (sym (lt-ltb (length b) line-room h)) (refl, refl)
+-- at a known cursor
+pub at-cursor : (p : Finished) (c at : Cursor) (r : Line) (b a : List ℕ) → c ≡ at → Gives p (rest p at) r b a → Gives p (rest p c) r b a
+at-cursor p c at r b a e g = subst (λ (k : Cursor). Gives p (rest p k) r b a) (sym e) g
 
 -- at the start: the refusal's line first, and what follows it
-module _ (p : Plan) where
+module _ (p : Finished) where
   pub start-unrefused : p .answer .number ≡ 0 → rest p Start ≡ from-reached p
-  unfolding rest sheet from-refusal
+  unfolding rest sheet
   start-unrefused e =
       let refused = refused-line (p .answer .number) (p .answer .place) ∷ cond (eqb (p .answer .number) 8) (from-reached p) [] in
       ap (λ (b : Bool). cond b (from-reached p) refused) (eq-eqb (p .answer .number) 0 e)
 
   start-refused : (p .answer .number ≡ 0 → ⊥) →
       rest p Start ≡ refused-line (p .answer .number) (p .answer .place) ∷ cond (eqb (p .answer .number) 8) (from-reached p) []
-  unfolding rest sheet from-refusal
+  unfolding rest sheet
   start-refused d =
       let refused = refused-line (p .answer .number) (p .answer .place) ∷ cond (eqb (p .answer .number) 8) (from-reached p) [] in
       ap (λ (b : Bool). cond b (from-reached p) refused) (ne-eqb (p .answer .number) 0 d)
@@ -148,30 +183,7 @@ module _ (p : Plan) where
   start-no-route d e =
       start-refused d ∙ ap (λ (b : Bool). refused-line (p .answer .number) (p .answer .place) ∷ cond b (from-reached p) []) (eq-eqb (p .answer .number) 8 e)
 
-  pub start-turned-down : (p .answer .number ≡ 0 → ⊥) → (p .answer .number ≡ 8 → ⊥) →
+  pub start-refused-only : (p .answer .number ≡ 0 → ⊥) → (p .answer .number ≡ 8 → ⊥) →
       rest p Start ≡ refused-line (p .answer .number) (p .answer .place) ∷ []
-  start-turned-down d e =
+  start-refused-only d e =
       start-refused d ∙ ap (λ (b : Bool). refused-line (p .answer .number) (p .answer .place) ∷ cond b (from-reached p) []) (ne-eqb (p .answer .number) 8 e)
-
--- A LINE THAT WAS PUT is inside the buffer, and one line fewer is to come
-pub record Advances (p : Plan) (c next : Cursor) (count room : ℕ) : Type 0 where
-  pub inside : count ≤ room
-  pub fewer : length (rest p next) < length (rest p c)
-
-put-line : (p : Plan) (lines : List (List ℕ)) (c next : Cursor) (count : ℕ) (b a : List ℕ) → rest p c ≡ lines → length a ≡ length b →
-    Gives p lines (Put count next) b a → Advances p c next count (length b)
-unfolding Gives
-put-line p [] c next count b a e same g = let z : _≡_ {A = ℕ} 0 1 = cc (g .0) in absurd (omega arith)
-put-line p (l ∷ later) c next count b a e same g =
-    let counts : count ≡ g .count = cc (g .put) in
-    let leads : rest p next ≡ later = cc (g .put, g .leads) in
-    record {
-      inside = omega (arith, counts, g .begins .counted, same, ap length (g .begins .holds), length-append l (drop (length l) b));
-      fewer = omega (arith, ap length leads, ap length e);
-    }
-
-pub advances : (p : Plan) (c next : Cursor) (count : ℕ) (b a : List ℕ) → line-room ≤ length b → length a ≡ length b →
-    Says (ltb (length b) line-room) p c (Put count next) b a → Advances p c next count (length b)
-unfolding Says
-advances p c next count b a h same s =
-    put-line p (rest p c) c next count b a refl same (subst (λ (k : Bool). Says k p c (Put count next) b a) (le-ltb (length b) line-room h) s)

@@ -6,7 +6,8 @@ use native.Mathlib.Omega.{arith}
 use native.Mathlib.Numerals.{add-one}
 use lib.ListN.{length, getD, take}
 use lib.Seq.{take-suc, take-all}
-use Rattle.sheet.specs.Text.{text, decimal, spaced, Begins}
+use Rattle.sheet.specs.Text.{text, decimal, spaced}
+use Rattle.printer.specs.Buffers.{Begins}
 
 spaced-more : (line xs : List ℕ) (a : ℕ) → spaced line (xs ++ (a ∷ [])) ≡ spaced line xs ++ text " " ++ decimal a
 unfolding spaced

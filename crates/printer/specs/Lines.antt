@@ -60,6 +60,10 @@ unfoldable pub Gives : Finished → (lines : List (List ℕ)) → Line → (befo
 Gives p [] r b a = (r ≡ Last) × (a ≡ b)
 Gives p (l ∷ later) r b a = Puts p l later r b a
 
+-- THE CONTRACT of next_line: the next of the lines that are to come from a cursor
+abbrev pub Next-line : Cursor → Planned → (origin : ℕ) → (tails heads wanted distances prices tree : List ℕ) → Line → (before after : List ℕ) → Type 0
+Next-line c a o ts hs ws ds ps tr r before after = Gives (printing a o ts hs ws ds ps tr) (rest (printing a o ts hs ws ds ps tr) c) r before after
+
 -- the first node from v on that passes a test, n where there is none
 pub record First-passing (test : ℕ → Bool) (n v u : ℕ) : Type 0 where
   pub low : u ≤ n

@@ -1,8 +1,9 @@
-// The printed sheet, a line at a time. specs/Sheet.antt says which lines a sheet has; every line that is put into the lent buffer is the next of them.
+// Printing a sheet, a piece at a time. crates/sheet says which lines a sheet has; each piece is the next of them, as many as fit into the lent buffer.
 mod lines;
+mod pieces;
 mod text;
 
 pub use lines::Cursor;
-pub use lines::Line;
-pub use lines::next_line;
-pub use text::LINE_ROOM;
+pub use pieces::PIECE_ROOM;
+pub use pieces::Piece;
+pub use pieces::next_piece;

@@ -1,18 +1,22 @@
-// The lines of a sheet, in order.
+// The lines of a sheet, one at a time.
 ghost use mathlib.Core.Path.{_≡_};
 ghost use mathlib.Core.Bool.{true};
 ghost use mathlib.Core.List.{List, [], _++_};
-ghost use Prim.Native.Nat.{ℕ, _+_, _≤_, _<_, min};
-ghost use lib.Dec.{ltb};
+ghost use Prim.Native.Nat.{ℕ, _+_, _≤_, _<_};
 ghost use lib.ListN.{length, getD};
-ghost use Rattle.table.specs.Table.{no-arc, no-distance};
-ghost use Rattle.sheet.specs.Text.{decimal, spaced, text, Begins};
-ghost use Rattle.sheet.specs.Sheet.{refused-line, reached-line, counts-line, arc-text, node-line, path-line, plan, Gives, Says, line-room, First-passing, node-count, holds, has-distance, has-path, nodes-from, paths-from};
-use crate::text::LINE_ROOM;
+ghost use Rattle.table.specs.Table.{no-arc, most-nodes};
+ghost use Rattle.sheet.specs.Text.{decimal, spaced, text};
+ghost use Rattle.sheet.specs.Sheet.{refused-line, reached-line, counts-line, arc-text, node-line, path-line, node-count, has-distance, has-path, sheet};
+ghost use Rattle.printer.specs.Buffers.{Begins};
+ghost use Rattle.printer.specs.declared.lines.Cursor.the-variants.{Node, Path};
+ghost use Rattle.printer.specs.Lines.{printing, Gives, Next-line, line-room, most-digits, most-path, First-passing, Lesser};
 use crate::text::put;
 use crate::text::put_field;
 use crate::text::put_number;
 use planner::Planned;
+use table::MOST_NODES;
+use table::Refusal;
+use table::wide;
 
 // Where in a sheet the next line stands: at the start, at the two lines of counts, at the line of a node or of a path from a node on, or past all lines.
 pub enum Cursor {
@@ -24,15 +28,14 @@ pub enum Cursor {
     End,
 }
 
-// The next line was put, this many bytes long, and the cursor of the one after it; there is no next line; or the buffer is shorter than LINE_ROOM.
+// The next line was put, this many bytes long, with the cursor of the one after it; or there is no next line.
 pub enum Line {
     Put(usize, Cursor),
     Last,
-    Short,
 }
 
 fn put_refused(number: u32, place: u32, out: &mut [u8]) -> usize
-    requires { ⌜ 32768 ≤ length (now out) ⌝ }
+    requires { ⌜ line-room ≤ length (now out) ⌝ }
     ensures { λ r. ⌜ Begins (refused-line number place) (now (out .entry)) (now (out .exit)) r ⌝ }
 {
     let a = put_field(b"refused ", number as u64, 0, out);
@@ -41,7 +44,7 @@ fn put_refused(number: u32, place: u32, out: &mut [u8]) -> usize
 }
 
 fn put_reached(reached: u32, horizon: u64, iterations: u64, out: &mut [u8]) -> usize
-    requires { ⌜ 32768 ≤ length (now out) ⌝ }
+    requires { ⌜ line-room ≤ length (now out) ⌝ }
     ensures { λ r. ⌜ Begins (reached-line reached horizon iterations) (now (out .entry)) (now (out .exit)) r ⌝ }
 {
     let a = put_field(b"reached ", reached as u64, 0, out);
@@ -51,7 +54,7 @@ fn put_reached(reached: u32, horizon: u64, iterations: u64, out: &mut [u8]) -> u
 }
 
 fn put_counts(contractions: u64, extensions: u64, deletions: u64, out: &mut [u8]) -> usize
-    requires { ⌜ 32768 ≤ length (now out) ⌝ }
+    requires { ⌜ line-room ≤ length (now out) ⌝ }
     ensures { λ r. ⌜ Begins (counts-line contractions extensions deletions) (now (out .entry)) (now (out .exit)) r ⌝ }
 {
     let a = put_field(b"contractions ", contractions, 0, out);
@@ -62,9 +65,9 @@ fn put_counts(contractions: u64, extensions: u64, deletions: u64, out: &mut [u8]
 
 // An arc's position, "-" where there is none.
 fn put_arc(arc: u16, at: usize, out: &mut [u8]) -> usize
-    requires { ⌜ at + 20 ≤ length (now out) ⌝ }
+    requires { ⌜ at + most-digits ≤ length (now out) ⌝ }
     ensures begins { λ r. ⌜ ((with before : List ℕ) → Begins with before (now (out .entry)) at → Begins (with ++ arc-text arc) before (now (out .exit)) r) ⌝ }
-    ensures long { λ r. ⌜ (r ≤ at + 20) × (length (now (out .exit)) ≡ length (now (out .entry))) ⌝ }
+    ensures long { λ r. ⌜ (r ≤ at + most-digits) × (length (now (out .exit)) ≡ length (now (out .entry))) ⌝ }
 {
     if arc == table::NO_ARC {
         return put(b"-", at, out);
@@ -73,7 +76,7 @@ fn put_arc(arc: u16, at: usize, out: &mut [u8]) -> usize
 }
 
 fn put_node(node: usize, distance: u64, price: u64, arc: u16, out: &mut [u8]) -> usize
-    requires { ⌜ 32768 ≤ length (now out) ⌝ }
+    requires { ⌜ line-room ≤ length (now out) ⌝ }
     ensures { λ r. ⌜ Begins (node-line node distance price arc) (now (out .entry)) (now (out .exit)) r ⌝ }
 {
     let a = put_field(b"node ", node as u64, 0, out);
@@ -84,32 +87,25 @@ fn put_node(node: usize, distance: u64, price: u64, arc: u16, out: &mut [u8]) ->
     put(b"\n", e, out)
 }
 
-// A 16-bit node number in 64 bits.
-fn wide(x: u16) -> u64
-    ensures { λ r. ⌜ r ≡ x ⌝ }
-{
-    x as u64
-}
-
 // Puts the numbers of nodes, each after a space.
 fn put_spaced(nodes: &[u16], at: usize, out: &mut [u8]) -> usize
-    requires { ⌜ length (now nodes) ≤ 1024 ⌝ }
-    requires { ⌜ at + 21504 ≤ length (now out) ⌝ }
+    requires { ⌜ length (now nodes) ≤ most-nodes ⌝ }
+    requires { ⌜ at + most-path ≤ length (now out) ⌝ }
     ensures begins { λ r. ⌜ ((with before : List ℕ) → Begins with before (now (out .entry)) at → Begins (spaced with (now (nodes .entry))) before (now (out .exit)) r) ⌝ }
-    ensures long { λ r. ⌜ (r ≤ at + 21504) × (length (now (out .exit)) ≡ length (now (out .entry))) ⌝ }
+    ensures long { λ r. ⌜ (r ≤ at + most-path) × (length (now (out .exit)) ≡ length (now (out .entry))) ⌝ }
 {
     let mut end = at;
     let mut i = 0;
     while i < nodes.len() {
-        end = put_field(b" ", wide(nodes[i]), end, out);
+        end = put_field(b" ", wide(nodes[i]) as u64, end, out);
         i += 1;
     }
     end
 }
 
 fn put_path(node: usize, nodes: &[u16], out: &mut [u8]) -> usize
-    requires { ⌜ length (now nodes) ≤ 1024 ⌝ }
-    requires { ⌜ 32768 ≤ length (now out) ⌝ }
+    requires { ⌜ length (now nodes) ≤ most-nodes ⌝ }
+    requires { ⌜ line-room ≤ length (now out) ⌝ }
     ensures { λ r. ⌜ Begins (path-line node (now (nodes .entry))) (now (out .entry)) (now (out .exit)) r ⌝ }
 {
     let a = put_field(b"path ", node as u64, 0, out);
@@ -118,36 +114,16 @@ fn put_path(node: usize, nodes: &[u16], out: &mut [u8]) -> usize
     put(b"\n", c, out)
 }
 
-// The most nodes a table has, as a length.
-const MOST_NODES: usize = table::MOST_NODES as usize;
-
-// The ground on which a plan is made all the same.
-const NO_ROUTE: u32 = 8;
-
 // How many nodes may have lines.
 fn node_count(distances: &[u64]) -> usize
     ensures { λ r. ⌜ r ≡ node-count (now (distances .entry)) ⌝ }
-    ensures { λ r. ⌜ (r ≤ length (now (distances .entry))) × (r ≤ 1024) ⌝ }
+    ensures { λ r. ⌜ (r ≤ length (now (distances .entry))) × (r ≤ most-nodes) ⌝ }
 {
     if distances.len() < MOST_NODES {
         distances.len()
     } else {
         MOST_NODES
     }
-}
-
-// Whether a node stands in the wanted list.
-fn is_wanted(node: usize, wanted: &[u16]) -> bool
-    ensures { λ r. ⌜ r ≡ holds node (now (wanted .entry)) ⌝ }
-{
-    let mut i = 0;
-    while i < wanted.len() {
-        if wide(wanted[i]) == node as u64 {
-            return true;
-        }
-        i += 1;
-    }
-    false
 }
 
 // The first node with a distance, from a node on.
@@ -165,30 +141,35 @@ fn next_with_distance(from: usize, n: usize, distances: &[u64]) -> usize
     n
 }
 
-// Whether a node has a distance and is wanted.
-fn has_path(node: usize, distances: &[u64], wanted: &[u16]) -> bool
-    requires { ⌜ node < length (now distances) ⌝ }
-    ensures { λ r. ⌜ r ≡ has-path (now (distances .entry)) (now (wanted .entry)) node ⌝ }
+// The lesser of the node found so far and another one, which counts where it has a distance and is not before a node.
+fn lesser(from: usize, found: usize, v: usize, distances: &[u64]) -> usize
+    requires { ⌜ found ≤ length (now distances) ⌝ }
+    ensures { λ r. ⌜ Lesser (now (distances .entry)) from found v r ⌝ }
 {
-    if distances[node] == table::NO_DISTANCE {
-        return false;
+    if v < from {
+        return found;
     }
-    is_wanted(node, wanted)
+    if found <= v {
+        return found;
+    }
+    if distances[v] == table::NO_DISTANCE {
+        return found;
+    }
+    v
 }
 
-// The first wanted node with a distance, from a node on.
+// The first wanted node with a distance, from a node on: one look at each entry of the wanted list.
 fn next_with_path(from: usize, n: usize, distances: &[u64], wanted: &[u16]) -> usize
     requires { ⌜ n ≤ length (now distances) ⌝ }
     ensures { λ r. ⌜ First-passing (has-path (now (distances .entry)) (now (wanted .entry))) n from r ⌝ }
 {
-    let mut v = from;
-    while v < n {
-        if has_path(v, distances, wanted) {
-            return v;
-        }
-        v += 1;
+    let mut found = n;
+    let mut i = 0;
+    while i < wanted.len() {
+        found = lesser(from, found, wide(wanted[i]), distances);
+        i += 1;
     }
-    n
+    found
 }
 
 fn price_at(node: usize, prices: &[u64]) -> u64
@@ -220,8 +201,11 @@ fn next_path(
     tree: &[u16],
     out: &mut [u8],
 ) -> Line
-    requires { ⌜ 32768 ≤ length (now out) ⌝ }
-    ensures { λ r. ⌜ Gives (plan answer origin (now (tails .entry)) (now (heads .entry)) (now (wanted .entry)) (now (distances .entry)) (now (prices .entry)) (now (tree .entry))) (paths-from (plan answer origin (now (tails .entry)) (now (heads .entry)) (now (wanted .entry)) (now (distances .entry)) (now (prices .entry)) (now (tree .entry))) from) r (now (out .entry)) (now (out .exit)) ⌝ }
+    requires { ⌜ line-room ≤ length (now out) ⌝ }
+    ensures { λ r. ⌜
+        Next-line (Path from) answer origin (now (tails .entry)) (now (heads .entry)) (now (wanted .entry)) (now (distances .entry)) (now (prices .entry))
+        (now (tree .entry)) r (now (out .entry)) (now (out .exit))
+        ⌝ }
 {
     let n = node_count(distances);
     let v = next_with_path(from, n, distances, wanted);
@@ -248,8 +232,11 @@ fn next_node(
     tree: &[u16],
     out: &mut [u8],
 ) -> Line
-    requires { ⌜ 32768 ≤ length (now out) ⌝ }
-    ensures { λ r. ⌜ Gives (plan answer origin (now (tails .entry)) (now (heads .entry)) (now (wanted .entry)) (now (distances .entry)) (now (prices .entry)) (now (tree .entry))) (nodes-from (plan answer origin (now (tails .entry)) (now (heads .entry)) (now (wanted .entry)) (now (distances .entry)) (now (prices .entry)) (now (tree .entry))) from) r (now (out .entry)) (now (out .exit)) ⌝ }
+    requires { ⌜ line-room ≤ length (now out) ⌝ }
+    ensures { λ r. ⌜
+        Next-line (Node from) answer origin (now (tails .entry)) (now (heads .entry)) (now (wanted .entry)) (now (distances .entry)) (now (prices .entry))
+        (now (tree .entry)) r (now (out .entry)) (now (out .exit))
+        ⌝ }
 {
     let n = node_count(distances);
     let v = next_with_distance(from, n, distances);
@@ -273,7 +260,27 @@ fn next_node(
     Line::Put(count, Cursor::Node(v + 1))
 }
 
-// The next line of a plan's sheet, from a cursor on, at the start of a lent buffer.
+// The first line: a refusal's where there is one. Behind it the sheet ends, unless the plan was made all the same.
+fn first_line(answer: Planned, out: &mut [u8]) -> Line
+    requires { ⌜ line-room ≤ length (now out) ⌝ }
+    ensures { λ r. ⌜
+        ((o : ℕ) (ts hs ws ds ps tr : List ℕ) →
+        Gives (printing answer o ts hs ws ds ps tr) (sheet (printing answer o ts hs ws ds ps tr)) r (now (out .entry)) (now (out .exit)))
+        ⌝ }
+{
+    let number = answer.number;
+    if number == Refusal::NONE {
+        let count = put_reached(answer.reached, answer.horizon, answer.iterations, out);
+        return Line::Put(count, Cursor::Counts);
+    }
+    let count = put_refused(number, answer.place, out);
+    if number == Refusal::NO_ROUTE {
+        return Line::Put(count, Cursor::Reached);
+    }
+    Line::Put(count, Cursor::End)
+}
+
+// The next line of a plan's sheet, from a cursor on, at the start of a buffer with room for a line.
 pub fn next_line(
     cursor: Cursor,
     answer: Planned,
@@ -286,24 +293,14 @@ pub fn next_line(
     tree: &[u16],
     out: &mut [u8],
 ) -> Line
-    ensures { λ r. ⌜ Says (ltb (length (now (out .entry))) line-room) (plan answer origin (now (tails .entry)) (now (heads .entry)) (now (wanted .entry)) (now (distances .entry)) (now (prices .entry)) (now (tree .entry))) cursor r (now (out .entry)) (now (out .exit)) ⌝ }
+    requires { ⌜ line-room ≤ length (now out) ⌝ }
+    ensures { λ r. ⌜
+        Next-line cursor answer origin (now (tails .entry)) (now (heads .entry)) (now (wanted .entry)) (now (distances .entry)) (now (prices .entry))
+        (now (tree .entry)) r (now (out .entry)) (now (out .exit))
+        ⌝ }
 {
-    if out.len() < LINE_ROOM {
-        return Line::Short;
-    }
     match cursor {
-        Cursor::Start => {
-            let number = answer.number;
-            if number == 0 {
-                let count = put_reached(answer.reached, answer.horizon, answer.iterations, out);
-                return Line::Put(count, Cursor::Counts);
-            }
-            let count = put_refused(number, answer.place, out);
-            if number == NO_ROUTE {
-                return Line::Put(count, Cursor::Reached);
-            }
-            Line::Put(count, Cursor::End)
-        }
+        Cursor::Start => first_line(answer, out),
         Cursor::Reached => {
             let count = put_reached(answer.reached, answer.horizon, answer.iterations, out);
             Line::Put(count, Cursor::Counts)

@@ -3,10 +3,9 @@ ghost use mathlib.Core.Path.{_≡_};
 ghost use mathlib.Core.List.{List, _++_};
 ghost use Prim.Native.Nat.{ℕ, _+_, _≤_};
 ghost use lib.ListN.{length};
-ghost use Rattle.sheet.specs.Text.{decimal, Begins};
-
-// What every line has room in: a number takes at most 20 bytes, and a path at most 1,024 numbers, each after a space.
-pub const LINE_ROOM: usize = 32768;
+ghost use Rattle.sheet.specs.Text.{decimal};
+ghost use Rattle.printer.specs.Buffers.{Begins};
+ghost use Rattle.printer.specs.Lines.{most-digits};
 
 // The most digits a number has.
 pub const MOST_DIGITS: usize = 20;
@@ -27,9 +26,9 @@ pub fn put(text: &[u8], at: usize, out: &mut [u8]) -> usize
 
 // Puts a number in decimal.
 pub fn put_number(n: u64, at: usize, out: &mut [u8]) -> usize
-    requires { ⌜ at + 20 ≤ length (now out) ⌝ }
+    requires { ⌜ at + most-digits ≤ length (now out) ⌝ }
     ensures begins { λ r. ⌜ ((with before : List ℕ) → Begins with before (now (out .entry)) at → Begins (with ++ decimal n) before (now (out .exit)) r) ⌝ }
-    ensures long { λ r. ⌜ (r ≤ at + 20) × (length (now (out .exit)) ≡ length (now (out .entry))) ⌝ }
+    ensures long { λ r. ⌜ (r ≤ at + most-digits) × (length (now (out .exit)) ≡ length (now (out .entry))) ⌝ }
 {
     let mut digits = [0u8; MOST_DIGITS];
     let k = io::decimal(n, &mut digits);
@@ -38,9 +37,9 @@ pub fn put_number(n: u64, at: usize, out: &mut [u8]) -> usize
 
 // Puts a text and then a number.
 pub fn put_field(name: &[u8], n: u64, at: usize, out: &mut [u8]) -> usize
-    requires { ⌜ at + (length (now name) + 20) ≤ length (now out) ⌝ }
+    requires { ⌜ at + (length (now name) + most-digits) ≤ length (now out) ⌝ }
     ensures begins { λ r. ⌜ ((with before : List ℕ) → Begins with before (now (out .entry)) at → Begins (with ++ now (name .entry) ++ decimal n) before (now (out .exit)) r) ⌝ }
-    ensures long { λ r. ⌜ (r ≤ at + (length (now (name .entry)) + 20)) × (length (now (out .exit)) ≡ length (now (out .entry))) ⌝ }
+    ensures long { λ r. ⌜ (r ≤ at + (length (now (name .entry)) + most-digits)) × (length (now (out .exit)) ≡ length (now (out .entry))) ⌝ }
 {
     let next = put(name, at, out);
     put_number(n, next, out)

@@ -1,28 +1,24 @@
--- `sheet::lines::arc_at` meets its contract. Assumes nothing.
+-- `printer::lines::arc_at` meets its contract. Assumes nothing.
 use mathlib.Core.Path.{sym}
 use native.Mathlib.Omega.{arith}
 use lib.ListN.{List·getD-eq-default}
 use Rattle.table.specs.Table.{no-arc}
-use Rattle.sheet.proofs.Passing.{inside-same}
+use Rattle.printer.proofs.Passing.{inside-same}
 use borrow.Author.Needs.{needs}
-use Rattle.sheet.proofs.lines.arc_at.Statement.{statement}
-use Rattle.sheet.proofs.lines.arc_at.Tie as tie
-use Rattle.sheet.proofs.lines.arc_at.Reads as reads
-use Rattle.sheet.proofs.lines.arc_at.Lts as lts
+use Rattle.printer.proofs.lines.arc_at.Statement.{statement}
+use Rattle.printer.proofs.lines.arc_at.Tie as tie
+use Rattle.printer.proofs.lines.arc_at.Reads as reads
+use Rattle.printer.proofs.lines.arc_at.Lts as lts
 
--- src/lines.rt:195:9
 mul-result : tie.Need-mul-result
 mul-result c = search needs
 
--- src/lines.rt:195:9
 shared-slice-read-result : tie.Need-shared-slice-read-result
 shared-slice-read-result c = search needs
 
--- src/lines.rt:191:1
 returns : tie.Need-returns
 returns c = inside-same (c .before .before .args .tree .now) (c .before .before .args .node) 0 no-arc (omega arith)
 
--- src/lines.rt:191:1
 returns-2 : tie.Need-returns-2
 returns-2 c = sym (List·getD-eq-default (c .before .args .tree .now) no-arc (omega arith))
 

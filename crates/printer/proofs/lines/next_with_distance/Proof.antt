@@ -1,14 +1,14 @@
--- `sheet::lines::next_with_distance` meets its contract: the nodes passed have no distance. Assumes nothing.
+-- `printer::lines::next_with_distance` meets its contract: the nodes passed have no distance. Assumes nothing.
 use mathlib.Core.Path.{_≡_, refl, _∙_}
 use Prim.Native.Nat.{_-_}
 use native.Mathlib.Omega.{arith}
 use borrow.Author.Needs.{needs}
 use Rattle.sheet.specs.Sheet.{passing, has-distance}
-use Rattle.sheet.proofs.Passing.{passing-later, found, none-found, distance-there, distance-missing}
-use Rattle.sheet.proofs.lines.next_with_distance.Statement.{statement}
-use Rattle.sheet.proofs.lines.next_with_distance.Tie as tie
-use Rattle.sheet.proofs.lines.next_with_distance.Reads as reads
-use Rattle.sheet.proofs.lines.next_with_distance.Lts as lts
+use Rattle.printer.proofs.Passing.{passing-later, found, none-found, distance-there, distance-missing}
+use Rattle.printer.proofs.lines.next_with_distance.Statement.{statement}
+use Rattle.printer.proofs.lines.next_with_distance.Tie as tie
+use Rattle.printer.proofs.lines.next_with_distance.Reads as reads
+use Rattle.printer.proofs.lines.next_with_distance.Lts as lts
 
 abbrev Inv-loop : tie.InvT-loop
 Inv-loop from n distances v₀ v = passing (has-distance distances) (n - from) from ≡ passing (has-distance distances) (n - v) v
@@ -16,19 +16,15 @@ Inv-loop from n distances v₀ v = passing (has-distance distances) (n - from) f
 abbrev μ-loop : tie.MeasureT-loop
 μ-loop from n distances v₀ v = n - v
 
--- src/lines.rt:159:5
 loop-holds : tie.Need-loop-holds Inv-loop μ-loop
 loop-holds c = refl
 
--- src/lines.rt:160:12
 mul-if1 : tie.Need-mul-if1 Inv-loop μ-loop
 mul-if1 c = search needs
 
--- src/lines.rt:160:12
 shared-slice-read-if1 : tie.Need-shared-slice-read-if1 Inv-loop μ-loop
 shared-slice-read-if1 c = omega arith
 
--- src/lines.rt:161:13
 returns : tie.Need-returns Inv-loop μ-loop
 returns c =
     let a = c .before .before .before .before in
@@ -36,15 +32,12 @@ returns c =
     found (has-distance (a .args .distances .now)) (a .args .n) (a .args .from) (l .v) (l .inv) (omega arith)
     (distance-there (a .args .distances .now) (l .v) (omega (arith, a .pre)) (c .if1 .taken))
 
--- src/lines.rt:163:9
 add-v : tie.Need-add-v Inv-loop μ-loop
 add-v c = omega arith
 
--- src/lines.rt:159:5
 loop-less : tie.Need-loop-less Inv-loop μ-loop
 loop-less c = omega arith
 
--- src/lines.rt:159:5
 loop-again : tie.Need-loop-again Inv-loop μ-loop
 loop-again c =
     let a = c .before .before .before .before in
@@ -53,7 +46,6 @@ loop-again c =
     ∙ passing-later (has-distance (a .args .distances .now)) (a .args .n) (l .v) (omega arith)
     (distance-missing (a .args .distances .now) (l .v) (omega (arith, a .pre)) (c .if1 .left))
 
--- src/lines.rt:154:1
 returns-2 : tie.Need-returns-2 Inv-loop μ-loop
 returns-2 c =
     let a = c .before .before in

@@ -1,56 +1,54 @@
--- `sheet::lines::next_with_path` meets its contract: the nodes passed have no distance or are not wanted. Assumes nothing.
-use mathlib.Core.Path.{_≡_, refl, sym, _∙_}
-use Prim.Native.Nat.{_-_}
+-- `printer::lines::next_with_path` meets its contract: the loop's invariant is `Least`. Assumes nothing.
+use Prim.Native.Nat.{ℕ, _-_}
+use mathlib.Core.Path.{subst}
 use native.Mathlib.Omega.{arith}
-use Rattle.sheet.specs.Sheet.{passing, has-path}
-use Rattle.sheet.proofs.Passing.{passing-later, found, none-found}
-use Rattle.sheet.proofs.lines.next_with_path.Statement.{statement}
-use Rattle.sheet.proofs.lines.next_with_path.Tie as tie
-use Rattle.sheet.proofs.lines.next_with_path.Reads as reads
-use Rattle.sheet.proofs.lines.next_with_path.Lts as lts
-use Rattle.sheet.proofs.lines.has_path.Reads as has-path-reads
+use borrow.Author.Needs.{needs}
+use lib.ListN.{length}
+use Rattle.printer.specs.Lines.{Lesser}
+use Rattle.printer.proofs.Passing.{Least, least-starts, least-next, least-found}
+use Rattle.printer.proofs.lines.next_with_path.Statement.{statement}
+use Rattle.printer.proofs.lines.next_with_path.Tie as tie
 
 abbrev Inv-loop : tie.InvT-loop
-Inv-loop from n distances wanted v₀ v = passing (has-path distances wanted) (n - from) from ≡ passing (has-path distances wanted) (n - v) v
+Inv-loop from n distances wanted found₀ i₀ found i = Least distances wanted from n i found
 
 abbrev μ-loop : tie.MeasureT-loop
-μ-loop from n distances wanted v₀ v = n - v
+μ-loop from n distances wanted found₀ i₀ found i = length wanted - i
 
--- src/lines.rt:185:5
 loop-holds : tie.Need-loop-holds Inv-loop μ-loop
-loop-holds c = refl
+loop-holds c = let a = c .before .before .args in least-starts (a .distances .now) (a .wanted .now) (a .from) (a .n)
 
--- src/lines.rt:186:12
-has-path-requires : tie.Need-has-path-requires Inv-loop μ-loop
-has-path-requires c κs = omega arith
+mul-wide : tie.Need-mul-wide Inv-loop μ-loop
+mul-wide c = search needs
 
--- src/lines.rt:187:13
-returns : tie.Need-returns Inv-loop μ-loop
-returns c =
-    let a = c .before .before .before .before .before .before .args in
-    let l = c .before .before .before .loop in
-    found (has-path (a .distances .now) (a .wanted .now)) (a .n) (a .from) (l .v) (l .inv) (omega arith) (sym (c .before .has-path .ensures) ∙ c .if1 .taken)
+shared-slice-read-wide : tie.Need-shared-slice-read-wide Inv-loop μ-loop
+shared-slice-read-wide c = search needs
 
--- src/lines.rt:189:9
-add-v : tie.Need-add-v Inv-loop μ-loop
-add-v c = omega arith
+wide-requires : tie.Need-wide-requires Inv-loop μ-loop
+wide-requires c κs = search needs
 
--- src/lines.rt:185:5
+lesser-requires : tie.Need-lesser-requires Inv-loop μ-loop
+lesser-requires c κs = omega (arith, c .before .before .before .loop .inv .low, c .before .before .before .before .before .before .pre)
+
+add-i : tie.Need-add-i Inv-loop μ-loop
+add-i c = omega arith
+
 loop-less : tie.Need-loop-less Inv-loop μ-loop
 loop-less c = omega arith
 
--- src/lines.rt:185:5
 loop-again : tie.Need-loop-again Inv-loop μ-loop
 loop-again c =
-    let a = c .before .before .before .before .before .before .args in
-    let l = c .before .before .before .loop in
-    l .inv ∙ passing-later (has-path (a .distances .now) (a .wanted .now)) (a .n) (l .v) (omega arith) (sym (c .before .has-path .ensures) ∙ c .if1 .left)
+    let l = c .before .before .before .before in
+    let a = l .before .before .before .args in
+    let w = c .before .wide in
+    least-next (a .distances .now) (a .wanted .now) (a .from) (a .n) (l .loop .i) (l .loop .found) (c .lesser .result) (c .before .before .before .loop-test .taken) (l .loop .inv)
+    (subst (λ (v : ℕ). Lesser (a .distances .now) (a .from) (l .loop .found) v (c .lesser .result)) (w .ensures .0) (c .lesser .ensures))
 
--- src/lines.rt:180:1
-returns-2 : tie.Need-returns-2 Inv-loop μ-loop
-returns-2 c =
-    let a = c .before .before .before .before .args in
-    none-found (has-path (a .distances .now) (a .wanted .now)) (a .n) (a .from) (c .before .loop .v) (c .before .loop .inv) (omega arith)
+returns : tie.Need-returns Inv-loop μ-loop
+returns c =
+    let l = c .before in
+    let a = l .before .before .before .args in
+    least-found (a .distances .now) (a .wanted .now) (a .from) (a .n) (l .loop .i) (l .loop .found) (c .loop-test .left) (l .loop .inv)
 
 pub next-with-path-spec : {M : Type 1} → statement M
 next-with-path-spec =
@@ -59,9 +57,11 @@ next-with-path-spec =
     Inv-loop
     μ-loop
     loop-holds
-    has-path-requires
-    returns
-    add-v
+    mul-wide
+    shared-slice-read-wide
+    wide-requires
+    lesser-requires
+    add-i
     loop-less
     loop-again
-    returns-2)
+    returns)

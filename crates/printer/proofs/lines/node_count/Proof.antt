@@ -1,17 +1,15 @@
--- `sheet::lines::node_count` meets its contract. Assumes nothing.
+-- `printer::lines::node_count` meets its contract. Assumes nothing.
 use native.Mathlib.Omega.{arith}
 use Rattle.sheet.specs.Sheet.{node-count}
-use Rattle.sheet.proofs.lines.node_count.Statement.{statement}
-use Rattle.sheet.proofs.lines.node_count.Tie as tie
-use Rattle.sheet.proofs.lines.node_count.Reads as reads
-use Rattle.sheet.proofs.lines.node_count.Lts as lts
+use Rattle.printer.proofs.lines.node_count.Statement.{statement}
+use Rattle.printer.proofs.lines.node_count.Tie as tie
+use Rattle.printer.proofs.lines.node_count.Reads as reads
+use Rattle.printer.proofs.lines.node_count.Lts as lts
 
--- src/lines.rt:128:1
 returns : tie.Need-returns
 unfolding node-count
 returns c = (omega arith, (omega arith, omega arith))
 
--- src/lines.rt:128:1
 returns-2 : tie.Need-returns-2
 unfolding node-count
 returns-2 c = (omega arith, (omega arith, omega arith))

@@ -1,26 +1,22 @@
--- `sheet::lines::price_at` meets its contract. Assumes nothing.
+-- `printer::lines::price_at` meets its contract. Assumes nothing.
 use mathlib.Core.Path.{sym}
 use native.Mathlib.Omega.{arith}
 use lib.ListN.{List·getD-eq-default}
 use borrow.Author.Needs.{needs}
-use Rattle.sheet.proofs.lines.price_at.Statement.{statement}
-use Rattle.sheet.proofs.lines.price_at.Tie as tie
-use Rattle.sheet.proofs.lines.price_at.Reads as reads
-use Rattle.sheet.proofs.lines.price_at.Lts as lts
+use Rattle.printer.proofs.lines.price_at.Statement.{statement}
+use Rattle.printer.proofs.lines.price_at.Tie as tie
+use Rattle.printer.proofs.lines.price_at.Reads as reads
+use Rattle.printer.proofs.lines.price_at.Lts as lts
 
--- src/lines.rt:188:30
 mul-result : tie.Need-mul-result
 mul-result c = search needs
 
--- src/lines.rt:188:30
 shared-slice-read-result : tie.Need-shared-slice-read-result
 shared-slice-read-result c = search needs
 
--- src/lines.rt:185:1
 returns : tie.Need-returns
 returns c = search needs
 
--- src/lines.rt:185:1
 returns-2 : tie.Need-returns-2
 returns-2 c = sym (List·getD-eq-default (c .before .args .prices .now) 0 (omega arith))
 

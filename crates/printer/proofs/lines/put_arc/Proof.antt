@@ -1,32 +1,28 @@
--- `sheet::lines::put_arc` meets its contract: "-" stands for no arc. Assumes nothing.
+-- `printer::lines::put_arc` meets its contract: "-" stands for no arc. Assumes nothing.
 use mathlib.Core.Path.{_≡_}
 use native.Mathlib.Omega.{arith}
 use borrow.Author.Needs.{needs}
 use borrow.Author.Tests.{eq-eqb, ne-eqb}
 use Rattle.table.specs.Table.{no-arc}
 use Rattle.sheet.specs.Text.{text, decimal}
 use Rattle.sheet.specs.Sheet.{arc-text}
-use Rattle.sheet.proofs.Begins.{begins-as}
-use Rattle.sheet.proofs.lines.put_arc.Statement.{statement}
-use Rattle.sheet.proofs.lines.put_arc.Tie as tie
-use Rattle.sheet.proofs.lines.put_arc.Reads as reads
-use Rattle.sheet.proofs.lines.put_arc.Lts as lts
-use Rattle.sheet.proofs.text.put.Reads as put-reads
-use Rattle.sheet.proofs.text.put_number.Reads as put-number-reads
+use Rattle.printer.proofs.Begins.{begins-as}
+use Rattle.printer.proofs.lines.put_arc.Statement.{statement}
+use Rattle.printer.proofs.lines.put_arc.Tie as tie
+use Rattle.printer.proofs.lines.put_arc.Reads as reads
+use Rattle.printer.proofs.lines.put_arc.Lts as lts
+use Rattle.printer.proofs.text.put.Reads as put-reads
+use Rattle.printer.proofs.text.put_number.Reads as put-number-reads
 
--- src/lines.rt:70:20
 slice-aggregate-put : tie.Need-slice-aggregate-put
 slice-aggregate-put c = search needs
 
--- src/lines.rt:70:9
 put-requires : tie.Need-put-requires
 put-requires c κs = search needs
 
--- src/lines.rt:70:9
 same-length : tie.Need-same-length
 same-length c = search needs
 
--- src/lines.rt:70:9
 returns : tie.Need-returns
 unfolding arc-text
 returns c =
@@ -35,15 +31,12 @@ returns c =
     let dash : text "-" ≡ arc-text a = rw (eq-eqb a no-arc (c .before .before .before .before .before .if1 .taken)) in
     ((λ with before b. begins-as with dash (p .ensures .0 with before b)), (omega (arith, p .ensures .1 .0), p .ensures .1 .1))
 
--- src/lines.rt:72:5
 put-number-requires : tie.Need-put-number-requires
 put-number-requires c κs = search needs
 
--- src/lines.rt:64:1
 same-length-2 : tie.Need-same-length-2
 same-length-2 c = search needs
 
--- src/lines.rt:64:1
 returns-2 : tie.Need-returns-2
 unfolding arc-text
 returns-2 c =

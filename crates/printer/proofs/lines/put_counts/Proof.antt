@@ -1,52 +1,42 @@
--- `sheet::lines::put_counts` meets its contract: the buffer begins with each text put so far. Assumes nothing.
+-- `printer::lines::put_counts` meets its contract: the buffer begins with each text put so far. Assumes nothing.
 use mathlib.Core.List.{[]}
 use borrow.Author.Needs.{needs}
 use Rattle.sheet.specs.Sheet.{counts-line}
-use Rattle.sheet.proofs.Begins.{begins-nothing}
-use Rattle.sheet.proofs.lines.put_counts.Statement.{statement}
-use Rattle.sheet.proofs.lines.put_counts.Tie as tie
-use Rattle.sheet.proofs.lines.put_counts.Reads as reads
-use Rattle.sheet.proofs.lines.put_counts.Lts as lts
-use Rattle.sheet.proofs.text.put.Reads as put-reads
-use Rattle.sheet.proofs.text.put_field.Reads as put-field-reads
+use Rattle.printer.proofs.Begins.{begins-nothing}
+use Rattle.printer.proofs.lines.put_counts.Statement.{statement}
+use Rattle.printer.proofs.lines.put_counts.Tie as tie
+use Rattle.printer.proofs.lines.put_counts.Reads as reads
+use Rattle.printer.proofs.lines.put_counts.Lts as lts
+use Rattle.printer.proofs.text.put.Reads as put-reads
+use Rattle.printer.proofs.text.put_field.Reads as put-field-reads
 
--- src/lines.rt:56:23
 slice-aggregate-put-field : tie.Need-slice-aggregate-put-field
 slice-aggregate-put-field c = search needs
 
--- src/lines.rt:56:9
 put-field-requires : tie.Need-put-field-requires
 put-field-requires c κs = search needs
 
--- src/lines.rt:57:23
 slice-aggregate-put-field-2 : tie.Need-slice-aggregate-put-field-2
 slice-aggregate-put-field-2 c = search needs
 
--- src/lines.rt:57:9
 put-field-requires-2 : tie.Need-put-field-requires-2
 put-field-requires-2 c κs = search needs
 
--- src/lines.rt:58:23
 slice-aggregate-put-field-3 : tie.Need-slice-aggregate-put-field-3
 slice-aggregate-put-field-3 c = search needs
 
--- src/lines.rt:58:9
 put-field-requires-3 : tie.Need-put-field-requires-3
 put-field-requires-3 c κs = search needs
 
--- src/lines.rt:59:9
 slice-aggregate-put : tie.Need-slice-aggregate-put
 slice-aggregate-put c = search needs
 
--- src/lines.rt:59:5
 put-requires : tie.Need-put-requires
 put-requires c κs = search needs
 
--- src/lines.rt:52:1
 same-length : tie.Need-same-length
 same-length c = search needs
 
--- src/lines.rt:52:1
 returns : tie.Need-returns
 unfolding counts-line
 returns c =

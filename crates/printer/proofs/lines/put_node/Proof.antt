@@ -1,65 +1,52 @@
--- `sheet::lines::put_node` meets its contract: the buffer begins with each text put so far. Assumes nothing.
+-- `printer::lines::put_node` meets its contract: the buffer begins with each text put so far. Assumes nothing.
 use mathlib.Core.List.{[]}
 use borrow.Author.Needs.{needs}
 use Rattle.sheet.specs.Sheet.{node-line}
-use Rattle.sheet.proofs.Begins.{begins-nothing}
-use Rattle.sheet.proofs.lines.put_node.Statement.{statement}
-use Rattle.sheet.proofs.lines.put_node.Tie as tie
-use Rattle.sheet.proofs.lines.put_node.Reads as reads
-use Rattle.sheet.proofs.lines.put_node.Lts as lts
-use Rattle.sheet.proofs.lines.put_arc.Reads as put-arc-reads
-use Rattle.sheet.proofs.text.put.Reads as put-reads
-use Rattle.sheet.proofs.text.put_field.Reads as put-field-reads
+use Rattle.printer.proofs.Begins.{begins-nothing}
+use Rattle.printer.proofs.lines.put_node.Statement.{statement}
+use Rattle.printer.proofs.lines.put_node.Tie as tie
+use Rattle.printer.proofs.lines.put_node.Reads as reads
+use Rattle.printer.proofs.lines.put_node.Lts as lts
+use Rattle.printer.proofs.lines.put_arc.Reads as put-arc-reads
+use Rattle.printer.proofs.text.put.Reads as put-reads
+use Rattle.printer.proofs.text.put_field.Reads as put-field-reads
 
--- src/lines.rt:79:23
 slice-aggregate-put-field : tie.Need-slice-aggregate-put-field
 slice-aggregate-put-field c = search needs
 
--- src/lines.rt:79:9
 put-field-requires : tie.Need-put-field-requires
 put-field-requires c κs = search needs
 
--- src/lines.rt:80:23
 slice-aggregate-put-field-2 : tie.Need-slice-aggregate-put-field-2
 slice-aggregate-put-field-2 c = search needs
 
--- src/lines.rt:80:9
 put-field-requires-2 : tie.Need-put-field-requires-2
 put-field-requires-2 c κs = search needs
 
--- src/lines.rt:81:23
 slice-aggregate-put-field-3 : tie.Need-slice-aggregate-put-field-3
 slice-aggregate-put-field-3 c = search needs
 
--- src/lines.rt:81:9
 put-field-requires-3 : tie.Need-put-field-requires-3
 put-field-requires-3 c κs = search needs
 
--- src/lines.rt:82:17
 slice-aggregate-put : tie.Need-slice-aggregate-put
 slice-aggregate-put c = search needs
 
--- src/lines.rt:82:9
 put-requires : tie.Need-put-requires
 put-requires c κs = search needs
 
--- src/lines.rt:83:9
 put-arc-requires : tie.Need-put-arc-requires
 put-arc-requires c κs = search needs
 
--- src/lines.rt:84:9
 slice-aggregate-put-2 : tie.Need-slice-aggregate-put-2
 slice-aggregate-put-2 c = search needs
 
--- src/lines.rt:84:5
 put-requires-2 : tie.Need-put-requires-2
 put-requires-2 c κs = search needs
 
--- src/lines.rt:75:1
 same-length : tie.Need-same-length
 same-length c = search needs
 
--- src/lines.rt:75:1
 returns : tie.Need-returns
 unfolding node-line
 returns c =

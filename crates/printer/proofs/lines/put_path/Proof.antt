@@ -1,49 +1,40 @@
--- `sheet::lines::put_path` meets its contract: the buffer begins with each text put so far. Assumes nothing.
+-- `printer::lines::put_path` meets its contract: the buffer begins with each text put so far. Assumes nothing.
 use mathlib.Core.List.{[]}
 use borrow.Author.Needs.{needs}
 use Rattle.sheet.specs.Sheet.{path-line}
-use Rattle.sheet.proofs.Begins.{begins-nothing}
-use Rattle.sheet.proofs.lines.put_path.Statement.{statement}
-use Rattle.sheet.proofs.lines.put_path.Tie as tie
-use Rattle.sheet.proofs.lines.put_path.Reads as reads
-use Rattle.sheet.proofs.lines.put_path.Lts as lts
-use Rattle.sheet.proofs.lines.put_spaced.Reads as put-spaced-reads
-use Rattle.sheet.proofs.text.put.Reads as put-reads
-use Rattle.sheet.proofs.text.put_field.Reads as put-field-reads
+use Rattle.printer.proofs.Begins.{begins-nothing}
+use Rattle.printer.proofs.lines.put_path.Statement.{statement}
+use Rattle.printer.proofs.lines.put_path.Tie as tie
+use Rattle.printer.proofs.lines.put_path.Reads as reads
+use Rattle.printer.proofs.lines.put_path.Lts as lts
+use Rattle.printer.proofs.lines.put_spaced.Reads as put-spaced-reads
+use Rattle.printer.proofs.text.put.Reads as put-reads
+use Rattle.printer.proofs.text.put_field.Reads as put-field-reads
 
--- src/lines.rt:115:23
 slice-aggregate-put-field : tie.Need-slice-aggregate-put-field
 slice-aggregate-put-field c = search needs
 
--- src/lines.rt:115:9
 put-field-requires : tie.Need-put-field-requires
 put-field-requires c κs = search needs
 
--- src/lines.rt:116:17
 slice-aggregate-put : tie.Need-slice-aggregate-put
 slice-aggregate-put c = search needs
 
--- src/lines.rt:116:9
 put-requires : tie.Need-put-requires
 put-requires c κs = search needs
 
--- src/lines.rt:117:9
 put-spaced-requires : tie.Need-put-spaced-requires
 put-spaced-requires c κs = search needs
 
--- src/lines.rt:118:9
 slice-aggregate-put-2 : tie.Need-slice-aggregate-put-2
 slice-aggregate-put-2 c = search needs
 
--- src/lines.rt:118:5
 put-requires-2 : tie.Need-put-requires-2
 put-requires-2 c κs = search needs
 
--- src/lines.rt:110:1
 same-length : tie.Need-same-length
 same-length c = search needs
 
--- src/lines.rt:110:1
 returns : tie.Need-returns
 unfolding path-line
 returns c =

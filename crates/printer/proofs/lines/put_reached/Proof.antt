@@ -1,52 +1,42 @@
--- `sheet::lines::put_reached` meets its contract: the buffer begins with each text put so far. Assumes nothing.
+-- `printer::lines::put_reached` meets its contract: the buffer begins with each text put so far. Assumes nothing.
 use mathlib.Core.List.{[]}
 use borrow.Author.Needs.{needs}
 use Rattle.sheet.specs.Sheet.{reached-line}
-use Rattle.sheet.proofs.Begins.{begins-nothing}
-use Rattle.sheet.proofs.lines.put_reached.Statement.{statement}
-use Rattle.sheet.proofs.lines.put_reached.Tie as tie
-use Rattle.sheet.proofs.lines.put_reached.Reads as reads
-use Rattle.sheet.proofs.lines.put_reached.Lts as lts
-use Rattle.sheet.proofs.text.put.Reads as put-reads
-use Rattle.sheet.proofs.text.put_field.Reads as put-field-reads
+use Rattle.printer.proofs.Begins.{begins-nothing}
+use Rattle.printer.proofs.lines.put_reached.Statement.{statement}
+use Rattle.printer.proofs.lines.put_reached.Tie as tie
+use Rattle.printer.proofs.lines.put_reached.Reads as reads
+use Rattle.printer.proofs.lines.put_reached.Lts as lts
+use Rattle.printer.proofs.text.put.Reads as put-reads
+use Rattle.printer.proofs.text.put_field.Reads as put-field-reads
 
--- src/lines.rt:46:23
 slice-aggregate-put-field : tie.Need-slice-aggregate-put-field
 slice-aggregate-put-field c = search needs
 
--- src/lines.rt:46:9
 put-field-requires : tie.Need-put-field-requires
 put-field-requires c κs = search needs
 
--- src/lines.rt:47:23
 slice-aggregate-put-field-2 : tie.Need-slice-aggregate-put-field-2
 slice-aggregate-put-field-2 c = search needs
 
--- src/lines.rt:47:9
 put-field-requires-2 : tie.Need-put-field-requires-2
 put-field-requires-2 c κs = search needs
 
--- src/lines.rt:48:23
 slice-aggregate-put-field-3 : tie.Need-slice-aggregate-put-field-3
 slice-aggregate-put-field-3 c = search needs
 
--- src/lines.rt:48:9
 put-field-requires-3 : tie.Need-put-field-requires-3
 put-field-requires-3 c κs = search needs
 
--- src/lines.rt:49:9
 slice-aggregate-put : tie.Need-slice-aggregate-put
 slice-aggregate-put c = search needs
 
--- src/lines.rt:49:5
 put-requires : tie.Need-put-requires
 put-requires c κs = search needs
 
--- src/lines.rt:42:1
 same-length : tie.Need-same-length
 same-length c = search needs
 
--- src/lines.rt:42:1
 returns : tie.Need-returns
 unfolding reached-line
 returns c =

@@ -1,15 +1,14 @@
--- `sheet::lines::put_spaced` meets its contract: the loop's invariant is `Spacing`. Assumes nothing.
+-- `printer::lines::put_spaced` meets its contract: the loop's invariant is `Spacing`. Assumes nothing.
 use Prim.Native.Nat.{_-_}
 use native.Mathlib.Omega.{arith}
 use borrow.Author.Needs.{needs}
 use lib.ListN.{length}
-use Rattle.sheet.proofs.Spaced.{Spacing, spacing-starts, spacing-next, spacing-done}
-use Rattle.sheet.proofs.lines.put_spaced.Statement.{statement}
-use Rattle.sheet.proofs.lines.put_spaced.Tie as tie
-use Rattle.sheet.proofs.lines.put_spaced.Reads as reads
-use Rattle.sheet.proofs.lines.put_spaced.Lts as lts
-use Rattle.sheet.proofs.lines.wide.Reads as wide-reads
-use Rattle.sheet.proofs.text.put_field.Reads as put-field-reads
+use Rattle.printer.proofs.Spaced.{Spacing, spacing-starts, spacing-next, spacing-done}
+use Rattle.printer.proofs.lines.put_spaced.Statement.{statement}
+use Rattle.printer.proofs.lines.put_spaced.Tie as tie
+use Rattle.printer.proofs.lines.put_spaced.Reads as reads
+use Rattle.printer.proofs.lines.put_spaced.Lts as lts
+use Rattle.printer.proofs.text.put_field.Reads as put-field-reads
 
 abbrev Inv-loop : tie.InvT-loop
 Inv-loop nodes at out₀ end₀ i₀ t6 out end i = Spacing nodes out₀ out at end i
@@ -17,53 +16,42 @@ Inv-loop nodes at out₀ end₀ i₀ t6 out end i = Spacing nodes out₀ out at 
 abbrev μ-loop : tie.MeasureT-loop
 μ-loop nodes at out₀ end₀ i₀ t6 out end i = length nodes - i
 
--- src/lines.rt:103:5
 loop-holds : tie.Need-loop-holds Inv-loop μ-loop
 loop-holds c = spacing-starts (c .before .before .args .nodes .now) (c .before .before .args .out .now) (c .before .before .args .at)
 
--- src/lines.rt:104:25
 slice-aggregate-put-field : tie.Need-slice-aggregate-put-field Inv-loop μ-loop
 slice-aggregate-put-field c = search needs
 
--- src/lines.rt:104:36
 mul-wide : tie.Need-mul-wide Inv-loop μ-loop
 mul-wide c = search needs
 
--- src/lines.rt:104:36
 shared-slice-read-wide : tie.Need-shared-slice-read-wide Inv-loop μ-loop
 shared-slice-read-wide c = omega arith
 
--- src/lines.rt:104:31
 wide-requires : tie.Need-wide-requires Inv-loop μ-loop
 wide-requires c κs = search needs
 
--- src/lines.rt:104:9
 put-field-requires : tie.Need-put-field-requires Inv-loop μ-loop
 put-field-requires c κs = omega arith
 
--- src/lines.rt:105:9
 add-i : tie.Need-add-i Inv-loop μ-loop
 add-i c = omega arith
 
--- src/lines.rt:103:5
 loop-less : tie.Need-loop-less Inv-loop μ-loop
 loop-less c = omega arith
 
--- src/lines.rt:103:5
 loop-again : tie.Need-loop-again Inv-loop μ-loop
 loop-again c =
     let a = c .before .before .before .before .before .before .before .before .before .before .before .args in
     let l = c .before .before .before .before .before .before .before .before .loop in
     let f = c .before .before .put-field in
     let w = c .before .before .before .before .wide in
-    spacing-next (a .nodes .now) (a .out .now) (l .out) _ (a .at) (l .end) (f .result) (l .i) (w .result) (l .inv) (omega arith) (w .ensures) (f .ensures .0)
+    spacing-next (a .nodes .now) (a .out .now) (l .out) _ (a .at) (l .end) (f .result) (l .i) (w .result) (l .inv) (omega arith) (w .ensures .0) (f .ensures .0)
     (f .ensures .1)
 
--- src/lines.rt:95:1
 same-length : tie.Need-same-length Inv-loop μ-loop
 same-length c = c .before .loop .inv .same
 
--- src/lines.rt:95:1
 returns : tie.Need-returns Inv-loop μ-loop
 returns c =
     let a = c .before .before .before .before .args in

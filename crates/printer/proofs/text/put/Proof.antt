@@ -1,14 +1,14 @@
--- `sheet::text::put` meets its contract: the loop pastes the text's first i bytes. Assumes nothing.
+-- `printer::text::put` meets its contract: the loop pastes the text's first i bytes. Assumes nothing.
 use mathlib.Core.Path.{_≡_, refl}
 use Prim.Native.Nat.{_-_, _≤_}
 use native.Mathlib.Omega.{arith}
 use lib.ListN.{length}
 use lib.Seq.{paste, paste-zero}
-use Rattle.sheet.proofs.Begins.{pasted-length, pasted-next, pasted-whole}
-use Rattle.sheet.proofs.text.put.Statement.{statement}
-use Rattle.sheet.proofs.text.put.Tie as tie
-use Rattle.sheet.proofs.text.put.Reads as reads
-use Rattle.sheet.proofs.text.put.Lts as lts
+use Rattle.printer.proofs.Begins.{pasted-length, pasted-next, pasted-whole}
+use Rattle.printer.proofs.text.put.Statement.{statement}
+use Rattle.printer.proofs.text.put.Tie as tie
+use Rattle.printer.proofs.text.put.Reads as reads
+use Rattle.printer.proofs.text.put.Lts as lts
 
 abbrev Inv-loop : tie.InvT-loop
 Inv-loop text at out₀ i₀ out i = (i ≤ length text) × (out ≡ paste out₀ at text i)

@@ -1,27 +1,23 @@
--- `sheet::text::put_field` meets its contract. Assumes nothing.
+-- `printer::text::put_field` meets its contract. Assumes nothing.
 use mathlib.Core.Path.{_∙_}
 use native.Mathlib.Omega.{arith}
 use borrow.Author.Needs.{needs}
-use Rattle.sheet.proofs.text.put_field.Statement.{statement}
-use Rattle.sheet.proofs.text.put_field.Tie as tie
-use Rattle.sheet.proofs.text.put_field.Reads as reads
-use Rattle.sheet.proofs.text.put_field.Lts as lts
-use Rattle.sheet.proofs.text.put.Reads as put-reads
-use Rattle.sheet.proofs.text.put_number.Reads as put-number-reads
+use Rattle.printer.proofs.text.put_field.Statement.{statement}
+use Rattle.printer.proofs.text.put_field.Tie as tie
+use Rattle.printer.proofs.text.put_field.Reads as reads
+use Rattle.printer.proofs.text.put_field.Lts as lts
+use Rattle.printer.proofs.text.put.Reads as put-reads
+use Rattle.printer.proofs.text.put_number.Reads as put-number-reads
 
--- src/text.rt:45:9
 put-requires : tie.Need-put-requires
 put-requires c κs = search needs
 
--- src/text.rt:46:5
 put-number-requires : tie.Need-put-number-requires
 put-number-requires c κs = search needs
 
--- src/text.rt:40:1
 same-length : tie.Need-same-length
 same-length c = search needs
 
--- src/text.rt:40:1
 returns : tie.Need-returns
 returns c =
     let q = c .before .before .put-number in
