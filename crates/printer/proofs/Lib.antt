@@ -3,3 +3,4 @@ pub mod Decimal
 pub mod Passing
 pub mod Spaced
 pub mod Rest
+pub mod Filling

@@ -10,10 +10,6 @@ use Rattle.printer.specs.declared.lines.Cursor.the-variants.{Start}
 use Rattle.printer.specs.declared.pieces.Piece.{Piece}
 use Rattle.printer.specs.Lines.{rest}
 
--- the bytes of a buffer that holds pieces
-abbrev pub piece-room : ℕ
-piece-room = 65536
-
 -- THE CONTRACT of next_piece: the piece, followed by the lines from the next cursor on, is the lines from this cursor on. A piece without a byte is the end.
 pub record Continues (p : Finished) (from : Cursor) (r : Piece) (out : List ℕ) : Type 0 where
   pub inside : r .count ≤ length out

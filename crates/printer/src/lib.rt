@@ -4,6 +4,6 @@ mod pieces;
 mod text;
 
 pub use lines::Cursor;
-pub use pieces::PIECE_ROOM;
+pub use pieces::LINE_ROOM;
 pub use pieces::Piece;
 pub use pieces::next_piece;

@@ -1,5 +1,7 @@
 // A sheet in pieces: as many whole lines as fit into a buffer.
-ghost use Rattle.printer.specs.Lines.{printing};
+ghost use Prim.Native.Nat.{_≤_};
+ghost use lib.ListN.{length};
+ghost use Rattle.printer.specs.Lines.{printing, line-room};
 ghost use Rattle.printer.specs.Pieces.{Continues};
 use crate::lines::Cursor;
 use crate::lines::Line;
@@ -7,10 +9,7 @@ use crate::lines::next_line;
 use planner::Planned;
 
 // What every line has room in: a number takes at most 20 bytes, and a path at most 1,024 numbers, each after a space.
-const LINE_ROOM: usize = 32768;
-
-// What a piece has room in: two lines of any length.
-pub const PIECE_ROOM: usize = 2 * LINE_ROOM;
+pub const LINE_ROOM: usize = 32768;
 
 // How many bytes a piece has, and the cursor of the line behind it. No byte: there is no line any more.
 pub struct Piece {
@@ -18,7 +17,7 @@ pub struct Piece {
     pub next: Cursor,
 }
 
-// The next piece of a plan's sheet, from a cursor on, at the start of the buffer.
+// The next piece of a plan's sheet, from a cursor on, at the start of a buffer with room for a line.
 pub fn next_piece(
     cursor: Cursor,
     answer: Planned,
@@ -29,8 +28,9 @@ pub fn next_piece(
     distances: &[u64],
     prices: &[u64],
     tree: &[u16],
-    out: &mut [u8; PIECE_ROOM],
+    out: &mut [u8],
 ) -> Piece
+    requires { ⌜ line-room ≤ length (now out) ⌝ }
     ensures { λ r. ⌜
         Continues (printing answer origin (now (tails .entry)) (now (heads .entry)) (now (wanted .entry)) (now (distances .entry))
         (now (prices .entry)) (now (tree .entry))) cursor r (now (out .exit))
@@ -38,7 +38,7 @@ pub fn next_piece(
 {
     let mut at = 0;
     let mut next = cursor;
-    while at <= PIECE_ROOM - LINE_ROOM {
+    while LINE_ROOM <= out.len() - at {
         let line = next_line(
             next,
             answer,
