@@ -9,21 +9,21 @@ use native.Mathlib.Omega.{arith}
 use lib.ListN.{length, drop, set}
 use Rattle.table.specs.Table.{Arc, most-arcs}
 use Rattle.link_format.specs.Format.{tails-of, heads-of, lengths-of}
-use Rattle.link_format.specs.Reading.{Outcome, got, refused, accepted, list-got, after, give, read-record}
-use Rattle.link_format.proofs.Records.{then}
+use Rattle.link_format.specs.Reading.{Outcome, got, refused, accepted, list-got, and-then, give, read-record}
+use Rattle.link_format.proofs.Records.{in-front}
 use Rattle.link_file.specs.Says.{Record-got, Fillable, Filled, records-from}
 use Rattle.link_file.proofs.Columns.{Column, column-begins, column-next}
 use Rattle.link_file.proofs.Runs.{remaining, Standing, standing-next, run-none, run-full, run-refused, run-more}
 use Rattle.table.proofs.Basics.{not-both}
 
 -- an arc in front of the rest
-accepted-then : (a : Arc) (o : Outcome (List Arc)) → accepted (then a o) ≡ accepted o
-unfolding after give accepted
+accepted-then : (a : Arc) (o : Outcome (List Arc)) → accepted (in-front a o) ≡ accepted o
+unfolding and-then give accepted
 accepted-then a (got more at rest) = refl
 accepted-then a (refused n p) = refl
 
-got-then : (a : Arc) (o : Outcome (List Arc)) → accepted o ≡ true → list-got (then a o) ≡ a ∷ list-got o
-unfolding after give accepted list-got
+got-then : (a : Arc) (o : Outcome (List Arc)) → accepted o ≡ true → list-got (in-front a o) ≡ a ∷ list-got o
+unfolding and-then give accepted list-got
 got-then a (got more at rest) e = refl
 got-then a (refused n p) e = absurd (not-both _ e refl)
 

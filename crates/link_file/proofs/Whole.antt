@@ -12,7 +12,7 @@ use Rattle.table.specs.Refusals.{refusal, no-refusal}
 use Rattle.table.specs.Table.{Arc, most-arcs}
 use Rattle.link_format.specs.Buffers.{over, reading, refusal-of, content-of}
 use Rattle.link_format.specs.Format.{content, tails-of, heads-of, lengths-of}
-use Rattle.link_format.specs.Reading.{_>>=_, Outcome, got, refused, accepted, list-got, after, give, read-header, read-content, read-file}
+use Rattle.link_format.specs.Reading.{_>>=_, Outcome, got, refused, accepted, list-got, and-then, give, read-header, read-content, read-file}
 use Rattle.link_format.proofs.Counts.{Roomy}
 use Rattle.link_file.specs.Entries.{read-answer, Read-says}
 use Rattle.link_file.specs.Says.{Header-got, Filled, wanted-in, tally, records-from}
@@ -44,31 +44,31 @@ tally-length (refused n p) e = let z : _≡_ {A = ℕ} 0 1 = cc in absurd (omega
 
 -- a refusal of the header, or of a record, is the file's
 pub header-refuses : (file : List ℕ) {n p : ℕ} → read-header 0 file ≡ refused n p → read-file file ≡ refused n p
-unfolding read-file read-content _>>=_ after
+unfolding read-file read-content _>>=_ and-then
 header-refuses file e = rw e
 
 module _ (file : List ℕ) (h : Header) (g : Header-got file h) where
   abbrev ws : List ℕ
   ws = wanted-in file (h .listed) (h .n) (h .wanted) (h .next)
 
-  with-records : read-file file ≡ after (records-from file (h .next)) (λ (arcs : List Arc). give (content (h .n) (h .origin) ws arcs))
-  unfolding read-file read-content _>>=_ after content
+  with-records : read-file file ≡ and-then (records-from file (h .next)) (λ (arcs : List Arc). give (content (h .n) (h .origin) ws arcs))
+  unfolding read-file read-content _>>=_ and-then content
   with-records = rw (g .is)
 
   pub records-refuse : {n p : ℕ} → tally 0 (records-from file (h .next)) ≡ Refused n p → read-file file ≡ refused n p
-  unfolding after
+  unfolding and-then
   records-refuse e = with-records ∙ rw (tally-refused (records-from file (h .next)) e)
 
   -- both were read: the file's content
   content-read : (o : Outcome (List Arc)) → accepted o ≡ true
-      → content-of (after o (λ (arcs : List Arc). give (content (h .n) (h .origin) ws arcs))) ≡ content (h .n) (h .origin) ws (list-got o)
-  unfolding accepted after give content-of list-got
+      → content-of (and-then o (λ (arcs : List Arc). give (content (h .n) (h .origin) ws arcs))) ≡ content (h .n) (h .origin) ws (list-got o)
+  unfolding accepted and-then give content-of list-got
   content-read (got arcs at rest) e = refl
   content-read (refused n p) e = let z : _≡_ {A = ℕ} 0 1 = cc in absurd (omega arith)
 
   nothing-refused : (o : Outcome (List Arc)) → accepted o ≡ true
-      → refusal-of (after o (λ (arcs : List Arc). give (content (h .n) (h .origin) ws arcs))) ≡ no-refusal
-  unfolding accepted after give refusal-of
+      → refusal-of (and-then o (λ (arcs : List Arc). give (content (h .n) (h .origin) ws arcs))) ≡ no-refusal
+  unfolding accepted and-then give refusal-of
   nothing-refused (got arcs at rest) e = refl
   nothing-refused (refused n p) e = let z : _≡_ {A = ℕ} 0 1 = cc in absurd (omega arith)
 

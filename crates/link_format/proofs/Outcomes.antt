@@ -11,7 +11,7 @@ use Rattle.table.specs.Refusals.{refusal}
 use Rattle.table.specs.Table.{Arc, most-arcs, most-wanted}
 use Rattle.link_format.specs.Buffers.{too-short, reading, refusal-of}
 use Rattle.link_format.specs.Format.{Content}
-use Rattle.link_format.specs.Reading.{_>>_, _>>=_, Outcome, Reader, got, refused, after, give, here, refuse-if, field, optional, implied, read-nodes, read-wanted, read-header, read-record, read-records, read-content, read-file}
+use Rattle.link_format.specs.Reading.{_>>_, _>>=_, Outcome, Reader, got, refused, and-then, give, here, refuse-if, field, optional, implied, read-nodes, read-wanted, read-header, read-record, read-records, read-content, read-file}
 
 -- two outcomes that are equal
 pub got-value : {A : Type 0} {a b : A} {m n : ℕ} {xs ys : List ℕ} → got a m xs ≡ got b n ys → a ≡ b
@@ -32,8 +32,8 @@ data Numbered {A : Type 0} : Outcome A → Type 0 where
   a-ground : {n p : ℕ} → 0 < n → Numbered (refused n p)
 
 numbered-after : {A B : Type 0} {o : Outcome A} {f : A → Reader B} → Numbered o
-    → ((a : A) (at : ℕ) (rest : List ℕ) → Numbered (f a at rest)) → Numbered (after o f)
-unfolding after
+    → ((a : A) (at : ℕ) (rest : List ℕ) → Numbered (f a at rest)) → Numbered (and-then o f)
+unfolding and-then
 numbered-after (a-value {a} {at} {rest}) k = k a at rest
 numbered-after (a-ground h) k = a-ground h
 
@@ -70,7 +70,7 @@ numbered-wanted true n at rest =
     numbered-after (numbered-if (ltb most-wanted count) 5 most-wanted at₁ r₁ (omega arith)) λ (u : Unit) (at₂ : ℕ) (r₂ : List ℕ). numbered-nodes count at₂ r₂
 
 numbered-header : (at : ℕ) (rest : List ℕ) → Numbered (read-header at rest)
-unfolding read-header _>>=_ _>>_ here after give
+unfolding read-header _>>=_ _>>_ here and-then give
 numbered-header at rest =
     numbered-after (numbered-field 1 at rest) λ (bits at₁ : ℕ) (r₁ : List ℕ).
     numbered-after (numbered-if _ 10 at at₁ r₁ (omega arith)) λ (u₁ : Unit) (at₂ : ℕ) (r₂ : List ℕ).
@@ -81,7 +81,7 @@ numbered-header at rest =
     numbered-after (numbered-if _ 12 at at₆ r₆ (omega arith)) λ (u₃ : Unit) (at₇ : ℕ) (r₇ : List ℕ). a-value
 
 numbered-record : (before : Option Arc) (at : ℕ) (rest : List ℕ) → Numbered (read-record before at rest)
-unfolding read-record _>>=_ _>>_ here after give
+unfolding read-record _>>=_ _>>_ here and-then give
 numbered-record before at rest =
     numbered-after (numbered-field 1 at rest) λ (bits at₁ : ℕ) (r₁ : List ℕ).
     numbered-after (numbered-if _ 10 at at₁ r₁ (omega arith)) λ (u₁ : Unit) (at₂ : ℕ) (r₂ : List ℕ).
