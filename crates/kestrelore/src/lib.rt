@@ -2,8 +2,7 @@
 // that it hands on to.
 ghost use mathlib.Core.Path.{_≡_};
 ghost use lib.ListN.{length};
-ghost use Rattle.auction.specs.Plan.{plan};
-ghost use Rattle.planner.specs.Plan.{answered};
+ghost use Rattle.planner.specs.Plan.{Plans};
 ghost use Rattle.paths.specs.Listing.{tree-in, listing, Lists};
 ghost use Rattle.link_file.specs.Entries.{Read-says, Write-says};
 use link_file::TableRead;
@@ -25,7 +24,7 @@ pub extern "C" fn kestrelore_plan_routes(
     tree: &mut [u16],
     marks: &mut [u8],
 ) -> Planned
-    ensures { λ r. ⌜ answered r (now (distances .exit)) (now (prices .exit)) (now (tree .exit)) (now (marks .exit)) ≡ plan n origin (now (tails .entry)) (now (heads .entry)) (now (lengths .entry)) (now (wanted .entry)) (now (distances .entry)) (now (prices .entry)) (now (tree .entry)) (now (marks .entry)) ⌝ }
+    ensures { λ r. ⌜ Plans n origin tails heads lengths wanted distances prices tree marks r ⌝ }
 {
     planner::plan_routes(
         n,

@@ -8,11 +8,11 @@ use native.Mathlib.Omega.{arith}
 use lib.Dec.{ltb, eqb}
 use lib.ListN.{length, getD}
 use borrow.Author.Tests.{ltb-true, lt-ltb, le-ltb, ne-eqb}
-use Rattle.table.specs.Table.{Table, arc-count, tail-at, head-at, no-arc, no-distance}
+use Rattle.table.specs.Table.{Table, no-arc, no-distance}
 use Rattle.table.specs.declared.Refusal.{Refusal}
 use Rattle.table.specs.Refusals.{refusal, no-refusal}
 use Rattle.auction.specs.Auction.{State, Ended, ended, auction, iterations, was-reached, distance, kept-at, is-kept}
-use Rattle.auction.specs.HandOver.{answer, handed-over, route-refusal, entries, greatest, sum, horizon, reached-count, distances, prices, tree, marks, mark, mark-number, arc-or-none}
+use Rattle.auction.specs.HandOver.{answer, handed-over, route-refusal, entries, greatest, sum, horizon, reached-count, distances, prices, tree, marks, mark, arc-or-none}
 use Rattle.table.proofs.Basics.{same-or, true-or}
 use Rattle.auction.proofs.Sums.{greatest-bound}
 use Rattle.solver.specs.declared.state.Progress.{Progress}
@@ -20,7 +20,7 @@ use Rattle.solver.specs.Seen.{seen, arc-of}
 use Rattle.solver.specs.Steps.{Ran}
 use Rattle.solver.proofs.Arrays.{seen-status, seen-distance, seen-kept, some-arc, no-kept}
 use Rattle.auction.specs.Plan.{routes-of}
-use Rattle.planner.specs.Lent.{Known, Ends}
+use Rattle.planner.specs.ReadOff.{Known, Arc-ends, Ends-held, None-farther, mark-entry}
 use Rattle.planner.proofs.Entries.{entries-same}
 
 -- one entry each, as the code makes it
@@ -32,9 +32,6 @@ reached-entry s v = cond (ltb 0 (getD s v 0)) 1 0
 
 abbrev pub arc-entry : (kept status : List ℕ) → (v : ℕ) → ℕ
 arc-entry k s v = cond (ltb 0 (getD s v 0)) (getD k v 0) no-arc
-
-abbrev pub mark-entry : (tails heads kept status : List ℕ) → (i : ℕ) → ℕ
-mark-entry ts hs k s i = mark-number (ltb 0 (getD s (getD hs i 0) 0)) (ltb 0 (getD s (getD ts i 0) 0)) (eqb (getD k (getD hs i 0) 0) i)
 
 pub by-status : (a b c : ℕ) (P : ℕ → Type 0) → (a ≡ 0 → P c) → ((a ≡ 0 → ⊥) → P b) → P (cond (ltb 0 a) b c)
 by-status a b c P p q =
@@ -102,22 +99,21 @@ module _ (p u b k s : List ℕ) (g : Progress) where
       (λ (z : getD k v 0 ≡ no-arc → ⊥). rw (some-arc (getD k v 0) z))
       (same-or (getD k v 0) no-arc))
 
-  pub marks-so : (t : Table) (ts hs : List ℕ) → Ends ts hs k s → length hs < no-arc → arc-count t ≡ length hs →
-      ((i : ℕ) → i < arc-count t → head-at t i ≡ getD hs i 0) → ((i : ℕ) → i < arc-count t → tail-at t i ≡ getD ts i 0) →
+  pub marks-so : (t : Table) (ts hs : List ℕ) → Arc-ends ts hs k s → length hs < no-arc → Ends-held t ts hs →
       entries (length hs) 0 (mark-entry ts hs k s) ≡ marks t (seen p u b k s g)
   unfolding marks mark
-  marks-so t ts hs ends few e heads tails =
-      rw e
+  marks-so t ts hs ends few held =
+      rw (held .count)
       (entries-same (length hs) 0 _ _
       (λ i h.
       let inside : i < length hs = omega arith in
-      let hd = heads i (omega (arith, e)) in
-      let tl = tails i (omega (arith, e)) in
+      let hd = held .head i (omega (arith, held .count)) in
+      let tl = held .tail i (omega (arith, held .count)) in
       rw (hd, tl, reached-is (getD hs i 0), reached-is (getD ts i 0), kept-so i (getD hs i 0) (omega (arith, ends .head-in i inside, ends .kept-count)) (λ z. omega arith))))
 
 -- no distance is above the horizon
 pub below-horizon : (b s : List ℕ) (h : ℕ) → h ≡ greatest (entries (length s) 0 (distance-entry 0 b s)) →
-    (v : ℕ) → v < length s → 0 < getD s v 0 → getD b v 0 ≤ h
+    None-farther h b s
 below-horizon b s h e v l r =
     let q = greatest-bound (length s) v (distance-entry 0 b s) l in
     let z : distance-entry 0 b s v ≡ getD b v 0 = rw (lt-ltb 0 (getD s v 0) r) in

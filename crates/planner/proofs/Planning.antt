@@ -9,7 +9,7 @@ use lib.Dec.{ltb, leb, eqb}
 use lib.ListN.{length, getD, take}
 use lib.Seq.{length-take-le}
 use borrow.Author.Tests.{lt-ltb, leb-true, eqb-true, eq-eqb, ne-eqb, not-false, ltb-false}
-use Rattle.table.specs.Table.{Table, table, table-of, is-table, arc-count, arcs-good, nodes-below, most-nodes, Below, Arc, arcs-of, most-wanted}
+use Rattle.table.specs.Table.{Table, table, table-of, is-table, arc-count, arcs-good, nodes-below, most-nodes, most-arcs, Below, Arc, arcs-of, most-wanted}
 use Rattle.table.specs.declared.Refusal.{Refusal}
 use Rattle.table.specs.Refusals.{refusal, room, table-refusal, count-bad, columns-bad, rooms-fit, no-refusal, or-else, wanted-from, wanted-refusal, arc-fault, arcs-from, arcs-refusal}
 use Rattle.auction.specs.Auction.{fresh, was-reached}
@@ -23,7 +23,7 @@ use Rattle.solver.specs.Steps.{Ran}
 use Rattle.solver.proofs.Arrays.{seen-bound, seen-status, no-bound}
 use Rattle.solver.proofs.Columns.{count-so, tail-so, head-so, nodes-so, origin-so}
 use Rattle.auction.specs.Plan.{rooms, plan-refusal, plan, routes-of, refused-plan}
-use Rattle.planner.specs.Lent.{Known, Ends, Fitting, Columns}
+use Rattle.planner.specs.ReadOff.{Known, Arc-ends, Fitting, Ends-held}
 use Rattle.planner.proofs.Refusing.{columns-fit}
 
 -- AFTER THE RUN
@@ -40,21 +40,21 @@ module _ (t : Table) (ws : List ℕ) (m : ℕ) (p u b k s : List ℕ) (g : Progr
             ran .bounded v (reached-so v h) (seen-bound p u b k s g v (omega (arith, inside s v h)) ∙ no-bound (getD b v 0) e);
       }
 
-few-wanted : (t : Table) (ws : List ℕ) → is-table t ws ≡ true → length ws ≤ 1024
+few-wanted : (t : Table) (ws : List ℕ) → is-table t ws ≡ true → length ws ≤ most-wanted
 unfolding is-table
 few-wanted t ws e =
     let a =
-    both-true ((leb 1 (t .n) && leb (t .n) 1024) && (ltb (t .origin) (t .n) && leb (arc-count t) 6000))
-    (arcs-good (t .n) (t .arcs) && (leb (length ws) 1024 && nodes-below (t .n) ws)) e .1 in
-    let b = both-true (arcs-good (t .n) (t .arcs)) (leb (length ws) 1024 && nodes-below (t .n) ws) a .1 in
-    leb-true (length ws) 1024 (both-true (leb (length ws) 1024) (nodes-below (t .n) ws) b .0)
+    both-true ((leb 1 (t .n) && leb (t .n) most-nodes) && (ltb (t .origin) (t .n) && leb (arc-count t) most-arcs))
+    (arcs-good (t .n) (t .arcs) && (leb (length ws) most-wanted && nodes-below (t .n) ws)) e .1 in
+    let b = both-true (arcs-good (t .n) (t .arcs)) (leb (length ws) most-wanted && nodes-below (t .n) ws) a .1 in
+    leb-true (length ws) most-wanted (both-true (leb (length ws) most-wanted) (nodes-below (t .n) ws) b .0)
 
 module _ (n o : ℕ) (ts hs ls ws : List ℕ) (eh : length hs ≡ length ts) (el : length ls ≡ length ts)
     (ok : is-table (table-of n o ts hs ls) ws ≡ true) where
-  pub place-low : (m : ℕ) → m ≤ length ws → m ≤ 1024
+  pub place-low : (m : ℕ) → m ≤ length ws → m ≤ most-wanted
   place-low m h = omega (arith, few-wanted (table-of n o ts hs ls) ws ok)
 
-  pub ends-so : (k s : List ℕ) → length k ≡ length s → n ≡ length s → Ends ts hs k s
+  pub ends-so : (k s : List ℕ) → length k ≡ length s → n ≡ length s → Arc-ends ts hs k s
   ends-so k s lk e =
       let t = table-of n o ts hs ls in
       let count = count-so n o ts hs ls eh el in
@@ -66,11 +66,10 @@ module _ (n o : ℕ) (ts hs ls ws : List ℕ) (eh : length hs ≡ length ts) (el
         tail-in = λ i h. omega (arith, good t ws ok .tail-in i (omega (arith, count)), tail-so n o ts hs ls eh el i (omega arith), nodes);
       }
 
-  pub columns-so : (m : ℕ) → n ≡ m → Columns (table-of n o ts hs ls) m ts hs
-  columns-so m e =
+  pub ends-held : Ends-held (table-of n o ts hs ls) ts hs
+  ends-held =
       let count = count-so n o ts hs ls eh el in
       record {
-        nodes = nodes-so n o ts hs ls eh el ∙ e;
         count = omega (arith, count);
         head = λ i h. head-so n o ts hs ls eh el i (omega (arith, count));
         tail = λ i h. tail-so n o ts hs ls eh el i (omega (arith, count));
@@ -84,17 +83,17 @@ module _ (n o : ℕ) (ts hs ls ws : List ℕ) (eh : length hs ≡ length ts) (el
 
   -- the fresh state, as far as it is lent
   pub fresh-so : (p u b k s : List ℕ) (g : Progress) →
-      ((t : Table) → t .origin ≡ o → t .origin < t .n → t .n ≤ 1024 →
+      ((t : Table) → t .origin ≡ o → t .origin < t .n → t .n ≤ most-nodes →
       seen (take (t .n) p) (take (t .n) u) (take (t .n) b) (take (t .n) k) (take (t .n) s) g ≡ fresh t) →
       seen (take n p) (take n u) (take n b) (take n k) (take n s) g ≡ fresh (table-of n o ts hs ls)
   unfolding table-of table
   fresh-so p u b k s g f = f (table-of n o ts hs ls) refl origin-low nodes-low
 
 -- a part of an array that is long enough
-pub part-fits : (l : List ℕ) (n : ℕ) → length l ≡ 1024 → n ≤ most-nodes → n ≤ length l
+pub part-fits : (l : List ℕ) (n : ℕ) → length l ≡ most-nodes → n ≤ most-nodes → n ≤ length l
 part-fits l n e h = omega arith
 
-pub part-long : (l : List ℕ) (n : ℕ) → length l ≡ 1024 → n ≤ most-nodes → n ≡ length (take n l)
+pub part-long : (l : List ℕ) (n : ℕ) → length l ≡ most-nodes → n ≤ most-nodes → n ≡ length (take n l)
 part-long l n e h = sym (length-take-le n l (omega arith))
 
 -- THE REFUSALS

@@ -1,3 +1,3 @@
 pub mod Plan
-pub mod Lent
+pub mod ReadOff
 pub mod Promise

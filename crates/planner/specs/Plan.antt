@@ -1,10 +1,23 @@
--- How the answer of plan_routes and the four buffers that it left are compared with the plan of crates/auction/specs/Plan.antt. Assumes nothing: this is a
--- definition.
+-- How the answer of plan_routes and the four buffers that it left are compared with the plan of crates/auction/specs/Plan.antt. Assumes nothing: these are
+-- definitions.
+use mathlib.Core.Path.{_≡_}
 use mathlib.Core.List.{List}
 use Prim.Native.Nat.{ℕ}
 use Rattle.auction.specs.HandOver.{Answer, answer}
+use Rattle.auction.specs.Plan.{plan}
+use Rattle.solver.specs.Slices.{Slice, was, left}
 use Rattle.planner.specs.declared.Planned.{Planned}
 
 -- the code's answer, with what it left in the buffers
 unfoldable pub answered : Planned → (distances prices tree marks : List ℕ) → Answer
 answered r = answer (r .number) (r .place) (r .reached) (r .horizon) (r .iterations) (r .contractions) (r .extensions) (r .deletions)
+
+-- THE ANSWER IS THE PLAN, with what the buffers held before and what is left in them
+abbrev pub Plan-made : (n origin : ℕ) →
+    (tails heads lengths wanted distances prices tree marks distances′ prices′ tree′ marks′ : List ℕ) → Planned → Type 0
+Plan-made n o ts hs ls ws ds ps tr ms ds′ ps′ tr′ ms′ r = answered r ds′ ps′ tr′ ms′ ≡ plan n o ts hs ls ws ds ps tr ms
+
+-- and as a contract says it, of the slices that are lent
+abbrev pub Plans : (n origin : ℕ) → (tails heads lengths wanted distances prices tree marks : Slice) → Planned → Type 0
+Plans n o ts hs ls ws ds ps tr ms r =
+    Plan-made n o (was ts) (was hs) (was ls) (was ws) (was ds) (was ps) (was tr) (was ms) (left ds) (left ps) (left tr) (left ms) r

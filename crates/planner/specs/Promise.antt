@@ -9,14 +9,13 @@ use Prim.Native.Nat.{ℕ, _^_}
 use Rattle.table.specs.Table.{table-of, Below}
 use Rattle.auction.specs.Demands.{Demands}
 use Rattle.planner.specs.declared.Planned.{Planned}
-use Rattle.auction.specs.Plan.{plan}
-use Rattle.planner.specs.Plan.{answered}
+use Rattle.planner.specs.Plan.{answered, Plan-made}
 
--- `Below` is what the length column's type says; the equation is plan_routes' contract.
+-- `Below` is what the length column's type says, `Plan-made` is plan_routes' contract.
 unfoldable pub Plans-kept : Type 0
 Plans-kept =
     (n o : ℕ) (tails heads lengths wanted distances prices tree marks distances′ prices′ tree′ marks′ : List ℕ) (r : Planned) → Below (2 ^ 32) lengths →
-    answered r distances′ prices′ tree′ marks′ ≡ plan n o tails heads lengths wanted distances prices tree marks → (r .number ≡ 0) ⊎ (r .number ≡ 8) →
+    Plan-made n o tails heads lengths wanted distances prices tree marks distances′ prices′ tree′ marks′ r → (r .number ≡ 0) ⊎ (r .number ≡ 8) →
     Demands (table-of n o tails heads lengths) wanted (answered r distances′ prices′ tree′ marks′)
 
 -- The other numbers: nothing was touched, and every other value of the answer is 0.
@@ -31,5 +30,5 @@ pub record Untouched (r : Planned) (distances prices tree marks distances′ pri
 unfoldable pub Refusals-touch-nothing : Type 0
 Refusals-touch-nothing =
     (n o : ℕ) (tails heads lengths wanted distances prices tree marks distances′ prices′ tree′ marks′ : List ℕ) (r : Planned) →
-    answered r distances′ prices′ tree′ marks′ ≡ plan n o tails heads lengths wanted distances prices tree marks → (r .number ≡ 0 → ⊥) → (r .number ≡ 8 → ⊥) →
+    Plan-made n o tails heads lengths wanted distances prices tree marks distances′ prices′ tree′ marks′ r → (r .number ≡ 0 → ⊥) → (r .number ≡ 8 → ⊥) →
     Untouched r distances prices tree marks distances′ prices′ tree′ marks′

@@ -5,18 +5,17 @@ ghost use mathlib.Core.List.{List};
 ghost use Prim.Native.Nat.{ℕ, max, _+_, _≤_, _<_};
 ghost use lib.Dec.{ltb, eqb};
 ghost use lib.ListN.{length, getD};
-ghost use Rattle.table.specs.Table.{Table, arc-count, tail-at, head-at, no-arc, no-distance};
+ghost use Rattle.table.specs.Table.{Table, no-arc, no-distance, most-nodes, most-wanted};
 ghost use Rattle.table.specs.Refusals.{no-refusal, refusal};
 ghost use Rattle.auction.specs.HandOver.{horizon, reached-count, distances, prices, tree, marks, mark-number};
 ghost use Rattle.solver.specs.declared.state.Progress.{Progress};
+ghost use Rattle.solver.specs.Slices.{was, left};
 ghost use Rattle.solver.specs.Seen.{seen, too-many};
-ghost use Rattle.solver.specs.Steps.{Ran};
-ghost use Rattle.auction.specs.Plan.{routes-of};
 ghost use Rattle.planner.specs.Plan.{answered};
-ghost use Rattle.planner.specs.Lent.{Known, Ends, Fitting, Columns};
+ghost use Rattle.planner.specs.ReadOff.{Known, Arc-ends, Fitting, Ends-held, None-farther, Read-off, Hands-over, mark-entry};
 use super::Planned;
-use solver::run::Ended;
-use solver::state::State;
+use solver::run::RunEnd;
+use solver::state::RunState;
 use table::NO_ARC;
 use table::NO_DISTANCE;
 use table::Refusal;
@@ -25,9 +24,9 @@ use table::wide;
 // A reached node's distance, or another number.
 fn distance_or(other: u64, v: usize, bound: &[u64], status: &[u8]) -> u64
     requires { ⌜ (v < length (now bound)) × (v < length (now status)) ⌝ }
-    ensures { λ r. ⌜ r ≡ cond (ltb 0 (getD (now (status .entry)) v 0)) (getD (now (bound .entry)) v 0) other ⌝ }
+    ensures { λ r. ⌜ r ≡ cond (ltb 0 (getD (was status) v 0)) (getD (was bound) v 0) other ⌝ }
 {
-    if status[v] == State::UNREACHED {
+    if status[v] == RunState::UNREACHED {
         return other;
     }
     bound[v]
@@ -46,8 +45,8 @@ fn larger(a: u64, b: u64) -> u64
 // The horizon: the largest distance reached.
 fn horizon_of(bound: &[u64], status: &[u8]) -> u64
     requires { ⌜ Known (now bound) (now status) ⌝ }
-    ensures so { λ r. ⌜ ((t : Table) (path price kept : List ℕ) (g : Progress) → t .n ≡ length (now (status .entry)) → r ≡ horizon t (seen path price (now (bound .entry)) kept (now (status .entry)) g)) ⌝ }
-    ensures above { λ r. ⌜ ((v : ℕ) → v < length (now (status .entry)) → 0 < getD (now (status .entry)) v 0 → getD (now (bound .entry)) v 0 ≤ r) ⌝ }
+    ensures so { λ r. ⌜ ((kept : List ℕ) → Read-off horizon (was bound) kept (was status) r) ⌝ }
+    ensures above { λ r. ⌜ None-farther r (was bound) (was status) ⌝ }
 {
     let mut h: u64 = 0;
     let mut v = status.len();
@@ -61,9 +60,9 @@ fn horizon_of(bound: &[u64], status: &[u8]) -> u64
 // 1 for a reached node, 0 for another.
 fn one_if_reached(v: usize, status: &[u8]) -> u32
     requires { ⌜ v < length (now status) ⌝ }
-    ensures { λ r. ⌜ r ≡ cond (ltb 0 (getD (now (status .entry)) v 0)) 1 0 ⌝ }
+    ensures { λ r. ⌜ r ≡ cond (ltb 0 (getD (was status) v 0)) 1 0 ⌝ }
 {
-    if status[v] == State::UNREACHED {
+    if status[v] == RunState::UNREACHED {
         return 0;
     }
     1
@@ -71,8 +70,8 @@ fn one_if_reached(v: usize, status: &[u8]) -> u32
 
 // How many nodes have been reached.
 fn count_reached(status: &[u8]) -> u32
-    requires { ⌜ length (now status) ≤ 1024 ⌝ }
-    ensures { λ r. ⌜ ((t : Table) (path price bound kept : List ℕ) (g : Progress) → t .n ≡ length (now (status .entry)) → r ≡ reached-count t (seen path price bound kept (now (status .entry)) g)) ⌝ }
+    requires { ⌜ length (now status) ≤ most-nodes ⌝ }
+    ensures { λ r. ⌜ ((bound kept : List ℕ) → Read-off reached-count bound kept (was status) r) ⌝ }
 {
     let mut count: u32 = 0;
     let mut v = status.len();
@@ -87,7 +86,7 @@ fn count_reached(status: &[u8]) -> u32
 fn fill_distances(bound: &[u64], status: &[u8], out: &mut [u64])
     requires { ⌜ Known (now bound) (now status) ⌝ }
     requires { ⌜ length (now out) ≡ length (now status) ⌝ }
-    ensures { λ _. ⌜ ((t : Table) (path price kept : List ℕ) (g : Progress) → t .n ≡ length (now (status .entry)) → now (out .exit) ≡ distances t (seen path price (now (bound .entry)) kept (now (status .entry)) g)) ⌝ }
+    ensures { λ _. ⌜ ((kept : List ℕ) → Read-off distances (was bound) kept (was status) (left out)) ⌝ }
 {
     let mut v = out.len();
     while 0 < v {
@@ -100,8 +99,9 @@ fn fill_distances(bound: &[u64], status: &[u8], out: &mut [u64])
 fn fill_prices(horizon: u64, bound: &[u64], status: &[u8], out: &mut [u64])
     requires { ⌜ Known (now bound) (now status) ⌝ }
     requires { ⌜ length (now out) ≡ length (now status) ⌝ }
-    requires { ⌜ ((v : ℕ) → v < length (now status) → 0 < getD (now status) v 0 → getD (now bound) v 0 ≤ horizon) ⌝ }
-    ensures { λ _. ⌜ ((t : Table) (path price kept : List ℕ) (g : Progress) → t .n ≡ length (now (status .entry)) → horizon ≡ Rattle.auction.specs.HandOver.horizon t (seen path price (now (bound .entry)) kept (now (status .entry)) g) → now (out .exit) ≡ prices t (seen path price (now (bound .entry)) kept (now (status .entry)) g)) ⌝ }
+    requires { ⌜ None-farther horizon (now bound) (now status) ⌝ }
+    ensures { λ _. ⌜ ((kept : List ℕ) → Read-off Rattle.auction.specs.HandOver.horizon (was bound) kept (was status) horizon →
+        Read-off prices (was bound) kept (was status) (left out)) ⌝ }
 {
     let mut v = out.len();
     while 0 < v {
@@ -113,9 +113,9 @@ fn fill_prices(horizon: u64, bound: &[u64], status: &[u8], out: &mut [u64])
 // A reached node's kept arc, or no arc.
 fn arc_of(v: usize, kept: &[u16], status: &[u8]) -> u16
     requires { ⌜ (v < length (now kept)) × (v < length (now status)) ⌝ }
-    ensures { λ r. ⌜ r ≡ cond (ltb 0 (getD (now (status .entry)) v 0)) (getD (now (kept .entry)) v 0) no-arc ⌝ }
+    ensures { λ r. ⌜ r ≡ cond (ltb 0 (getD (was status) v 0)) (getD (was kept) v 0) no-arc ⌝ }
 {
-    if status[v] == State::UNREACHED {
+    if status[v] == RunState::UNREACHED {
         return NO_ARC;
     }
     kept[v]
@@ -124,7 +124,7 @@ fn arc_of(v: usize, kept: &[u16], status: &[u8]) -> u16
 // The tree column: a reached node's kept arc, no arc for another.
 fn fill_tree(kept: &[u16], status: &[u8], out: &mut [u16])
     requires { ⌜ (length (now kept) ≡ length (now status)) × (length (now out) ≡ length (now status)) ⌝ }
-    ensures { λ _. ⌜ ((t : Table) (path price bound : List ℕ) (g : Progress) → t .n ≡ length (now (status .entry)) → now (out .exit) ≡ tree t (seen path price bound (now (kept .entry)) (now (status .entry)) g)) ⌝ }
+    ensures { λ _. ⌜ ((bound : List ℕ) → Read-off tree bound (was kept) (was status) (left out)) ⌝ }
 {
     let mut v = out.len();
     while 0 < v {
@@ -152,24 +152,25 @@ fn mark(head: bool, tail: bool, kept: bool) -> u8
 
 // The mark of the arc at a position.
 fn mark_at(i: usize, tails: &[u16], heads: &[u16], kept: &[u16], status: &[u8]) -> u8
-    requires { ⌜ Ends (now tails) (now heads) (now kept) (now status) ⌝ }
+    requires { ⌜ Arc-ends (now tails) (now heads) (now kept) (now status) ⌝ }
     requires { ⌜ (i < length (now heads)) × (i < no-arc) ⌝ }
-    ensures { λ r. ⌜ r ≡ mark-number (ltb 0 (getD (now (status .entry)) (getD (now (heads .entry)) i 0) 0)) (ltb 0 (getD (now (status .entry)) (getD (now (tails .entry)) i 0) 0)) (eqb (getD (now (kept .entry)) (getD (now (heads .entry)) i 0) 0) i) ⌝ }
+    ensures { λ r. ⌜ r ≡ mark-entry (was tails) (was heads) (was kept) (was status) i ⌝ }
 {
     let head = wide(heads[i]);
     let tail = wide(tails[i]);
     mark(
-        status[head] != State::UNREACHED,
-        status[tail] != State::UNREACHED,
+        status[head] != RunState::UNREACHED,
+        status[tail] != RunState::UNREACHED,
         wide(kept[head]) == i,
     )
 }
 
 // The marks.
 fn fill_marks(tails: &[u16], heads: &[u16], kept: &[u16], status: &[u8], out: &mut [u8])
-    requires { ⌜ Ends (now tails) (now heads) (now kept) (now status) ⌝ }
+    requires { ⌜ Arc-ends (now tails) (now heads) (now kept) (now status) ⌝ }
     requires { ⌜ (length (now out) ≡ length (now heads)) × (length (now heads) < no-arc) ⌝ }
-    ensures { λ _. ⌜ ((t : Table) (path price bound : List ℕ) (g : Progress) → arc-count t ≡ length (now (heads .entry)) → ((i : ℕ) → i < arc-count t → head-at t i ≡ getD (now (heads .entry)) i 0) → ((i : ℕ) → i < arc-count t → tail-at t i ≡ getD (now (tails .entry)) i 0) → now (out .exit) ≡ marks t (seen path price bound (now (kept .entry)) (now (status .entry)) g)) ⌝ }
+    ensures { λ _. ⌜ ((t : Table) (path price bound : List ℕ) (g : Progress) → Ends-held t (was tails) (was heads) →
+        left out ≡ marks t (seen path price bound (was kept) (was status) g)) ⌝ }
 {
     let mut i = out.len();
     while 0 < i {
@@ -180,7 +181,7 @@ fn fill_marks(tails: &[u16], heads: &[u16], kept: &[u16], status: &[u8], out: &m
 
 // 8 at the first wanted node that is missing, or no refusal where none is.
 fn route_refusal(missing: usize, wanted: usize) -> Refusal
-    requires { ⌜ missing ≤ 1024 ⌝ }
+    requires { ⌜ missing ≤ most-wanted ⌝ }
     ensures { λ r. ⌜ r ≡ cond (eqb missing wanted) no-refusal (refusal 8 missing) ⌝ }
 {
     if missing == wanted {
@@ -194,7 +195,7 @@ fn route_refusal(missing: usize, wanted: usize) -> Refusal
 
 // The answer and the four buffers, from where a run has ended.
 pub fn hand_over(
-    end: Ended,
+    end: RunEnd,
     wanted: usize,
     tails: &[u16],
     heads: &[u16],
@@ -207,10 +208,11 @@ pub fn hand_over(
     marks: &mut [u8],
 ) -> Planned
     requires { ⌜ Known (now bound) (now status) ⌝ }
-    requires { ⌜ Ends (now tails) (now heads) (now kept) (now status) ⌝ }
+    requires { ⌜ Arc-ends (now tails) (now heads) (now kept) (now status) ⌝ }
     requires { ⌜ Fitting (length (now status)) (length (now heads)) (now distances) (now prices) (now tree) (now marks) ⌝ }
-    requires { ⌜ (end .missing ≤ 1024) × (end .progress .contractions + end .progress .extensions + end .progress .deletions < too-many) ⌝ }
-    ensures { λ r. ⌜ ((t : Table) (ws path price : List ℕ) → Columns t (length (now (status .entry))) (now (tails .entry)) (now (heads .entry)) → length ws ≡ wanted → Ran t ws (end .missing) (seen path price (now (bound .entry)) (now (kept .entry)) (now (status .entry)) (end .progress)) → answered r (now (distances .exit)) (now (prices .exit)) (now (tree .exit)) (now (marks .exit)) ≡ routes-of t ws) ⌝ }
+    requires { ⌜ (end .missing ≤ most-wanted) × (end .progress .contractions + end .progress .extensions + end .progress .deletions < too-many) ⌝ }
+    ensures { λ r. ⌜ Hands-over end wanted (was tails) (was heads) (was bound) (was kept) (was status)
+        (answered r (left distances) (left prices) (left tree) (left marks)) ⌝ }
 {
     let refusal = route_refusal(end.missing, wanted);
     let reached = count_reached(status);

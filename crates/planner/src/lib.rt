@@ -5,14 +5,15 @@ ghost use lib.ListN.{length};
 ghost use Rattle.table.specs.Table.{table-of, is-table};
 ghost use Rattle.auction.specs.Auction.{fresh};
 ghost use Rattle.solver.specs.Seen.{seen, Sized};
-ghost use Rattle.auction.specs.Plan.{routes-of, plan};
-ghost use Rattle.planner.specs.Plan.{answered};
-ghost use Rattle.planner.specs.Lent.{Fitting};
+ghost use Rattle.auction.specs.Plan.{routes-of};
+ghost use Rattle.solver.specs.Slices.{was, left};
+ghost use Rattle.planner.specs.Plan.{answered, Plans};
+ghost use Rattle.planner.specs.ReadOff.{Fitting};
 use hand_over::hand_over;
 use refusals::table_refusal;
 use solver::run::run;
 use solver::state::Progress;
-use solver::state::State;
+use solver::state::RunState;
 use table::Refusal;
 
 mod hand_over;
@@ -52,9 +53,11 @@ fn run_lent(
     requires { ⌜ (length (now heads) ≡ length (now tails)) × (length (now lengths) ≡ length (now tails)) ⌝ }
     requires { ⌜ is-table (table-of (length (now status)) origin (now tails) (now heads) (now lengths)) (now wanted) ≡ true ⌝ }
     requires { ⌜ (length (now path) ≡ length (now status)) × Sized (length (now status)) (now price) (now bound) (now kept) (now status) ⌝ }
-    requires { ⌜ seen (now path) (now price) (now bound) (now kept) (now status) progress ≡ fresh (table-of (length (now status)) origin (now tails) (now heads) (now lengths)) ⌝ }
+    requires { ⌜ seen (now path) (now price) (now bound) (now kept) (now status) progress
+        ≡ fresh (table-of (length (now status)) origin (now tails) (now heads) (now lengths)) ⌝ }
     requires { ⌜ Fitting (length (now status)) (length (now heads)) (now distances) (now prices) (now tree) (now marks) ⌝ }
-    ensures { λ r. ⌜ answered r (now (distances .exit)) (now (prices .exit)) (now (tree .exit)) (now (marks .exit)) ≡ routes-of (table-of (length (now (status .entry))) origin (now (tails .entry)) (now (heads .entry)) (now (lengths .entry))) (now (wanted .entry)) ⌝ }
+    ensures { λ r. ⌜ answered r (left distances) (left prices) (left tree) (left marks)
+        ≡ routes-of (table-of (length (was status)) origin (was tails) (was heads) (was lengths)) (was wanted) ⌝ }
 {
     let end = run(
         progress,
@@ -100,9 +103,10 @@ fn plan_table(
     requires { ⌜ (length (now heads) ≡ length (now tails)) × (length (now lengths) ≡ length (now tails)) ⌝ }
     requires { ⌜ is-table (table-of n origin (now tails) (now heads) (now lengths)) (now wanted) ≡ true ⌝ }
     requires { ⌜ Fitting n (length (now heads)) (now distances) (now prices) (now tree) (now marks) ⌝ }
-    ensures { λ r. ⌜ answered r (now (distances .exit)) (now (prices .exit)) (now (tree .exit)) (now (marks .exit)) ≡ routes-of (table-of n origin (now (tails .entry)) (now (heads .entry)) (now (lengths .entry))) (now (wanted .entry)) ⌝ }
+    ensures { λ r. ⌜ answered r (left distances) (left prices) (left tree) (left marks)
+        ≡ routes-of (table-of n origin (was tails) (was heads) (was lengths)) (was wanted) ⌝ }
 {
-    let state = State::fresh(origin);
+    let state = RunState::fresh(origin);
     let mut path = state.path;
     let mut price = state.price;
     let mut bound = state.bound;
@@ -142,7 +146,7 @@ pub fn plan_routes(
     tree: &mut [u16],
     marks: &mut [u8],
 ) -> Planned
-    ensures { λ r. ⌜ answered r (now (distances .exit)) (now (prices .exit)) (now (tree .exit)) (now (marks .exit)) ≡ plan n origin (now (tails .entry)) (now (heads .entry)) (now (lengths .entry)) (now (wanted .entry)) (now (distances .entry)) (now (prices .entry)) (now (tree .entry)) (now (marks .entry)) ⌝ }
+    ensures { λ r. ⌜ Plans n origin tails heads lengths wanted distances prices tree marks r ⌝ }
 {
     let refusal = table_refusal(
         n,

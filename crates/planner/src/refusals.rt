@@ -6,6 +6,7 @@ ghost use lib.ListN.{length};
 ghost use Rattle.table.specs.Table.{arc, arcs-of, most-arcs};
 ghost use Rattle.table.specs.Refusals.{rooms-fit, arc-fault, arcs-refusal, wanted-refusal, table-refusal};
 ghost use Rattle.auction.specs.Plan.{rooms};
+ghost use Rattle.solver.specs.Slices.{was};
 use table::MOST_WANTED;
 use table::Refusal;
 use table::bad_columns;
@@ -45,7 +46,7 @@ fn bad_buffers(
 
 // 5: too many wanted nodes, or the first one not below n.
 fn wanted_refusal(n: usize, wanted: &[u16]) -> Refusal
-    ensures { λ r. ⌜ r ≡ wanted-refusal n (now (wanted .entry)) ⌝ }
+    ensures { λ r. ⌜ r ≡ wanted-refusal n (was wanted) ⌝ }
 {
     if MOST_WANTED < wanted.len() {
         return Refusal {
@@ -85,7 +86,7 @@ fn arc_refusal(n: usize, tail: u16, head: u16, length: u32) -> u32
 // 6 and 7: the refusal of the first arc that has one.
 fn arcs_refusal(n: usize, tails: &[u16], heads: &[u16], lengths: &[u32]) -> Refusal
     requires { ⌜ (length (now heads) ≡ length (now tails)) × ((length (now lengths) ≡ length (now tails)) × (length (now tails) ≤ most-arcs)) ⌝ }
-    ensures { λ r. ⌜ r ≡ arcs-refusal n (arcs-of (now (tails .entry)) (now (heads .entry)) (now (lengths .entry))) ⌝ }
+    ensures { λ r. ⌜ r ≡ arcs-refusal n (arcs-of (was tails) (was heads) (was lengths)) ⌝ }
 {
     let mut i = 0;
     while i < tails.len() {
@@ -114,7 +115,8 @@ pub fn table_refusal(
     tree: usize,
     marks: usize,
 ) -> Refusal
-    ensures { λ r. ⌜ r ≡ table-refusal n origin (now (tails .entry)) (now (heads .entry)) (now (lengths .entry)) (now (wanted .entry)) (rooms n (length (now (tails .entry))) distances prices tree marks) ⌝ }
+    ensures { λ r. ⌜ r ≡ table-refusal n origin (was tails) (was heads) (was lengths) (was wanted)
+        (rooms n (length (was tails)) distances prices tree marks) ⌝ }
 {
     let nodes = n as usize;
     let arcs = tails.len();

@@ -12,7 +12,7 @@ use borrow.Author.Tests.{eq-eqb, ne-eqb, leb-true, leb-false, le-leb, lt-leb}
 use Rattle.table.specs.Table.{Table, arc-count, tail-at, head-at, length-at, no-arc, most-arcs}
 use Rattle.auction.specs.Auction.{State, Bid, bid, offer, offers, takes, best-from, to-child, with-bid, lower-bid, price-at}
 use Rattle.table.proofs.Basics.{same-or, true-or}
-use Rattle.solver.specs.Lists.{next-out, Listed, Some-table}
+use Rattle.solver.specs.Lists.{star, next-out, Outgoing, Some-table}
 use Rattle.solver.specs.Steps.{lower-of}
 
 -- an arc out of v at a position from i on, or none
@@ -126,7 +126,7 @@ lower-of-bid (some a) true b later = ap some (sym (lower-bid-same a b later))
 pub record On-list (t : Table) (v p : ℕ) : Type 0 where
   pub inside : (p ≡ no-arc → ⊥) → (p < arc-count t) × (tail-at t p ≡ v)
 
-module _ {t : Table} {hs ls first next : List ℕ} (here : Listed t hs ls first next) (v : ℕ) where
+module _ {t : Table} {hs ls first next : List ℕ} (here : Outgoing t (star hs ls first next)) (v : ℕ) where
   pub on-first : v < t .n → On-list t v (getD first v 0)
   on-first h =
       subst (λ (q : ℕ). On-list t v q) (sym (here .linked .first-arc v h))
@@ -202,12 +202,12 @@ module _ {t : Table} {hs ls first next : List ℕ} (here : Listed t hs ls first 
 -- what a read of the arc at p needs
 pub record Readable (hs ls first next : List ℕ) (p : ℕ) : Type 0 where
   pub of : Table
-  pub listed : Listed of hs ls first next
+  pub listed : Outgoing of (star hs ls first next)
   pub inside : p < arc-count of
   pub head-in : getD hs p 0 < of .n
   pub rises : p < getD next p 0
 
-pub readable : {hs ls first next : List ℕ} {v p : ℕ} → ((t : Table) → Listed t hs ls first next → On-list t v p) → Some-table hs ls first next →
+pub readable : {hs ls first next : List ℕ} {v p : ℕ} → ((t : Table) → Outgoing t (star hs ls first next) → On-list t v p) → Some-table (star hs ls first next) →
     (p ≡ no-arc → ⊥) → Readable hs ls first next p
 unfolding Some-table
 readable {hs} {ls} {first} {next} {v} {p} walk any more =

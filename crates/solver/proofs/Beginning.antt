@@ -12,7 +12,7 @@ use Rattle.auction.specs.Auction.{State, state, bound-at, reach, fresh, start}
 use Rattle.auction.proofs.Good.{good}
 use Rattle.solver.specs.declared.state.Progress.{Progress}
 use Rattle.solver.specs.Seen.{seen, greatest-sum}
-use Rattle.solver.specs.Lists.{Linked, Tails}
+use Rattle.solver.specs.Lists.{star, Linked, Tails}
 use Rattle.solver.specs.Steps.{Begun}
 use Rattle.solver.proofs.Arrays.{seen-bound}
 use Rattle.solver.proofs.Iterating.{bound-value}
@@ -24,7 +24,7 @@ fresh-bound t h =
     getD-set-same (replicate (t .n) none) (t .origin) (some 0) none (omega (arith, length-replicate {A = Option ℕ} (t .n) none))
 
 module _ {t : Table} {ws : List ℕ} {o : ℕ} {hs ls first nexts : List ℕ} where
-  module _ (p u b k s : List ℕ) (g : Progress) (bg : Begun fresh t ws o hs ls first nexts (seen p u b k s g)) where
+  module _ (p u b k s : List ℕ) (g : Progress) (bg : Begun fresh t ws o (star hs ls first nexts) (seen p u b k s g)) where
     pub origin-below : o < length first
     origin-below = omega (arith, good t ws (bg .good) .origin-in, bg .origin-is, bg .listed .linked .first-count)
 
@@ -34,7 +34,7 @@ module _ {t : Table} {ws : List ℕ} {o : ℕ} {hs ls first nexts : List ℕ} wh
         ∙ ap (bound-at (fresh t)) (sym (bg .origin-is)) ∙ fresh-bound t (good t ws (bg .good) .origin-in) in
         omega (arith, bound-value _ 0 e)
 
-  pub started : {x y : State} → Begun fresh t ws o hs ls first nexts x → y ≡ reach t o x → Begun start t ws o hs ls first nexts y
+  pub started : {x y : State} → Begun fresh t ws o (star hs ls first nexts) x → y ≡ reach t o x → Begun start t ws o (star hs ls first nexts) y
   unfolding start
   started {x} {y} bg e =
       record {
@@ -65,7 +65,7 @@ module _ (n o : ℕ) (ts hs ls ws : List ℕ) (eh : length hs ≡ length ts) (el
       omega (arith, good _ ws ok .tail-in i (omega (arith, count-so n o ts hs ls eh el)), tail-so n o ts hs ls eh el i h, nodes-so n o ts hs ls eh el)
 
   pub begun-fresh : {first nexts : List ℕ} {x : State} (at : ℕ) → at ≡ o → Linked (table-of n o ts hs ls) first nexts → x ≡ fresh (table-of n o ts hs ls) →
-      Begun fresh (table-of n o ts hs ls) ws at hs ls first nexts x
+      Begun fresh (table-of n o ts hs ls) ws at (star hs ls first nexts) x
   begun-fresh at ea linked e =
       let t = table-of n o ts hs ls in
       let m = count-so n o ts hs ls eh el in

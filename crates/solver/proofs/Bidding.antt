@@ -14,8 +14,8 @@ use Rattle.auction.specs.Auction.{State, Bid, bid, best, best-from, to-child, w
 use Rattle.table.proofs.Basics.{same-or}
 use Rattle.solver.specs.declared.state.Progress.{Progress}
 use Rattle.solver.specs.Seen.{arc-of, bid-of, seen}
-use Rattle.solver.specs.Lists.{Listed}
-use Rattle.solver.specs.Steps.{lower-of}
+use Rattle.solver.specs.Lists.{star, Outgoing}
+use Rattle.solver.specs.Steps.{lower-of, bid-over}
 use Rattle.solver.proofs.Arrays.{some-arc, no-kept, some-bid, no-bid, seen-kept, seen-status, seen-price}
 use Rattle.solver.proofs.Arcs.{On-list, on-first, on-next, bids-first, bids-next, bids-done, lower-of-none, lower-of-bid}
 
@@ -52,6 +52,10 @@ module _ (t : Table) (i j : ℕ) (p u b k s : List ℕ) (g : Progress) (at : hea
       child-is ∙ rw (some-arc (getD k j 0) (λ z. omega arith), eq-eqb (getD k j 0) i e, ne-eqb (getD s j 0) 2 d)
 
 -- ONE BID MORE
+pub bid-value : (t : Table) (i j l : ℕ) (p u b k s : List ℕ) (g : Progress) → head-at t i ≡ j → length-at t i ≡ l →
+    length-at t i + price-at (seen p u b k s g) (head-at t i) ≡ l + getD u j 0
+bid-value t i j l p u b k s g eh el = rw (eh, el, seen-price p u b k s g j)
+
 pub stays : (value arc : ℕ) (child : Bool) (b : Bid) → child ≡ false → bid-of value arc ≡ lower-of (bid-of value arc) (with-bid child b none)
 unfolding with-bid
 stays value arc child b e = rw e (sym (lower-of-none (bid-of value arc)))
@@ -79,7 +83,7 @@ pub record Uncompared (t : Table) (v : ℕ) (price kept status : List ℕ) (valu
       lower-of (bid-of value arc) (best-from (arc-count t - p) p t v (seen path price bound kept status g)) ≡ best t v (seen path price bound kept status g)
 
 abbrev pub Comparing : (heads lengths first next : List ℕ) → (v : ℕ) → (price kept status : List ℕ) → (value arc p : ℕ) → Type 0
-Comparing hs ls first next v u k s value arc p = (t : Table) → Listed t hs ls first next → Uncompared t v u k s value arc p
+Comparing hs ls first next v u k s value arc p = (t : Table) → Outgoing t (star hs ls first next) → Uncompared t v u k s value arc p
 
 module _ (hs ls first next : List ℕ) (v : ℕ) (u k s : List ℕ) where
   pub begins : (value arc : ℕ) → arc ≡ no-arc → v < length first → Comparing hs ls first next v u k s value arc (getD first v 0)
@@ -93,7 +97,7 @@ module _ (hs ls first next : List ℕ) (v : ℕ) (u k s : List ℕ) where
 
   pub goes-on : (value arc p value′ arc′ i j : ℕ) → Comparing hs ls first next v u k s value arc p → i ≡ p → j ≡ getD hs p 0 → (p ≡ no-arc → ⊥) →
       ((t : Table) (path bound : List ℕ) (g : Progress) → head-at t p ≡ j → length-at t p ≡ getD ls i 0 →
-      bid-of value′ arc′ ≡ lower-of (bid-of value arc) (with-bid (to-child t (tail-at t p) p (seen path u bound k s g)) (bid (getD ls i 0 + getD u j 0) p) none)) →
+      bid-of value′ arc′ ≡ lower-of (bid-of value arc) (bid-over t p (seen path u bound k s g))) →
       Comparing hs ls first next v u k s value′ arc′ (getD next i 0)
   goes-on value arc p value′ arc′ i j inv ei ej more lowered t here =
       let l = inv t here in
@@ -106,16 +110,15 @@ module _ (hs ls first next : List ℕ) (v : ℕ) (u k s : List ℕ) where
             let el : length-at t p ≡ getD ls i 0 = sym (here .arc-length p (at .0)) ∙ ap (λ m. getD ls m 0) (sym ei) in
             let later = best-from (arc-count t - getD next p 0) (getD next p 0) t v x in
             let e = lowered t path bound g eh el in
-            let b : bid (getD ls i 0 + getD u j 0) p ≡ bid (length-at t p + price-at x (head-at t p)) p =
-            rw (el, eh, seen-price path u bound k s g j) in
-            rw (ei, e, lower-of-bid (bid-of value arc) (to-child t (tail-at t p) p x) (bid (getD ls i 0 + getD u j 0) p) later, b)
-            (subst (λ (w : ℕ). lower-of (bid-of value arc) (with-bid (to-child t w p x) (bid (length-at t p + price-at x (head-at t p)) p) later) ≡ best t v x)
+            let b = bid (length-at t p + price-at x (head-at t p)) p in
+            rw (ei, e, lower-of-bid (bid-of value arc) (to-child t (tail-at t p) p x) b later)
+            (subst (λ (w : ℕ). lower-of (bid-of value arc) (with-bid (to-child t w p x) b later) ≡ best t v x)
             (sym (at .1))
             (ap (λ o. lower-of (bid-of value arc) o) (sym (bids-next here v (l .on-list) more x)) ∙ l .rest path bound g));
       }
 
   pub ends : (value arc p : ℕ) → Comparing hs ls first next v u k s value arc p → p ≡ no-arc →
-      (t : Table) (path bound : List ℕ) (g : Progress) → Listed t hs ls first next → bid-of value arc ≡ best t v (seen path u bound k s g)
+      (t : Table) (path bound : List ℕ) (g : Progress) → Outgoing t (star hs ls first next) → bid-of value arc ≡ best t v (seen path u bound k s g)
   ends value arc p inv e t path bound g here =
       sym (lower-of-none (bid-of value arc))
       ∙ ap (λ o. lower-of (bid-of value arc) o) (sym (bids-done here v p (seen path u bound k s g) e))

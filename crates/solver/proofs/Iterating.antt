@@ -19,7 +19,7 @@ use Rattle.auction.proofs.Steps.Bids.{best-bid}
 use Rattle.auction.proofs.Run.{Running, begins, goes-on, done, stuck, stepped}
 use Rattle.solver.specs.declared.state.Progress.{Progress}
 use Rattle.solver.specs.Seen.{bound-of, bid-of, seen, Sized, greatest-sum}
-use Rattle.solver.specs.Lists.{Listed}
+use Rattle.solver.specs.Lists.{star, Outgoing}
 use Rattle.solver.specs.Steps.{Can-step, Begun, Ran, First-from}
 use Rattle.solver.proofs.Arrays.{seen-price, seen-bound, some-bid, some-bound, no-bound}
 use Rattle.solver.proofs.Stepping.{last-entry, as-many, is-extension, is-stop}
@@ -102,7 +102,7 @@ module _ {t : Table} {ws : List ℕ} (p u b k s : List ℕ) (g : Progress) (r : 
     unfolding next
     next-is = rw (at, bids)
 
-    module _ {hs ls first nexts : List ℕ} (here : Listed t hs ls first nexts) (more : all-reached ws (seen p u b k s g) ≡ false) where
+    module _ {hs ls first nexts : List ℕ} (here : Outgoing t (star hs ls first nexts)) (more : all-reached ws (seen p u b k s g) ≡ false) where
       can-extend : (arc ≡ no-arc → ⊥) → value ≤ getD u v 0 → g .depth < t .n
       can-extend any h =
           let e = next-is ∙ is-extension t v value arc (seen p u b k s g) any (subst (λ (m : ℕ). value ≤ m) (sym (seen-price p u b k s g v)) h) in
@@ -142,17 +142,17 @@ pub record Iterating (ws : List ℕ) (o : ℕ) (hs ls first next : List ℕ) (x�
   pub low : w ≤ length ws
   pub path-long : length p ≡ length first
   pub sized : Sized (length first) u b k s
-  pub round : (t : Table) → Begun start t ws o hs ls first next x₀ → Round t ws w (seen p u b k s g)
+  pub round : (t : Table) → Begun start t ws o (star hs ls first next) x₀ → Round t ws w (seen p u b k s g)
 
 status-is : (p u b k s : List ℕ) (g : Progress) → seen p u b k s g .status ≡ s
 unfolding seen state
 status-is p u b k s g = refl
 
 module _ {ws : List ℕ} {o : ℕ} {hs ls first nexts : List ℕ} where
-  nodes-so : {x₀ : State} (t : Table) → Begun start t ws o hs ls first nexts x₀ → t .n ≡ length first
+  nodes-so : {x₀ : State} (t : Table) → Begun start t ws o (star hs ls first nexts) x₀ → t .n ≡ length first
   nodes-so t bg = sym (bg .listed .linked .first-count)
 
-  pub wanted-below : {x₀ : State} (t : Table) → Begun start t ws o hs ls first nexts x₀ → (status : List ℕ) → length status ≡ length first →
+  pub wanted-below : {x₀ : State} (t : Table) → Begun start t ws o (star hs ls first nexts) x₀ → (status : List ℕ) → length status ≡ length first →
       (j : ℕ) → j < length ws → getD ws j 0 < length status
   wanted-below t bg status l j h = omega (arith, wanted-in t ws (bg .good) j h, nodes-so t bg)
 
@@ -171,11 +171,11 @@ module _ {ws : List ℕ} {o : ℕ} {hs ls first nexts : List ℕ} where
       }
 
   module _ {x₀ : State} {p u b k s : List ℕ} {g : Progress} {w : ℕ} (i : Iterating ws o hs ls first nexts x₀ p u b k s g w) where
-    still-missing : w < length ws → (t : Table) → Begun start t ws o hs ls first nexts x₀ → all-reached ws (seen p u b k s g) ≡ false
+    still-missing : w < length ws → (t : Table) → Begun start t ws o (star hs ls first nexts) x₀ → all-reached ws (seen p u b k s g) ≡ false
     still-missing h t bg = some-missing ws (seen p u b k s g) (omega (arith, i .round t bg .missing))
 
     -- what the loop's body needs
-    module _ (t : Table) (bg : Begun start t ws o hs ls first nexts x₀) where
+    module _ (t : Table) (bg : Begun start t ws o (star hs ls first nexts) x₀) where
       pub now-ready : Ready (length first) p u g (seen p u b k s g)
       now-ready = ready p u b k s g (i .round t bg .running) (length first) (nodes-so t bg)
 
@@ -187,8 +187,8 @@ module _ {ws : List ℕ} {o : ℕ} {hs ls first nexts : List ℕ} where
 
     -- one iteration more
     pub continues : {p′ u′ b′ k′ s′ : List ℕ} {g′ : Progress} {w′ : ℕ} (v value arc : ℕ) → w < length ws → v ≡ getD p (g .depth - 1) 0 →
-        ((t : Table) → Listed t hs ls first nexts → bid-of value arc ≡ best t v (seen p u b k s g)) →
-        ((t : Table) → Listed t hs ls first nexts → t .origin ≡ o → iteration (bid-of value arc) t v (seen p u b k s g) ≡ some (seen p′ u′ b′ k′ s′ g′)) →
+        ((t : Table) → Outgoing t (star hs ls first nexts) → bid-of value arc ≡ best t v (seen p u b k s g)) →
+        ((t : Table) → Outgoing t (star hs ls first nexts) → t .origin ≡ o → iteration (bid-of value arc) t v (seen p u b k s g) ≡ some (seen p′ u′ b′ k′ s′ g′)) →
         length p′ ≡ length p → Sized (length first) u′ b′ k′ s′ → First-from w ws s′ w′ →
         Iterating ws o hs ls first nexts x₀ p′ u′ b′ k′ s′ g′ w′
     continues {p′} {u′} {b′} {k′} {s′} {g′} {w′} v value arc h ev bids steps lp sized f =
@@ -212,25 +212,25 @@ module _ {ws : List ℕ} {o : ℕ} {hs ls first nexts : List ℕ} where
 
     -- the iteration is counted
     pub counted : (p′ u′ b′ k′ s′ : List ℕ) (g′ : Progress) (v value arc : ℕ) → w < length ws → v ≡ getD p (g .depth - 1) 0 →
-        ((t : Table) → Listed t hs ls first nexts → bid-of value arc ≡ best t v (seen p u b k s g)) →
-        ((t : Table) → Listed t hs ls first nexts → t .origin ≡ o → iteration (bid-of value arc) t v (seen p u b k s g) ≡ some (seen p′ u′ b′ k′ s′ g′)) →
-        (t : Table) → Begun start t ws o hs ls first nexts x₀ → g′ .contractions + g′ .extensions + g′ .deletions ≡ suc (g .contractions + g .extensions + g .deletions)
+        ((t : Table) → Outgoing t (star hs ls first nexts) → bid-of value arc ≡ best t v (seen p u b k s g)) →
+        ((t : Table) → Outgoing t (star hs ls first nexts) → t .origin ≡ o → iteration (bid-of value arc) t v (seen p u b k s g) ≡ some (seen p′ u′ b′ k′ s′ g′)) →
+        (t : Table) → Begun start t ws o (star hs ls first nexts) x₀ → g′ .contractions + g′ .extensions + g′ .deletions ≡ suc (g .contractions + g .extensions + g .deletions)
     unfolding iterations seen state
     counted p′ u′ b′ k′ s′ g′ v value arc h ev bids steps t bg =
         let r = i .round t bg .running in
         let e = next-is p u b k s g r v o value arc (now-ready t bg .terminal-is ∙ sym ev) (bg .origin-is) (bids t (bg .listed)) ∙ steps t (bg .listed) (bg .origin-is) in
         goes-on r (seen p′ u′ b′ k′ s′ g′) (still-missing h t bg) e .1
 
-    counted-so : (t : Table) (bg : Begun start t ws o hs ls first nexts x₀) → iterations (seen p u b k s g) < 4294967296
+    counted-so : (t : Table) (bg : Begun start t ws o (star hs ls first nexts) x₀) → iterations (seen p u b k s g) < 4294967296
     counted-so t bg = omega (arith, i .round t bg .running .few, few-in-all (t .n) (i .round t bg .running .good .few-nodes))
 
-    bounded-so : (t : Table) (bg : Begun start t ws o hs ls first nexts x₀) (v : ℕ) → was-reached (seen p u b k s g) v ≡ true →
+    bounded-so : (t : Table) (bg : Begun start t ws o (star hs ls first nexts) x₀) (v : ℕ) → was-reached (seen p u b k s g) v ≡ true →
         bound-at (seen p u b k s g) v ≡ none → ⊥
     bounded-so t bg v e z =
         omega (arith, reached-status (seen p u b k s g) v e, i .round t bg .running .invariant .sound .nodes .unbounded v z)
 
     -- the two ends
-    pub ends : length ws ≤ w → (t : Table) → Begun start t ws o hs ls first nexts x₀ → Ran t ws w (seen p u b k s g)
+    pub ends : length ws ≤ w → (t : Table) → Begun start t ws o (star hs ls first nexts) x₀ → Ran t ws w (seen p u b k s g)
     ends h t bg =
         let r = i .round t bg in
         record {
@@ -242,8 +242,8 @@ module _ {ws : List ℕ} {o : ℕ} {hs ls first nexts : List ℕ} where
         }
 
     pub stops : (v value arc : ℕ) → w < length ws → v ≡ getD p (g .depth - 1) 0 → arc ≡ no-arc → v ≡ o →
-        ((t : Table) → Listed t hs ls first nexts → bid-of value arc ≡ best t v (seen p u b k s g)) →
-        (t : Table) → Begun start t ws o hs ls first nexts x₀ → Ran t ws w (seen p u b k s g)
+        ((t : Table) → Outgoing t (star hs ls first nexts) → bid-of value arc ≡ best t v (seen p u b k s g)) →
+        (t : Table) → Begun start t ws o (star hs ls first nexts) x₀ → Ran t ws w (seen p u b k s g)
     stops v value arc h ev ea eo bids t bg =
         let r = i .round t bg in
         let e = next-is p u b k s g (r .running) v o value arc (now-ready t bg .terminal-is ∙ sym ev) (bg .origin-is) (bids t (bg .listed))

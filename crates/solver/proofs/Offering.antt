@@ -14,7 +14,7 @@ use Rattle.auction.specs.Auction.{State, improves, takes, offer, offers, distan
 use Rattle.table.proofs.Basics.{same-or}
 use Rattle.solver.specs.declared.state.Progress.{Progress}
 use Rattle.solver.specs.Seen.{bound-of, arc-of, seen}
-use Rattle.solver.specs.Lists.{Listed}
+use Rattle.solver.specs.Lists.{star, Outgoing}
 use Rattle.solver.specs.Steps.{Offered}
 use Rattle.solver.proofs.Arrays.{some-bound, some-arc, no-bound, no-kept, seen-bound, seen-kept, seen-status, store-kept, seen-distance}
 use Rattle.solver.proofs.Arcs.{On-list, on-first, on-next, offers-first, offers-next, offers-done}
@@ -110,7 +110,7 @@ pub record Offering (heads lengths first next : List ℕ) (v d : ℕ) (bound₀ 
   pub bounds-long : length bound ≡ length bound₀
   pub kepts-long : length kept ≡ length kept₀
   pub distance-stays : getD bound v 0 ≡ d
-  pub left-over : (t : Table) → Listed t heads lengths first next → Left-over t v bound₀ kept₀ status bound kept p
+  pub left-over : (t : Table) → Outgoing t (star heads lengths first next) → Left-over t v bound₀ kept₀ status bound kept p
 
 module _ {hs ls first next : List ℕ} {v d : ℕ} {b₀ k₀ s : List ℕ} where
   pub begins : v < length first → getD b₀ v 0 ≡ d → Offering hs ls first next v d b₀ k₀ s b₀ k₀ (getD first v 0)
@@ -151,7 +151,7 @@ module _ {hs ls first next : List ℕ} {v d : ℕ} {b₀ k₀ s : List ℕ} wher
               };
         }
 
-    pub ends : p ≡ no-arc → (t : Table) (path price : List ℕ) (g : Progress) → Listed t hs ls first next →
+    pub ends : p ≡ no-arc → (path price : List ℕ) (g : Progress) (t : Table) → Outgoing t (star hs ls first next) →
         seen path price b k s g ≡ offers (arc-count t) 0 t v (seen path price b₀ k₀ s g)
-    ends e t path price g here =
+    ends e path price g t here =
         sym (offers-done here v p (seen path price b k s g) e) ∙ inv .left-over t here .rest path price g

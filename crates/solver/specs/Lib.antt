@@ -1,3 +1,4 @@
+pub mod Slices
 pub mod Seen
 pub mod Lists
 pub mod Steps

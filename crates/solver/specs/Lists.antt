@@ -6,6 +6,7 @@ use Prim.Native.Nat.{ℕ, zero, suc, _-_, _≤_, _<_}
 use lib.Dec.{eqb}
 use lib.ListN.{length, getD}
 use Rattle.table.specs.Table.{Table, arc-count, tail-at, head-at, length-at, no-arc, most-arcs}
+use Rattle.solver.specs.Slices.{Slice, was}
 
 -- the first of the `left` positions from `position` on whose arc leaves node v, or no arc
 unfoldable pub next-out : (left position : ℕ) → Table → (v : ℕ) → ℕ
@@ -24,15 +25,28 @@ pub record Linked (t : Table) (first next : List ℕ) : Type 0 where
   pub first-arc : (v : ℕ) → v < t .n → getD first v 0 ≡ next-out (arc-count t) 0 t v
   pub next-arc : (i : ℕ) → i < arc-count t → getD next i 0 ≡ next-out (arc-count t - suc i) (suc i) t (tail-at t i)
 
--- what an iteration looks at: the heads and the lengths of a table whose arcs lead to its nodes, and the lists of outgoing arcs
-pub record Listed (t : Table) (heads lengths first next : List ℕ) : Type 0 where
-  pub few : arc-count t ≤ most-arcs
-  pub head-count : length heads ≡ arc-count t
-  pub length-count : length lengths ≡ arc-count t
-  pub head : (i : ℕ) → i < arc-count t → getD heads i 0 ≡ head-at t i
-  pub head-in : (i : ℕ) → i < arc-count t → head-at t i < t .n
-  pub arc-length : (i : ℕ) → i < arc-count t → getD lengths i 0 ≡ length-at t i
-  pub linked : Linked t first next
+-- THE FORWARD STAR, which is all that an iteration sees of a table: the heads and the lengths of the arcs, and the lists of outgoing arcs
+pub record Star : Type 0 where
+  pub heads : List ℕ
+  pub lengths : List ℕ
+  pub first : List ℕ
+  pub next : List ℕ
 
-unfoldable pub Some-table : (heads lengths first next : List ℕ) → Type 0
-Some-table hs ls first next = (t : Table) × Listed t hs ls first next
+abbrev pub star : (heads lengths first next : List ℕ) → Star
+star hs ls first next = record { heads = hs; lengths = ls; first = first; next = next }
+
+abbrev pub lent-star : (heads lengths first next : Slice) → Star
+lent-star hs ls first next = star (was hs) (was ls) (was first) (was next)
+
+-- it is that of a table whose arcs lead to its nodes
+pub record Outgoing (t : Table) (o : Star) : Type 0 where
+  pub few : arc-count t ≤ most-arcs
+  pub head-count : length (o .heads) ≡ arc-count t
+  pub length-count : length (o .lengths) ≡ arc-count t
+  pub head : (i : ℕ) → i < arc-count t → getD (o .heads) i 0 ≡ head-at t i
+  pub head-in : (i : ℕ) → i < arc-count t → head-at t i < t .n
+  pub arc-length : (i : ℕ) → i < arc-count t → getD (o .lengths) i 0 ≡ length-at t i
+  pub linked : Linked t (o .first) (o .next)
+
+unfoldable pub Some-table : Star → Type 0
+Some-table o = (t : Table) × Outgoing t o

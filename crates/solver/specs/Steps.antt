@@ -7,11 +7,17 @@ use Prim.Native.Nat.{ℕ, _+_, _≤_, _<_}
 use lib.Dec.{eqb}
 use lib.ListN.{length, getD, drop}
 use Rattle.table.specs.Table.{Table, is-table, tail-at, head-at, length-at, no-arc}
-use Rattle.auction.specs.Auction.{State, Bid, offer, distance, lower-bid, auction, ended, iterations, was-reached, bound-at}
+use Rattle.auction.specs.Auction.{State, Bid, bid, with-bid, to-child, price-at, iteration, offer, distance, lower-bid, auction, ended, iterations, was-reached, bound-at}
 use Rattle.auction.specs.HandOver.{first-missing}
 use Rattle.solver.specs.declared.state.Progress.{Progress}
-use Rattle.solver.specs.Seen.{seen, greatest-sum, too-many}
-use Rattle.solver.specs.Lists.{Listed}
+use Rattle.solver.specs.declared.state.RunState.{RunState}
+use Rattle.solver.specs.declared.bids.LeastBid.{LeastBid}
+use Rattle.solver.specs.Seen.{seen, held, bid-of, greatest-sum, too-many}
+use Rattle.solver.specs.Lists.{Star, Outgoing}
+
+-- WHAT BECOMES OF THE ARRAYS: for each table whose forward star this is, they hold what `f` makes of the state that they held before.
+abbrev pub Becomes : (o : Star) → (f : Table → State → State) → (a b : RunState) → Type 0
+Becomes o f a b = (t : Table) → Outgoing t o → held b ≡ f t (held a)
 
 -- One arc has been offered to its head: the state is the one that `offer` gives, and no bound of a reached node has changed.
 pub record Offered (head position bound : ℕ) (bounds kept status bounds′ kept′ : List ℕ) : Type 0 where
@@ -25,6 +31,14 @@ unfoldable pub lower-of : Option Bid → Option Bid → Option Bid
 lower-of none b = b
 lower-of (some a) b = some (lower-bid a b)
 
+-- the bid that the code holds
+abbrev pub bid-in : LeastBid → Option Bid
+bid-in l = bid-of (l .value) (l .arc)
+
+-- the bid over the arc at a position, where that leads to a child
+abbrev pub bid-over : (t : Table) → (position : ℕ) → State → Option Bid
+bid-over t i x = with-bid (to-child t (tail-at t i) i x) (bid (length-at t i + price-at x (head-at t i)) i) none
+
 -- the arc leads to the child, where there is an arc
 abbrev pub Leads : (heads : List ℕ) → (arc child : ℕ) → Type 0
 Leads hs arc child = (arc ≡ no-arc → ⊥) → child ≡ getD hs arc 0
@@ -37,9 +51,13 @@ pub record Can-step (v origin value arc depth : ℕ) (heads path price bound : L
   pub room : (arc ≡ no-arc → ⊥) → value ≤ getD price v 0 → depth < length path
   pub bounded : (arc ≡ no-arc → ⊥) → getD bound (getD heads arc 0) 0 ≤ greatest-sum
 
--- The arrays hold a state that each table has, the fresh one or the start, for a table and a wanted list that are not turned down.
-pub record Begun (from : Table → State) (t : Table) (ws : List ℕ) (origin : ℕ) (heads lengths first next : List ℕ) (x : State) : Type 0 where
-  pub listed : Listed t heads lengths first next
+-- AN ITERATION at node v, whose least bid is given: the arrays hold the next state.
+abbrev pub Steps : (v origin : ℕ) → LeastBid → Star → (a b : RunState) → Type 0
+Steps v origin least o a b = (t : Table) → Outgoing t o → t .origin ≡ origin → iteration (bid-in least) t v (held a) ≡ some (held b)
+
+-- The arrays hold a state that each table has, the fresh one or the start, for a table and a wanted list that are not refused.
+pub record Begun (from : Table → State) (t : Table) (ws : List ℕ) (origin : ℕ) (o : Star) (x : State) : Type 0 where
+  pub listed : Outgoing t o
   pub origin-is : t .origin ≡ origin
   pub good : is-table t ws ≡ true
   pub begun : x ≡ from t
@@ -52,6 +70,10 @@ pub record Ran (t : Table) (ws : List ℕ) (missing : ℕ) (x : State) : Type 0 
   pub inside : missing ≤ length ws
   pub bounded : (v : ℕ) → was-reached x v ≡ true → bound-at x v ≡ none → ⊥
   pub few : iterations x < too-many
+
+-- A RUN from the fresh state or the start: in each table in which the arrays hold that, it ends in the auction's last state.
+abbrev pub Runs : (from : Table → State) → (ws : List ℕ) → (origin : ℕ) → Star → (a b : RunState) → (missing : ℕ) → Type 0
+Runs from ws origin o a b missing = (t : Table) → Begun from t ws origin o (held a) → Ran t ws missing (held b)
 
 -- The index of the first wanted node, from an index on, that has not been reached.
 pub record First-from (from : ℕ) (ws status : List ℕ) (r : ℕ) : Type 0 where

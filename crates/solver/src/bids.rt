@@ -1,17 +1,17 @@
 // The least bid of a node's children.
 ghost use mathlib.Core.Path.{_≡_};
 ghost use mathlib.Core.List.{List, [], _∷_};
-ghost use mathlib.Core.Option.{none};
 ghost use Prim.Native.Nat.{ℕ, _+_, _≤_, _<_};
 ghost use lib.ListN.{length, getD};
-ghost use Rattle.table.specs.Table.{Table, tail-at, head-at, length-at, no-arc};
-ghost use Rattle.auction.specs.Auction.{bid, with-bid, to-child, price-at, best};
+ghost use Rattle.table.specs.Table.{Table, head-at, length-at, no-arc};
+ghost use Rattle.auction.specs.Auction.{best};
 ghost use Rattle.solver.specs.declared.state.Progress.{Progress};
-ghost use Rattle.solver.specs.Seen.{All-long, bid-of, seen, greatest-sum};
-ghost use Rattle.solver.specs.Lists.{Listed, Some-table};
-ghost use Rattle.solver.specs.Steps.{lower-of, Leads};
+ghost use Rattle.solver.specs.Slices.{was};
+ghost use Rattle.solver.specs.Seen.{All-long, seen, greatest-sum};
+ghost use Rattle.solver.specs.Lists.{star, lent-star, Outgoing, Some-table};
+ghost use Rattle.solver.specs.Steps.{lower-of, bid-in, bid-over, Leads};
 use super::long;
-use super::state::State;
+use super::state::RunState;
 use table::NO_ARC;
 use table::wide;
 
@@ -36,10 +36,11 @@ fn lower_bid(
 ) -> LeastBid
     requires { ⌜ (head < lib.ListN.length (now price)) × ((head < lib.ListN.length (now kept)) × (head < lib.ListN.length (now status))) ⌝ }
     requires { ⌜ (position < no-arc) × (getD (now price) head 0 ≤ greatest-sum) ⌝ }
-    ensures lower { λ r. ⌜ ((t : Table) (path bound : List ℕ) (g : Progress) → head-at t position ≡ head → length-at t position ≡ length → bid-of (r .value) (r .arc) ≡ lower-of (bid-of (least .value) (least .arc)) (with-bid (to-child t (tail-at t position) position (seen path (now (price .entry)) bound (now (kept .entry)) (now (status .entry)) g)) (bid (length + getD (now (price .entry)) head 0) position) none)) ⌝ }
+    ensures lower { λ r. ⌜ ((t : Table) (path bound : List ℕ) (g : Progress) → head-at t position ≡ head → length-at t position ≡ length →
+        bid-in r ≡ lower-of (bid-in least) (bid-over t position (seen path (was price) bound (was kept) (was status) g))) ⌝ }
     ensures leads { λ r. ⌜ ((heads : List ℕ) → Leads heads (least .arc) (least .child) → child ≡ getD heads position 0 → Leads heads (r .arc) (r .child)) ⌝ }
 {
-    if kept[head] != position || status[head] == State::DELETED {
+    if kept[head] != position || status[head] == RunState::DELETED {
         return least;
     }
     let value = long(length) + price[head];
@@ -64,11 +65,12 @@ pub fn least_bid(
     kept: &[u16],
     status: &[u8],
 ) -> LeastBid
-    requires { ⌜ Some-table (now heads) (now lengths) (now first) (now next) ⌝ }
+    requires { ⌜ Some-table (star (now heads) (now lengths) (now first) (now next)) ⌝ }
     requires { ⌜ All-long (length (now first)) (now price ∷ now kept ∷ now status ∷ []) ⌝ }
     requires { ⌜ (v < length (now first)) × ((u : ℕ) → getD (now price) u 0 ≤ greatest-sum) ⌝ }
-    ensures least { λ r. ⌜ ((t : Table) (path bound : List ℕ) (g : Progress) → Listed t (now (heads .entry)) (now (lengths .entry)) (now (first .entry)) (now (next .entry)) → bid-of (r .value) (r .arc) ≡ best t v (seen path (now (price .entry)) bound (now (kept .entry)) (now (status .entry)) g)) ⌝ }
-    ensures leads { λ r. ⌜ Leads (now (heads .entry)) (r .arc) (r .child) ⌝ }
+    ensures least { λ r. ⌜ ((t : Table) (path bound : List ℕ) (g : Progress) → Outgoing t (lent-star heads lengths first next) →
+        bid-in r ≡ best t v (seen path (was price) bound (was kept) (was status) g)) ⌝ }
+    ensures leads { λ r. ⌜ Leads (was heads) (r .arc) (r .child) ⌝ }
 {
     let mut least = LeastBid {
         value: 0,

@@ -1,9 +1,10 @@
 // The code of the auction's run. Each function's contract equates what it does with the auction's definitions: specs/Seen.antt says
 // which state of the auction the arrays hold, specs/Lists.antt what the lists of outgoing arcs are, specs/Steps.antt what a step may
 // rely on. A function that is lent only some of the arrays says its equation for every table that its columns and lists belong to and
-// for every value of the others. A run is one call of run::run on a fresh state, State::fresh.
+// for every value of the others. A run is one call of run::run on a fresh state, RunState::fresh.
 ghost use mathlib.Core.Path.{_≡_};
-ghost use Prim.Native.Nat.{_<_};
+ghost use Prim.Native.Nat.{_≤_};
+ghost use Rattle.table.specs.Table.{longest};
 
 mod bids;
 mod lists;
@@ -15,7 +16,7 @@ mod steps;
 // A 32-bit length in 64 bits.
 fn long(x: u32) -> u64
     ensures same { λ r. ⌜ r ≡ x ⌝ }
-    ensures low { λ r. ⌜ r < 4294967296 ⌝ }
+    ensures low { λ r. ⌜ r ≤ longest ⌝ }
 {
     x as u64
 }

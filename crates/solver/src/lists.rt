@@ -3,6 +3,7 @@ ghost use mathlib.Core.Path.{_≡_};
 ghost use Prim.Native.Nat.{ℕ, _≤_, _<_};
 ghost use lib.ListN.{length, getD};
 ghost use Rattle.table.specs.Table.{Table, no-arc, most-arcs};
+ghost use Rattle.solver.specs.Slices.{was, left};
 ghost use Rattle.solver.specs.Lists.{Tails, Linked};
 use table::wide;
 
@@ -19,7 +20,7 @@ pub fn link_arcs(tails: &[u16], first: &mut [u16], next: &mut [u16])
     requires { ⌜ (length (now next) ≡ length (now tails)) × (length (now tails) ≤ most-arcs) ⌝ }
     requires { ⌜ ((i : ℕ) → i < length (now tails) → getD (now tails) i 0 < length (now first)) ⌝ }
     requires { ⌜ ((v : ℕ) → v < length (now first) → getD (now first) v 0 ≡ no-arc) ⌝ }
-    ensures { λ _. ⌜ ((t : Table) → t .n ≡ length (now (first .entry)) → Tails t (now (tails .entry)) → Linked t (now (first .exit)) (now (next .exit))) ⌝ }
+    ensures { λ _. ⌜ ((t : Table) → t .n ≡ length (was first) → Tails t (was tails) → Linked t (left first) (left next)) ⌝ }
 {
     let mut p = tails.len();
     while 0 < p {

@@ -3,14 +3,15 @@ ghost use mathlib.Core.Path.{_≡_};
 ghost use mathlib.Core.List.{List, [], _∷_};
 ghost use Prim.Native.Nat.{ℕ, _+_, _≤_, _<_};
 ghost use lib.ListN.{length, getD};
-ghost use Rattle.table.specs.Table.{Table, arc-count, no-arc, no-distance};
+ghost use Rattle.table.specs.Table.{arc-count, no-arc, no-distance};
 ghost use Rattle.auction.specs.Auction.{improves, offers, reach};
 ghost use Rattle.solver.specs.declared.state.Progress.{Progress};
-ghost use Rattle.solver.specs.Seen.{All-long, bound-of, arc-of, seen, greatest-sum};
-ghost use Rattle.solver.specs.Lists.{Listed, Some-table};
-ghost use Rattle.solver.specs.Steps.{Offered};
+ghost use Rattle.solver.specs.Slices.{was, left};
+ghost use Rattle.solver.specs.Seen.{All-long, bound-of, arc-of, arrays, greatest-sum};
+ghost use Rattle.solver.specs.Lists.{star, lent-star, Some-table};
+ghost use Rattle.solver.specs.Steps.{Becomes, Offered};
 use super::long;
-use super::state::State;
+use super::state::RunState;
 use table::NO_ARC;
 use table::wide;
 
@@ -37,9 +38,9 @@ fn offer(
 )
     requires { ⌜ (head < length (now bound)) × ((head < length (now kept)) × (head < length (now status))) ⌝ }
     requires { ⌜ (offered < no-distance) × (position < no-arc) ⌝ }
-    ensures { λ _. ⌜ Offered head position offered (now (bound .entry)) (now (kept .entry)) (now (status .entry)) (now (bound .exit)) (now (kept .exit)) ⌝ }
+    ensures { λ _. ⌜ Offered head position offered (was bound) (was kept) (was status) (left bound) (left kept) ⌝ }
 {
-    if status[head] == State::UNREACHED {
+    if status[head] == RunState::UNREACHED {
         if improves(offered, position, bound[head], kept[head]) {
             bound[head] = offered;
             kept[head] = position;
@@ -59,10 +60,11 @@ fn offer_arcs(
     kept: &mut [u16],
     status: &[u8],
 )
-    requires { ⌜ Some-table (now heads) (now lengths) (now first) (now next) ⌝ }
+    requires { ⌜ Some-table (star (now heads) (now lengths) (now first) (now next)) ⌝ }
     requires { ⌜ All-long (length (now first)) (now bound ∷ now kept ∷ now status ∷ []) ⌝ }
     requires { ⌜ (v < length (now first)) × ((distance ≤ greatest-sum) × ((0 < getD (now status) v 0) × (getD (now bound) v 0 ≡ distance))) ⌝ }
-    ensures { λ _. ⌜ ((t : Table) (path price : List ℕ) (g : Progress) → Listed t (now (heads .entry)) (now (lengths .entry)) (now (first .entry)) (now (next .entry)) → seen path price (now (bound .exit)) (now (kept .exit)) (now (status .entry)) g ≡ offers (arc-count t) 0 t v (seen path price (now (bound .entry)) (now (kept .entry)) (now (status .entry)) g)) ⌝ }
+    ensures { λ _. ⌜ ((path price : List ℕ) (g : Progress) → Becomes (lent-star heads lengths first next) (λ t. offers (arc-count t) 0 t v)
+        (arrays path price (was bound) (was kept) (was status) g) (arrays path price (left bound) (left kept) (was status) g)) ⌝ }
 {
     let mut p = first[v];
     while p != NO_ARC {
@@ -85,12 +87,13 @@ pub fn reach(
     kept: &mut [u16],
     status: &mut [u8],
 )
-    requires { ⌜ Some-table (now heads) (now lengths) (now first) (now next) ⌝ }
+    requires { ⌜ Some-table (star (now heads) (now lengths) (now first) (now next)) ⌝ }
     requires { ⌜ All-long (length (now first)) (now bound ∷ now kept ∷ now status ∷ []) ⌝ }
     requires { ⌜ (v < length (now first)) × (getD (now bound) v 0 ≤ greatest-sum) ⌝ }
-    ensures { λ _. ⌜ ((t : Table) (path price : List ℕ) (g : Progress) → Listed t (now (heads .entry)) (now (lengths .entry)) (now (first .entry)) (now (next .entry)) → seen path price (now (bound .exit)) (now (kept .exit)) (now (status .exit)) g ≡ reach t v (seen path price (now (bound .entry)) (now (kept .entry)) (now (status .entry)) g)) ⌝ }
+    ensures { λ _. ⌜ ((path price : List ℕ) (g : Progress) → Becomes (lent-star heads lengths first next) (λ t. reach t v)
+        (arrays path price (was bound) (was kept) (was status) g) (arrays path price (left bound) (left kept) (left status) g)) ⌝ }
 {
-    status[v] = State::REACHED;
+    status[v] = RunState::REACHED;
     let distance = bound[v];
     offer_arcs(
         v,

@@ -6,13 +6,15 @@ ghost use Prim.Native.Nat.{ℕ, _+_, _≤_, _<_};
 ghost use lib.ListN.{length, getD};
 ghost use Rattle.table.specs.Table.{Table, table-of, is-table};
 ghost use Rattle.auction.specs.Auction.{fresh, start};
-ghost use Rattle.solver.specs.Seen.{seen, Sized};
-ghost use Rattle.solver.specs.Steps.{Begun, Ran, First-from};
+ghost use Rattle.solver.specs.Slices.{was};
+ghost use Rattle.solver.specs.Seen.{seen, lent, back, held, Sized};
+ghost use Rattle.solver.specs.Lists.{star, lent-star};
+ghost use Rattle.solver.specs.Steps.{Begun, Ran, Runs, First-from};
 use super::bids::least_bid;
 use super::lists::link_arcs;
 use super::reaching::reach;
 use super::state::Progress;
-use super::state::State;
+use super::state::RunState;
 use super::steps::step;
 use table::MOST_ARCS;
 use table::MOST_NODES;
@@ -20,7 +22,7 @@ use table::NO_ARC;
 use table::wide;
 
 // Where a run has ended: the index of the first wanted node that was not reached, which is their number where all were; the counts.
-pub struct Ended {
+pub struct RunEnd {
     pub missing: usize,
     pub progress: Progress,
 }
@@ -28,12 +30,12 @@ pub struct Ended {
 // The index of the first wanted node, from an index on, that has not been reached.
 fn first_unreached(from: usize, wanted: &[u16], status: &[u8]) -> usize
     requires { ⌜ (from ≤ length (now wanted)) × ((k : ℕ) → k < length (now wanted) → getD (now wanted) k 0 < length (now status)) ⌝ }
-    ensures { λ r. ⌜ First-from from (now (wanted .entry)) (now (status .entry)) r ⌝ }
+    ensures { λ r. ⌜ First-from from (was wanted) (was status) r ⌝ }
 {
     let mut w = from;
     while w < wanted.len() {
         let v = wide(wanted[w]);
-        if status[v] == State::UNREACHED {
+        if status[v] == RunState::UNREACHED {
             return w;
         }
         w = w + 1;
@@ -56,10 +58,12 @@ fn iterate(
     bound: &mut [u64],
     kept: &mut [u16],
     status: &mut [u8],
-) -> Ended
-    requires { ⌜ ((t : Table) × Begun start t (now wanted) origin (now heads) (now lengths) (now first) (now next) (seen (now path) (now price) (now bound) (now kept) (now status) begun)) ⌝ }
+) -> RunEnd
+    requires { ⌜ ((t : Table) × Begun start t (now wanted) origin (star (now heads) (now lengths) (now first) (now next))
+        (seen (now path) (now price) (now bound) (now kept) (now status) begun)) ⌝ }
     requires { ⌜ (length (now path) ≡ length (now first)) × Sized (length (now first)) (now price) (now bound) (now kept) (now status) ⌝ }
-    ensures { λ r. ⌜ ((t : Table) → Begun start t (now (wanted .entry)) origin (now (heads .entry)) (now (lengths .entry)) (now (first .entry)) (now (next .entry)) (seen (now (path .entry)) (now (price .entry)) (now (bound .entry)) (now (kept .entry)) (now (status .entry)) begun) → Ran t (now (wanted .entry)) (r .missing) (seen (now (path .exit)) (now (price .exit)) (now (bound .exit)) (now (kept .exit)) (now (status .exit)) (r .progress))) ⌝ }
+    ensures { λ r. ⌜ Runs start (was wanted) origin (lent-star heads lengths first next)
+        (lent path price bound kept status begun) (back path price bound kept status (r .progress)) (r .missing) ⌝ }
 {
     let mut g = begun;
     let mut w = first_unreached(0, wanted, status);
@@ -68,7 +72,7 @@ fn iterate(
         let v = wide(path[depth - 1]);
         let least = least_bid(v, heads, lengths, first, next, price, kept, status);
         if least.arc == NO_ARC && v == origin {
-            return Ended {
+            return RunEnd {
                 missing: w,
                 progress: g,
             };
@@ -90,7 +94,7 @@ fn iterate(
         );
         w = first_unreached(w, wanted, status);
     }
-    Ended {
+    RunEnd {
         missing: w,
         progress: g,
     }
@@ -110,10 +114,12 @@ fn run_listed(
     bound: &mut [u64],
     kept: &mut [u16],
     status: &mut [u8],
-) -> Ended
-    requires { ⌜ ((t : Table) × Begun fresh t (now wanted) origin (now heads) (now lengths) (now first) (now next) (seen (now path) (now price) (now bound) (now kept) (now status) begun)) ⌝ }
+) -> RunEnd
+    requires { ⌜ ((t : Table) × Begun fresh t (now wanted) origin (star (now heads) (now lengths) (now first) (now next))
+        (seen (now path) (now price) (now bound) (now kept) (now status) begun)) ⌝ }
     requires { ⌜ (length (now path) ≡ length (now first)) × Sized (length (now first)) (now price) (now bound) (now kept) (now status) ⌝ }
-    ensures { λ r. ⌜ ((t : Table) → Begun fresh t (now (wanted .entry)) origin (now (heads .entry)) (now (lengths .entry)) (now (first .entry)) (now (next .entry)) (seen (now (path .entry)) (now (price .entry)) (now (bound .entry)) (now (kept .entry)) (now (status .entry)) begun) → Ran t (now (wanted .entry)) (r .missing) (seen (now (path .exit)) (now (price .exit)) (now (bound .exit)) (now (kept .exit)) (now (status .exit)) (r .progress))) ⌝ }
+    ensures { λ r. ⌜ Runs fresh (was wanted) origin (lent-star heads lengths first next)
+        (lent path price bound kept status begun) (back path price bound kept status (r .progress)) (r .missing) ⌝ }
 {
     reach(origin, heads, lengths, first, next, bound, kept, status);
     iterate(
@@ -146,12 +152,14 @@ pub fn run(
     bound: &mut [u64],
     kept: &mut [u16],
     status: &mut [u8],
-) -> Ended
+) -> RunEnd
     requires { ⌜ (length (now heads) ≡ length (now tails)) × (length (now lengths) ≡ length (now tails)) ⌝ }
     requires { ⌜ is-table (table-of (length (now status)) origin (now tails) (now heads) (now lengths)) (now wanted) ≡ true ⌝ }
     requires { ⌜ (length (now path) ≡ length (now status)) × Sized (length (now status)) (now price) (now bound) (now kept) (now status) ⌝ }
-    requires { ⌜ seen (now path) (now price) (now bound) (now kept) (now status) begun ≡ fresh (table-of (length (now status)) origin (now tails) (now heads) (now lengths)) ⌝ }
-    ensures { λ r. ⌜ Ran (table-of (length (now (status .entry))) origin (now (tails .entry)) (now (heads .entry)) (now (lengths .entry))) (now (wanted .entry)) (r .missing) (seen (now (path .exit)) (now (price .exit)) (now (bound .exit)) (now (kept .exit)) (now (status .exit)) (r .progress)) ⌝ }
+    requires { ⌜ seen (now path) (now price) (now bound) (now kept) (now status) begun
+        ≡ fresh (table-of (length (now status)) origin (now tails) (now heads) (now lengths)) ⌝ }
+    ensures { λ r. ⌜ Ran (table-of (length (was status)) origin (was tails) (was heads) (was lengths)) (was wanted) (r .missing)
+        (held (back path price bound kept status (r .progress))) ⌝ }
 {
     let n = status.len();
     let m = tails.len();

@@ -1,11 +1,10 @@
 // The state of a run: arrays that a run lends to small functions, and numbers that travel by value.
 ghost use mathlib.Core.Path.{_≡_};
-ghost use mathlib.Core.List.{List};
-ghost use Prim.Native.Nat.{ℕ, _≤_, _<_};
-ghost use lib.ListN.{length, take};
+ghost use Prim.Native.Nat.{_≤_, _<_};
+ghost use lib.ListN.{length};
 ghost use Rattle.table.specs.Table.{Table, most-nodes};
 ghost use Rattle.auction.specs.Auction.{fresh};
-ghost use Rattle.solver.specs.Seen.{seen, Sized};
+ghost use Rattle.solver.specs.Seen.{first-of, held, Sized};
 use table::MOST_NODES;
 use table::NO_ARC;
 use table::NO_DISTANCE;
@@ -20,7 +19,7 @@ pub struct Progress {
 }
 
 // The path from the origin on, with room for the most nodes; for each node its price, bound, kept arc and status; the progress.
-pub struct State {
+pub struct RunState {
     pub path: [u16; MOST_NODES],
     pub price: [u64; MOST_NODES],
     pub bound: [u64; MOST_NODES],
@@ -29,7 +28,7 @@ pub struct State {
     pub progress: Progress,
 }
 
-impl State {
+impl RunState {
     pub const UNREACHED: u8 = 0;
 
     pub const REACHED: u8 = 1;
@@ -37,9 +36,9 @@ impl State {
     pub const DELETED: u8 = 2;
 
     // The state before anything is reached, for any number of nodes above the origin.
-    pub fn fresh(origin: u16) -> State
+    pub fn fresh(origin: u16) -> RunState
         requires { ⌜ origin < most-nodes ⌝ }
-        ensures so { λ r. ⌜ ((t : Table) → t .origin ≡ origin → t .origin < t .n → t .n ≤ most-nodes → seen (take (t .n) (r .path)) (take (t .n) (r .price)) (take (t .n) (r .bound)) (take (t .n) (r .kept)) (take (t .n) (r .status)) (r .progress) ≡ fresh t) ⌝ }
+        ensures so { λ r. ⌜ ((t : Table) → t .origin ≡ origin → t .origin < t .n → t .n ≤ most-nodes → held (first-of (t .n) r) ≡ fresh t) ⌝ }
         ensures long { λ r. ⌜ (length (r .path) ≡ most-nodes) × Sized most-nodes (r .price) (r .bound) (r .kept) (r .status) ⌝ }
     {
         let at = wide(origin);
@@ -53,12 +52,12 @@ impl State {
             extensions: 0,
             deletions: 0,
         };
-        State {
+        RunState {
             path: path,
             price: [0; MOST_NODES],
             bound: bound,
             kept: [NO_ARC; MOST_NODES],
-            status: [State::UNREACHED; MOST_NODES],
+            status: [RunState::UNREACHED; MOST_NODES],
             progress: progress,
         }
     }

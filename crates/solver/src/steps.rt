@@ -1,27 +1,28 @@
 // An iteration: a deletion, a contraction or an extension at the terminal node.
 ghost use mathlib.Core.Path.{_≡_};
 ghost use mathlib.Core.List.{List, [], _∷_};
-ghost use mathlib.Core.Option.{some};
 ghost use Prim.Native.Nat.{ℕ, _+_, _≤_, _<_};
 ghost use lib.ListN.{length, getD};
 ghost use Rattle.table.specs.Table.{Table};
-ghost use Rattle.auction.specs.Auction.{deletion, contraction, extension, iteration};
-ghost use Rattle.solver.specs.Seen.{All-long, bid-of, seen, greatest-sum, too-many};
-ghost use Rattle.solver.specs.Lists.{Listed, Some-table};
-ghost use Rattle.solver.specs.Steps.{Can-step, Leads};
+ghost use Rattle.auction.specs.Auction.{deletion, contraction, extension};
+ghost use Rattle.solver.specs.Slices.{was, left};
+ghost use Rattle.solver.specs.Seen.{All-long, seen, arrays, lent, back, greatest-sum, too-many};
+ghost use Rattle.solver.specs.Lists.{star, lent-star, Some-table};
+ghost use Rattle.solver.specs.Steps.{Becomes, Can-step, Leads, Steps};
 use super::bids::LeastBid;
 use super::reaching::reach;
 use super::state::Progress;
-use super::state::State;
+use super::state::RunState;
 use table::NO_ARC;
 use table::wide;
 
 // A node without children is deleted and leaves the path.
 fn delete(g: Progress, v: usize, status: &mut [u8]) -> Progress
     requires { ⌜ (1 ≤ g .depth) × ((v < length (now status)) × (g .deletions < too-many)) ⌝ }
-    ensures { λ r. ⌜ ((path price bound kept : List ℕ) → seen path price bound kept (now (status .exit)) r ≡ deletion v (seen path price bound kept (now (status .entry)) g)) ⌝ }
+    ensures { λ r. ⌜ ((path price bound kept : List ℕ) →
+        seen path price bound kept (left status) r ≡ deletion v (seen path price bound kept (was status) g)) ⌝ }
 {
-    status[v] = State::DELETED;
+    status[v] = RunState::DELETED;
     Progress {
         depth: g.depth - 1,
         contractions: g.contractions,
@@ -33,7 +34,8 @@ fn delete(g: Progress, v: usize, status: &mut [u8]) -> Progress
 // A node's price becomes the least bid. It leaves the path, unless it is the origin.
 fn contract(g: Progress, v: usize, origin: usize, value: u64, price: &mut [u64]) -> Progress
     requires { ⌜ (1 ≤ g .depth) × ((v < length (now price)) × (g .contractions < too-many)) ⌝ }
-    ensures { λ r. ⌜ ((t : Table) (path bound kept status : List ℕ) → t .origin ≡ origin → seen path (now (price .exit)) bound kept status r ≡ contraction t v value (seen path (now (price .entry)) bound kept status g)) ⌝ }
+    ensures { λ r. ⌜ ((t : Table) (path bound kept status : List ℕ) → t .origin ≡ origin →
+        seen path (left price) bound kept status r ≡ contraction t v value (seen path (was price) bound kept status g)) ⌝ }
 {
     price[v] = value;
     let contractions = g.contractions + 1;
@@ -66,10 +68,11 @@ fn extend(
     kept: &mut [u16],
     status: &mut [u8],
 ) -> Progress
-    requires { ⌜ Some-table (now heads) (now lengths) (now first) (now next) ⌝ }
+    requires { ⌜ Some-table (star (now heads) (now lengths) (now first) (now next)) ⌝ }
     requires { ⌜ All-long (length (now first)) (now bound ∷ now kept ∷ now status ∷ []) ⌝ }
     requires { ⌜ (child < length (now first)) × ((getD (now bound) child 0 ≤ greatest-sum) × ((g .depth < length (now path)) × (g .extensions < too-many))) ⌝ }
-    ensures { λ r. ⌜ ((t : Table) (price : List ℕ) → Listed t (now (heads .entry)) (now (lengths .entry)) (now (first .entry)) (now (next .entry)) → seen (now (path .exit)) price (now (bound .exit)) (now (kept .exit)) (now (status .exit)) r ≡ extension t child (seen (now (path .entry)) price (now (bound .entry)) (now (kept .entry)) (now (status .entry)) g)) ⌝ }
+    ensures { λ r. ⌜ ((price : List ℕ) → Becomes (lent-star heads lengths first next) (λ t. extension t child)
+        (arrays (was path) price (was bound) (was kept) (was status) g) (arrays (left path) price (left bound) (left kept) (left status) r)) ⌝ }
 {
     let depth = g.depth;
     path[depth] = child;
@@ -80,7 +83,7 @@ fn extend(
         deletions: g.deletions,
     };
     let v = wide(child);
-    if status[v] != State::UNREACHED {
+    if status[v] != RunState::UNREACHED {
         return longer;
     }
     reach(v, heads, lengths, first, next, bound, kept, status);
@@ -104,12 +107,12 @@ pub fn step(
     kept: &mut [u16],
     status: &mut [u8],
 ) -> Progress
-    requires { ⌜ Some-table (now heads) (now lengths) (now first) (now next) ⌝ }
+    requires { ⌜ Some-table (star (now heads) (now lengths) (now first) (now next)) ⌝ }
     requires { ⌜ All-long (length (now first)) (now price ∷ now bound ∷ now kept ∷ now status ∷ []) ⌝ }
     requires { ⌜ (v < length (now first)) × ((1 ≤ g .depth) × (g .contractions + g .extensions + g .deletions < too-many)) ⌝ }
     requires { ⌜ Can-step v origin (least .value) (least .arc) (g .depth) (now heads) (now path) (now price) (now bound) ⌝ }
     requires { ⌜ Leads (now heads) (least .arc) (least .child) ⌝ }
-    ensures { λ r. ⌜ ((t : Table) → Listed t (now (heads .entry)) (now (lengths .entry)) (now (first .entry)) (now (next .entry)) → t .origin ≡ origin → iteration (bid-of (least .value) (least .arc)) t v (seen (now (path .entry)) (now (price .entry)) (now (bound .entry)) (now (kept .entry)) (now (status .entry)) g) ≡ some (seen (now (path .exit)) (now (price .exit)) (now (bound .exit)) (now (kept .exit)) (now (status .exit)) r)) ⌝ }
+    ensures { λ r. ⌜ Steps v origin least (lent-star heads lengths first next) (lent path price bound kept status g) (back path price bound kept status r) ⌝ }
 {
     let arc = least.arc;
     if arc == NO_ARC {

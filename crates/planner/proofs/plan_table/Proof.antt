@@ -8,7 +8,7 @@ use Rattle.table.specs.Table.{table-of, is-table, most-nodes}
 use Rattle.auction.specs.Auction.{fresh}
 use Rattle.solver.specs.Seen.{seen, Sized}
 use Rattle.auction.specs.Plan.{routes-of}
-use Rattle.planner.specs.Lent.{Fitting}
+use Rattle.planner.specs.ReadOff.{Fitting}
 use Rattle.planner.proofs.Planning.{origin-low, fresh-so, part-fits, part-long}
 use borrow.Author.Needs.{needs}
 use Rattle.planner.proofs.plan_table.Statement.{statement}

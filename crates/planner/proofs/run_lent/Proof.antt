@@ -1,40 +1,86 @@
 -- The state where the run ends is what the hand-over is promised. Assumes nothing.
-use mathlib.Core.Path.{_≡_, refl, sym, subst}
+use mathlib.Core.Path.{_≡_, refl, sym, subst, _∙_}
+use mathlib.Core.List.{List}
 use Prim.Native.Nat.{ℕ}
 use native.Mathlib.Omega.{arith}
 use lib.ListN.{length}
 use Rattle.auction.specs.Auction.{iterations, state}
 use Rattle.solver.specs.Seen.{seen}
-use Rattle.planner.specs.Lent.{Fitting}
-use Rattle.planner.proofs.Planning.{known-so, ends-so, columns-so, place-low}
+use Rattle.solver.proofs.Columns.{nodes-so}
+use Rattle.planner.specs.ReadOff.{Fitting}
+use Rattle.planner.proofs.Planning.{known-so, ends-so, ends-held, place-low}
 use borrow.Author.Needs.{needs}
 use Rattle.planner.proofs.run_lent.Statement.{statement}
 use Rattle.planner.proofs.run_lent.Tie as tie
 
+-- before the arrays are lent to the run
+module _ (c : tie.After-shared-slice-known4) where
+  abbrev start : tie.Start
+  start = c .before .before .before .before
+
+module _ (c : tie.After-slice-known9) where
+  abbrev known : tie.After-shared-slice-known4
+  known = c .before .before .before .before .before .before .before .before .before
+
+-- where the run has ended: the table, and what is left in the arrays
+module _ (c : tie.After-run) where
+  abbrev s : tie.Start
+  s = start (known (c .before .before .before .before .before .before))
+
+  abbrev n : ℕ
+  n = length (s .args .status .now)
+
+  abbrev path : List ℕ
+  path = c .run .last .1 .1 .1 .1 .1 .1 .0
+
+  abbrev price : List ℕ
+  price = c .run .last .1 .1 .1 .1 .1 .1 .1 .0
+
+  abbrev bound : List ℕ
+  bound = c .run .last .1 .1 .1 .1 .1 .1 .1 .1 .0
+
+  abbrev kept : List ℕ
+  kept = c .run .last .1 .1 .1 .1 .1 .1 .1 .1 .1 .0
+
+  abbrev status : List ℕ
+  status = c .run .last .1 .1 .1 .1 .1 .1 .1 .1 .1 .1 .0
+
+  statuses : length status ≡ n
+  statuses = c .run .kept .1 .1 .1 .1 .1 .1 .1 .1 .1 .1 .0
+
+  bounds : length bound ≡ length status
+  bounds = omega (arith, c .run .kept .1 .1 .1 .1 .1 .1 .1 .1 .0, s .pre .1 .1 .0 .1 .bounds, statuses)
+
+  kepts : length kept ≡ length status
+  kepts = omega (arith, c .run .kept .1 .1 .1 .1 .1 .1 .1 .1 .1 .0, s .pre .1 .1 .0 .1 .kepts, statuses)
+
+module _ (c : tie.After-status) where
+  abbrev ended : tie.After-run
+  ended = c .before .before .before .before .before .before .before .before .before
+
+module _ (c : tie.After-hand-over) where
+  abbrev lent : tie.After-status
+  lent = c .before .before .before .before .before .before .before .before .before
+
 run-requires : tie.Need-run-requires
-run-requires c κs = let s = c .before .before .before .before .before .before .before .before .before .before .before .before .before .before .before .before .before .before in (s .pre .0, (s .pre .1 .0, (s .pre .1 .1 .0, s .pre .1 .1 .1 .0)))
+run-requires c κs = let s = start (known (c .before .before .before .before .before)) in (s .pre .0, (s .pre .1 .0, (s .pre .1 .1 .0, s .pre .1 .1 .1 .0)))
 
 hand-over-requires : tie.Need-hand-over-requires
 unfolding iterations seen state
 hand-over-requires c κs =
-    let s = c .before .before .before .before .before .before .before .before .before .before .before .before .before .before .before .before .before .before .before .before .before .before .before .before .before .before .before .before .before .before .before .before .before .before .before .before in
-    let a = s .args in
-    let r = c .before .before .before .before .before .before .before .before .before .before .before .before .before .before .before .before .before .run in
-    let z = s .pre .1 .1 .0 .1 in
-    let n : length (r .last .1 .1 .1 .1 .1 .1 .1 .1 .1 .1 .0) ≡ length (a .status .now) = r .kept .1 .1 .1 .1 .1 .1 .1 .1 .1 .1 .0 in
-    let lb : length (r .last .1 .1 .1 .1 .1 .1 .1 .1 .0) ≡ length (r .last .1 .1 .1 .1 .1 .1 .1 .1 .1 .1 .0) = omega (arith, r .kept .1 .1 .1 .1 .1 .1 .1 .1 .0, z .bounds, n) in
-    let lk : length (r .last .1 .1 .1 .1 .1 .1 .1 .1 .1 .0) ≡ length (r .last .1 .1 .1 .1 .1 .1 .1 .1 .1 .1 .0) = omega (arith, r .kept .1 .1 .1 .1 .1 .1 .1 .1 .1 .0, z .kepts, n) in (
-      known-so _ (a .wanted .now) (r .result .missing) (r .last .1 .1 .1 .1 .1 .1 .0) (r .last .1 .1 .1 .1 .1 .1 .1 .0) (r .last .1 .1 .1 .1 .1 .1 .1 .1 .0) (r .last .1 .1 .1 .1 .1 .1 .1 .1 .1 .0) (r .last .1 .1 .1 .1 .1 .1 .1 .1 .1 .1 .0) (r .result .progress)
-          (r .ensures) lb,
+    let r = ended (c .before .before .before .before .before .before .before .before) in
+    let a = s r .args in
+    let pre = s r .pre in (
+      known-so _ (a .wanted .now) (r .run .result .missing) (path r) (price r) (bound r) (kept r) (status r) (r .run .result .progress) (r .run .ensures) (bounds r),
       (
-        ends-so (length (a .status .now)) (a .origin) (a .tails .now) (a .heads .now) (a .lengths .now) (a .wanted .now) (s .pre .0 .0) (s .pre .0 .1) (s .pre .1 .0)
-            (r .last .1 .1 .1 .1 .1 .1 .1 .1 .1 .0) (r .last .1 .1 .1 .1 .1 .1 .1 .1 .1 .1 .0) lk (sym n),
+        ends-so (n r) (a .origin) (a .tails .now) (a .heads .now) (a .lengths .now) (a .wanted .now) (pre .0 .0) (pre .0 .1) (pre .1 .0)
+            (kept r) (status r) (kepts r) (sym (statuses r)),
         (
-          subst (λ (m : ℕ). Fitting m (length (a .heads .now)) (a .distances .now) (a .prices .now) (a .tree .now) (a .marks .now)) (sym n) (s .pre .1 .1 .1 .1),
+          subst (λ (m : ℕ). Fitting m (length (a .heads .now)) (a .distances .now) (a .prices .now) (a .tree .now) (a .marks .now)) (sym (statuses r)) (pre .1 .1 .1 .1),
           (
-            place-low (length (a .status .now)) (a .origin) (a .tails .now) (a .heads .now) (a .lengths .now) (a .wanted .now) (s .pre .0 .0) (s .pre .0 .1)
-                (s .pre .1 .0) (r .result .missing) (r .ensures .inside),
-            r .ensures .few,
+            place-low (n r) (a .origin) (a .tails .now) (a .heads .now) (a .lengths .now) (a .wanted .now) (pre .0 .0) (pre .0 .1) (pre .1 .0)
+                (r .run .result .missing) (r .run .ensures .inside),
+            r .run .ensures .few,
           ),
         ),
       ),
@@ -69,13 +115,14 @@ same-length-9 c = search needs
 
 returns : tie.Need-returns
 returns c =
-    let s = c .before .before .before .before .before .before .before .before .before .before .before .before .before .before .before .before .before .before .before .before .before .before .before .before .before .before .before .before .before .before .before .before .before .before .before .before .before .before .before .before .before .before .before .before .before in
-    let a = s .args in
-    let r = c .before .before .before .before .before .before .before .before .before .before .before .before .before .before .before .before .before .before .before .before .before .before .before .before .before .before .run in
-    c .before .before .before .before .before .before .before .before .hand-over .ensures _ (a .wanted .now) (r .last .1 .1 .1 .1 .1 .1 .0) (r .last .1 .1 .1 .1 .1 .1 .1 .0)
-    (columns-so (length (a .status .now)) (a .origin) (a .tails .now) (a .heads .now) (a .lengths .now) (a .wanted .now) (s .pre .0 .0) (s .pre .0 .1) (s .pre .1 .0)
-    (length (r .last .1 .1 .1 .1 .1 .1 .1 .1 .1 .1 .0)) (sym (r .kept .1 .1 .1 .1 .1 .1 .1 .1 .1 .1 .0)))
-    refl (r .ensures)
+    let h = c .before .before .before .before .before .before .before .before in
+    let r = ended (lent h) in
+    let a = s r .args in
+    let pre = s r .pre in
+    h .hand-over .ensures _ (a .wanted .now) (path r) (price r)
+    (nodes-so (n r) (a .origin) (a .tails .now) (a .heads .now) (a .lengths .now) (pre .0 .0) (pre .0 .1) ∙ sym (statuses r))
+    (ends-held (n r) (a .origin) (a .tails .now) (a .heads .now) (a .lengths .now) (a .wanted .now) (pre .0 .0) (pre .0 .1) (pre .1 .0))
+    refl (r .run .ensures)
 
 pub run-lent-spec : {M : Type 1} → statement M
 run-lent-spec =

@@ -45,7 +45,7 @@ loop-again c =
 
 returns : tie.Need-returns Inv-loop μ-loop
 returns c =
-    λ t path price bound kept g e.
+    λ bound kept t path price g e.
     let a = c .before .before .before .args in
     let l = c .before .loop in
     l .inv .1 ∙ ap sum (all-entries (length (a .status .now)) (l .v) (reached-entry (a .status .now)) (c .loop-test .left))

@@ -42,7 +42,7 @@ same-length c = omega (arith, c .before .loop .inv .long, c .before .before .bef
 
 returns : tie.Need-returns Inv-loop μ-loop
 returns c =
-    λ t path price kept g e.
+    λ kept t path price g e.
     let s = c .before .before .before .before .before in
     fill-ends (c .before .loop .inv) (c .loop-test .left) ∙ distances-so path price (s .args .bound .now) kept (s .args .status .now) g (s .pre .0) t e
 

@@ -3,7 +3,8 @@ use mathlib.Core.Path.{_∙_}
 use native.Mathlib.Omega.{arith}
 use lib.ListN.{length}
 use Rattle.planner.proofs.Entries.{Filling, fill-begins, fill-on, fill-ends}
-use Rattle.planner.proofs.Handing.{mark-entry, marks-so}
+use Rattle.planner.specs.ReadOff.{mark-entry}
+use Rattle.planner.proofs.Handing.{marks-so}
 use Rattle.planner.proofs.hand_over.fill_marks.Statement.{statement}
 use Rattle.planner.proofs.hand_over.fill_marks.Tie as tie
 
@@ -38,11 +39,11 @@ same-length c = omega (arith, c .before .loop .inv .long, c .before .before .bef
 
 returns : tie.Need-returns Inv-loop μ-loop
 returns c =
-    λ t path price bound g e heads tails.
+    λ t path price bound g held.
     let s = c .before .before .before .before .before .before .before in
     let a = s .args in
     fill-ends (c .before .loop .inv) (c .loop-test .left)
-    ∙ marks-so path price bound (a .kept .now) (a .status .now) g t (a .tails .now) (a .heads .now) (s .pre .0) (s .pre .1 .1) e heads tails
+    ∙ marks-so path price bound (a .kept .now) (a .status .now) g t (a .tails .now) (a .heads .now) (s .pre .0) (s .pre .1 .1) held
 
 pub fill-marks-spec : {M : Type 1} → statement M
 fill-marks-spec =

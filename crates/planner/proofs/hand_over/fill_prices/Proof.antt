@@ -54,10 +54,10 @@ same-length c = omega (arith, c .before .loop .inv .long, c .before .before .bef
 
 returns : tie.Need-returns Inv-loop μ-loop
 returns c =
-    λ t path price kept g e eh.
+    λ kept eh t path price g e.
     let s = c .before .before .before .before .before in
     let a = s .args in
-    fill-ends (c .before .loop .inv) (c .loop-test .left) ∙ prices-so path price (a .bound .now) kept (a .status .now) g (s .pre .0) t (a .horizon) e eh
+    fill-ends (c .before .loop .inv) (c .loop-test .left) ∙ prices-so path price (a .bound .now) kept (a .status .now) g (s .pre .0) t (a .horizon) e (eh t path price g e)
 
 pub fill-prices-spec : {M : Type 1} → statement M
 fill-prices-spec =

@@ -41,7 +41,7 @@ same-length c = omega (arith, c .before .loop .inv .long, c .before .before .bef
 
 returns : tie.Need-returns Inv-loop μ-loop
 returns c =
-    λ t path price bound g e.
+    λ bound t path price g e.
     let s = c .before .before .before .before .before in
     fill-ends (c .before .loop .inv) (c .loop-test .left) ∙ tree-so path price bound (s .args .kept .now) (s .args .status .now) g t (s .pre .0) e
 

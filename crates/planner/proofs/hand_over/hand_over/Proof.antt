@@ -13,6 +13,34 @@ use borrow.Author.Needs.{needs}
 use Rattle.planner.proofs.hand_over.hand_over.Statement.{statement}
 use Rattle.planner.proofs.hand_over.hand_over.Tie as tie
 
+-- the places on the way: where each part of the answer has been made
+module _ (c : tie.After-route-refusal) where
+  abbrev start : tie.Start
+  start = c .before .before .before .before .before .before .before .before .before .before
+
+module _ (c : tie.After-horizon-of) where
+  abbrev refused : tie.After-route-refusal
+  refused = c .before .before
+
+module _ (c : tie.After-fill-distances) where
+  abbrev measured : tie.After-horizon-of
+  measured = c .before .before
+
+module _ (c : tie.After-fill-prices) where
+  abbrev with-distances : tie.After-fill-distances
+  with-distances = c .before .before .before .before
+
+module _ (c : tie.After-fill-tree) where
+  abbrev with-prices : tie.After-fill-prices
+  with-prices = c .before .before .before .before
+
+module _ (c : tie.After-fill-marks) where
+  abbrev with-tree : tie.After-fill-tree
+  with-tree = c .before .before .before .before
+
+  abbrev entry : tie.Start
+  entry = start (refused (measured (with-distances (with-prices with-tree))))
+
 route-refusal-requires : tie.Need-route-refusal-requires
 route-refusal-requires c κs = search needs
 
@@ -27,21 +55,23 @@ fill-distances-requires c κs = search needs
 
 fill-prices-requires : tie.Need-fill-prices-requires
 fill-prices-requires c κs =
-    let s = c .before .before .before .before .before .before .before .before .before .before .before .before .before .before .before .before .before in (s .pre .0, (s .pre .1 .1 .0 .prices-long, c .before .before .before .before .before .horizon-of .ensures .1))
+    let m = measured (c .before .before .before) in
+    let s = start (refused m) in (s .pre .0, (s .pre .1 .1 .0 .prices-long, m .horizon-of .ensures .1))
 
 fill-tree-requires : tie.Need-fill-tree-requires
 fill-tree-requires c κs =
-    let s = c .before .before .before .before .before .before .before .before .before .before .before .before .before .before .before .before .before .before .before .before .before in (s .pre .1 .0 .kept-count, s .pre .1 .1 .0 .tree-long)
+    let s = start (refused (measured (with-distances (c .before .before .before)))) in (s .pre .1 .0 .kept-count, s .pre .1 .1 .0 .tree-long)
 
 fill-marks-requires : tie.Need-fill-marks-requires
 fill-marks-requires c κs =
-    let s = c .before .before .before .before .before .before .before .before .before .before .before .before .before .before .before .before .before .before .before .before .before .before .before .before .before in (s .pre .1 .0, (s .pre .1 .1 .0 .marks-long, omega (arith, s .pre .1 .1 .0 .few-arcs)))
+    let s = start (refused (measured (with-distances (with-prices (c .before .before .before))))) in
+    (s .pre .1 .0, (s .pre .1 .1 .0 .marks-long, omega (arith, s .pre .1 .1 .0 .few-arcs)))
 
 add-t25 : tie.Need-add-t25
-add-t25 c = omega (arith, c .before .before .before .before .before .before .before .before .before .before .before .before .before .before .before .before .before .before .before .before .before .before .before .before .before .before .before .before .before .before .pre .1 .1 .1 .1)
+add-t25 c = omega (arith, entry (c .before .before .before .before) .pre .1 .1 .1 .1)
 
 add-t26 : tie.Need-add-t26
-add-t26 c = omega (arith, c .before .before .before .before .before .before .before .before .before .before .before .before .before .before .before .before .before .before .before .before .before .before .before .before .before .before .before .before .before .before .before .pre .1 .1 .1 .1)
+add-t26 c = omega (arith, entry (c .before .before .before .before .before) .pre .1 .1 .1 .1)
 
 same-length : tie.Need-same-length
 same-length c = search needs
@@ -58,18 +88,23 @@ same-length-4 c = search needs
 returns : tie.Need-returns
 unfolding answered iterations seen state
 returns c =
-    λ t ws path price columns many ran.
-    let s = c .before .before .before .before .before .before .before .before .before .before .before .before .before .before .before .before .before .before .before .before .before .before .before .before .before .before .before .before .before .before .before in
-    let a = s .args in
-    let e = columns .nodes in
-    let h = c .before .before .before .before .before .before .before .before .before .before .before .before .before .before .before .before .before .before .before .horizon-of .ensures .0 t path price (a .kept .now) (a .end .progress) e in
-    assembled t ws (a .end .missing) _ ran (c .before .before .before .before .before .before .before .before .before .before .before .before .before .before .before .before .before .before .before .before .before .route-refusal .result) _ _ _ _ _ _ _ _ _ _
-    (subst (λ (m : ℕ). (c .before .before .before .before .before .before .before .before .before .before .before .before .before .before .before .before .before .before .before .before .before .route-refusal .result) ≡ cond (eqb (a .end .missing) m) no-refusal (refusal 8 (a .end .missing))) (sym many) (c .before .before .before .before .before .before .before .before .before .before .before .before .before .before .before .before .before .before .before .before .before .route-refusal .ensures))
-    (c .before .before .before .before .before .before .before .before .before .before .before .before .before .before .before .before .before .before .before .before .count-reached .ensures t path price (a .bound .now) (a .kept .now) (a .end .progress) e) h refl refl refl refl
-    (c .before .before .before .before .before .before .before .before .before .before .before .before .before .before .before .before .before .fill-distances .ensures t path price (a .kept .now) (a .end .progress) e)
-    (c .before .before .before .before .before .before .before .before .before .before .before .before .before .fill-prices .ensures t path price (a .kept .now) (a .end .progress) e h)
-    (c .before .before .before .before .before .before .before .before .before .fill-tree .ensures t path price (a .bound .now) (a .end .progress) e)
-    (c .before .before .before .before .before .fill-marks .ensures t path price (a .bound .now) (a .end .progress) (columns .count) (columns .head) (columns .tail))
+    λ t ws path price nodes held many ran.
+    let m = c .before .before .before .before .before in
+    let r = with-tree m in
+    let p = with-prices r in
+    let d = with-distances p in
+    let h = measured d in
+    let f = refused h in
+    let a = start f .args in
+    let g = a .end .progress in
+    assembled t ws (a .end .missing) _ ran (f .route-refusal .result) _ _ _ _ _ _ _ _ _ _
+    (subst (λ (k : ℕ). f .route-refusal .result ≡ cond (eqb (a .end .missing) k) no-refusal (refusal 8 (a .end .missing))) (sym many) (f .route-refusal .ensures))
+    (h .before .count-reached .ensures (a .bound .now) (a .kept .now) t path price g nodes)
+    (h .horizon-of .ensures .0 (a .kept .now) t path price g nodes) refl refl refl refl
+    (d .fill-distances .ensures (a .kept .now) t path price g nodes)
+    (p .fill-prices .ensures (a .kept .now) (h .horizon-of .ensures .0 (a .kept .now)) t path price g nodes)
+    (r .fill-tree .ensures (a .bound .now) t path price g nodes)
+    (m .fill-marks .ensures t path price (a .bound .now) g held)
 
 pub hand-over-spec : {M : Type 1} → statement M
 hand-over-spec =

@@ -50,7 +50,7 @@ returns c =
     let a = s .args in
     let l = c .before .loop in
     let all = l .inv .1 ∙ ap greatest (all-entries (length (a .status .now)) (l .v) (distance-entry 0 (a .bound .now) (a .status .now)) (c .loop-test .left)) in (
-      λ t path price kept g e. all ∙ horizon-so path price (a .bound .now) kept (a .status .now) g (s .pre) t e,
+      λ kept t path price g e. all ∙ horizon-so path price (a .bound .now) kept (a .status .now) g (s .pre) t e,
       below-horizon (a .bound .now) (a .status .now) _ all,
     )
 

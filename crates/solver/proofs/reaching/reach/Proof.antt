@@ -43,7 +43,7 @@ same-length-3 c = search needs
 
 returns : tie.Need-returns
 unfolding reach with-status seen state
-returns c = λ t path price g here. c .before .before .before .before .offer-arcs .ensures t path price g here
+returns c = λ path price g t here. c .before .before .before .before .offer-arcs .ensures path price g t here
 
 pub reach-spec : {M : Type 1} → statement M
 reach-spec =

@@ -6,6 +6,7 @@ use lib.ListN.{length, getD, take, drop, replicate}
 use Rattle.table.specs.Table.{table-of, no-arc}
 use Rattle.auction.specs.Auction.{fresh}
 use Rattle.solver.specs.Seen.{seen, Sized}
+use Rattle.solver.specs.Lists.{star}
 use Rattle.solver.specs.Steps.{Begun}
 use Rattle.solver.proofs.Columns.{filled-long, filled-with, nodes-so}
 use Rattle.solver.proofs.Beginning.{tails-held, few-tails, few-nodes, tails-below, begun-fresh, prefix-fits, prefix-long, lent-again}
@@ -69,8 +70,8 @@ next-lent c = let m = length (c .before .before .before .before .before .before 
 
 begun : (c : tie.After-link-arcs) →
     let a = c .before .before .before .before .before .before .before .before .before .before .before .before .before .args in
-    Begun fresh (table-of (length (a .status .now)) (a .origin) (a .tails .now) (a .heads .now) (a .lengths .now)) (a .wanted .now) (c .before .before .before .wide .result) (a .heads .now)
-    (a .lengths .now) (first-lent c) (next-lent c) (seen (a .path .now) (a .price .now) (a .bound .now) (a .kept .now) (a .status .now) (a .begun))
+    Begun fresh (table-of (length (a .status .now)) (a .origin) (a .tails .now) (a .heads .now) (a .lengths .now)) (a .wanted .now) (c .before .before .before .wide .result)
+    (star (a .heads .now) (a .lengths .now) (first-lent c) (next-lent c)) (seen (a .path .now) (a .price .now) (a .bound .now) (a .kept .now) (a .status .now) (a .begun))
 begun c =
     let s = c .before .before .before .before .before .before .before .before .before .before .before .before .before in
     let a = s .args in

@@ -29,7 +29,7 @@ iterate-requires c κs =
     let a = s .args in
     let z = s .pre .1 .1 in
     let r = c .before .before .before .before .before .before .before .before .before .before .before .reach in (
-      (s .pre .0 .0, started (s .pre .0 .1) (r .ensures (s .pre .0 .0) (a .path .now) (a .price .now) (a .begun) (s .pre .0 .1 .listed))),
+      (s .pre .0 .0, started (s .pre .0 .1) (r .ensures (a .path .now) (a .price .now) (a .begun) (s .pre .0 .0) (s .pre .0 .1 .listed))),
       (
         s .pre .1 .0,
         record {
@@ -60,7 +60,7 @@ returns : tie.Need-returns
 returns c =
     λ t bg.
     let a = c .before .before .before .before .before .before .before .before .before .before .before .before .before .before .before .before .before .before .before .before .before .before .before .before .before .before .before .before .before .before .before .before .before .before .before .before .args in
-    c .before .before .before .before .before .before .before .before .before .before .iterate .ensures t (started bg (c .before .before .before .before .before .before .before .before .before .before .before .before .before .before .before .before .before .before .before .before .before .before .reach .ensures t (a .path .now) (a .price .now) (a .begun) (bg .listed)))
+    c .before .before .before .before .before .before .before .before .before .before .iterate .ensures t (started bg (c .before .before .before .before .before .before .before .before .before .before .before .before .before .before .before .before .before .before .before .before .before .before .reach .ensures (a .path .now) (a .price .now) (a .begun) t (bg .listed)))
 
 pub run-listed-spec : {M : Type 1} → statement M
 run-listed-spec =

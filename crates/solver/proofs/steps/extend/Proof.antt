@@ -32,7 +32,7 @@ same-length c = search needs
 
 returns : tie.Need-returns
 returns c =
-    λ t price here.
+    λ price t here.
     let s = c .before .before .before .before .before .before .before .before .before .before .before .before in
     let a = s .args in
     extended-known (a .path .now) price (a .bound .now) (a .kept .now) (a .status .now) (a .g) t (a .child) (c .before .before .wide .result) (c .before .before .wide .ensures .0)
@@ -60,11 +60,11 @@ same-length-5 c = search needs
 
 returns-2 : tie.Need-returns-2
 returns-2 c =
-    λ t price here.
+    λ price t here.
     let s = c .before .before .before .before .before .before .before .before .before .before .before .before .before .before .before .before .before .before .before .before .before .before in
     let a = s .args in
     extended-reached (a .path .now) price (a .bound .now) (a .kept .now) (a .status .now) (a .g) t (a .child) (c .before .before .before .before .before .before .before .before .before .before .before .before .wide .result) _ (c .before .before .before .before .before .before .before .before .before .before .before .before .wide .ensures .0)
-    (s .pre .1 .1 .1 .1 .0) (c .before .before .before .before .before .before .before .before .before .before .if1 .left) (c .before .before .before .before .before .before .reach .ensures t _ price _ here)
+    (s .pre .1 .1 .1 .1 .0) (c .before .before .before .before .before .before .before .before .before .before .if1 .left) (c .before .before .before .before .before .before .reach .ensures _ price _ t here)
 
 pub extend-spec : {M : Type 1} → statement M
 extend-spec =

@@ -97,7 +97,7 @@ returns-3 c =
     is-extension t (a .v) (a .least .value) (a .least .arc) _ any
     (subst (λ (m : ℕ). a .least .value ≤ m) (sym (seen-price (a .path .now) (a .price .now) (a .bound .now) (a .kept .now) (a .status .now) (a .g) (a .v))) (c .before .before .before .before .before .before .before .before .before .before .before .before .before .if2 .left))
     ∙ ap (λ j. some (extension t j x)) child
-    ∙ ap some (sym (c .before .before .before .before .before .before .before .before .extend .ensures t (a .price .now) here))
+    ∙ ap some (sym (c .before .before .before .before .before .before .before .before .extend .ensures (a .price .now) t here))
 
 pub step-spec : {M : Type 1} → statement M
 step-spec =

@@ -5,8 +5,8 @@ use lib.ListN.{length-replicate}
 use Rattle.table.specs.Table.{no-arc, no-distance}
 use Rattle.solver.proofs.Arrays.{fresh-seen, stored-long}
 use borrow.Author.Needs.{needs}
-use Rattle.solver.proofs.state.State.fresh.Statement.{statement}
-use Rattle.solver.proofs.state.State.fresh.Tie as tie
+use Rattle.solver.proofs.state.RunState.fresh.Statement.{statement}
+use Rattle.solver.proofs.state.RunState.fresh.Tie as tie
 
 wide-requires : tie.Need-wide-requires
 wide-requires c κs = search needs

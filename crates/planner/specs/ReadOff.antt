@@ -1,0 +1,61 @@
+-- What the hand-over reads off the arrays where a run has ended, and what it relies on. Assumes nothing: these are definitions.
+use mathlib.Core.Path.{_≡_}
+use mathlib.Core.List.{List}
+use Prim.Native.Nat.{ℕ, _≤_, _<_}
+use lib.Dec.{ltb, eqb}
+use lib.ListN.{length, getD}
+use Rattle.table.specs.Table.{Table, arc-count, tail-at, head-at, no-distance, most-nodes, most-arcs}
+use Rattle.auction.specs.Auction.{State}
+use Rattle.auction.specs.HandOver.{Answer, mark-number}
+use Rattle.auction.specs.Plan.{routes-of}
+use Rattle.solver.specs.declared.state.Progress.{Progress}
+use Rattle.solver.specs.declared.run.RunEnd.{RunEnd}
+use Rattle.solver.specs.Seen.{seen}
+use Rattle.solver.specs.Steps.{Ran}
+
+-- the two arrays are as long as each other, and every reached node has a distance
+pub record Known (bound status : List ℕ) : Type 0 where
+  pub as-long : length bound ≡ length status
+  pub has-distance : (v : ℕ) → 0 < getD status v 0 → getD bound v 0 ≡ no-distance → ⊥
+
+-- the ends of every arc are nodes
+pub record Arc-ends (tails heads kept status : List ℕ) : Type 0 where
+  pub tail-count : length tails ≡ length heads
+  pub kept-count : length kept ≡ length status
+  pub head-in : (i : ℕ) → i < length heads → getD heads i 0 < length status
+  pub tail-in : (i : ℕ) → i < length heads → getD tails i 0 < length status
+
+-- the buffers have the room that they need, for few nodes and few arcs
+pub record Fitting (n m : ℕ) (distances prices tree marks : List ℕ) : Type 0 where
+  pub few-nodes : n ≤ most-nodes
+  pub few-arcs : m ≤ most-arcs
+  pub distances-long : length distances ≡ n
+  pub prices-long : length prices ≡ n
+  pub tree-long : length tree ≡ n
+  pub marks-long : length marks ≡ m
+
+-- the columns hold the ends of a table's arcs
+pub record Ends-held (t : Table) (tails heads : List ℕ) : Type 0 where
+  pub count : arc-count t ≡ length heads
+  pub head : (i : ℕ) → i < arc-count t → head-at t i ≡ getD heads i 0
+  pub tail : (i : ℕ) → i < arc-count t → tail-at t i ≡ getD tails i 0
+
+-- no node that was reached is farther than the horizon
+abbrev pub None-farther : (horizon : ℕ) → (bound status : List ℕ) → Type 0
+None-farther h bound status = (v : ℕ) → v < length status → 0 < getD status v 0 → getD bound v 0 ≤ h
+
+-- READ OFF: for each table with as many nodes as there are statuses, whatever the path, the prices and the progress, this is what `f` gives
+abbrev pub Read-off : {A : Type 0} → (f : Table → State → A) → (bound kept status : List ℕ) → A → Type 0
+Read-off f bound kept status a =
+    (t : Table) (path price : List ℕ) (g : Progress) → t .n ≡ length status → a ≡ f t (seen path price bound kept status g)
+
+-- the mark of the arc at a position
+abbrev pub mark-entry : (tails heads kept status : List ℕ) → (i : ℕ) → ℕ
+mark-entry tails heads kept status i =
+    mark-number (ltb 0 (getD status (getD heads i 0) 0)) (ltb 0 (getD status (getD tails i 0) 0)) (eqb (getD kept (getD heads i 0) 0) i)
+
+-- THE HAND-OVER: for each table and wanted list whose run has ended with these arrays, the answer is the definition's
+abbrev pub Hands-over : (end : RunEnd) → (wanted : ℕ) → (tails heads bound kept status : List ℕ) → Answer → Type 0
+Hands-over end wanted tails heads bound kept status answer =
+    (t : Table) (ws path price : List ℕ) → t .n ≡ length status → Ends-held t tails heads → length ws ≡ wanted →
+    Ran t ws (end .missing) (seen path price bound kept status (end .progress)) → answer ≡ routes-of t ws
