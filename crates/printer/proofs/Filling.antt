@@ -95,10 +95,17 @@ module _ (p : Finished) (from : Cursor) (before : List ℕ) where
         record {
           same = long-after ∙ f .same;
           inside =
-              omega
-              (arith, long-after, a .begins .counted, long, f .inside, ap length (a .begins .holds),
-              length-append (a .line) (drop (length (a .line)) (midOf at (length out - at) out)),
-              length-take-le (length out - at) (drop at out) (omega (arith, length-drop at out)), length-drop at out);
+              omega (
+                arith,
+                long-after,
+                a .begins .counted,
+                long,
+                f .inside,
+                ap length (a .begins .holds),
+                length-append (a .line) (drop (length (a .line)) (midOf at (length out - at) out)),
+                length-take-le (length out - at) (drop at out) (omega (arith, length-drop at out)),
+                length-drop at out,
+              );
           joins =
               f .joins
               ∙ ap (λ (ls : List (List ℕ)). take at out ++ joined ls) (a .first)

@@ -6,6 +6,7 @@ use mathlib.Core.Logic.{_⊎_}
 use Prim.Native.Nat.{ℕ, _+_, _*_, _-_, _≤_, _<_}
 use lib.ListN.{length}
 use Rattle.table.specs.Table.{most-nodes}
+use Rattle.table.specs.Slices.{Slice, was, left}
 use Rattle.planner.specs.declared.Planned.{Planned}
 use Rattle.planner.specs.Plan.{answered}
 use Rattle.sheet.specs.Sheet.{Finished, finished, node-count, has-distance, has-path, passing, path-nodes, node-lines, path-lines, from-counts, from-reached, sheet}
@@ -60,9 +61,13 @@ unfoldable pub Gives : Finished → (lines : List (List ℕ)) → Line → (befo
 Gives p [] r b a = (r ≡ Last) × (a ≡ b)
 Gives p (l ∷ later) r b a = Puts p l later r b a
 
--- THE CONTRACT of next_line: the next of the lines that are to come from a cursor
-abbrev pub Next-line : Cursor → Planned → (origin : ℕ) → (tails heads wanted distances prices tree : List ℕ) → Line → (before after : List ℕ) → Type 0
-Next-line c a o ts hs ws ds ps tr r before after = Gives (printing a o ts hs ws ds ps tr) (rest (printing a o ts hs ws ds ps tr) c) r before after
+-- what is printed, of the slices that are lent
+abbrev pub lent-printing : Planned → (origin : ℕ) → (tails heads wanted distances prices tree : Slice) → Finished
+lent-printing a o ts hs ws ds ps tr = printing a o (was ts) (was hs) (was ws) (was ds) (was ps) (was tr)
+
+-- THE CONTRACT of next_line: the next of the lines that are to come from a cursor, at the start of a buffer
+abbrev pub Next-line : Cursor → Finished → (out : Slice) → Line → Type 0
+Next-line c p out r = Gives p (rest p c) r (was out) (left out)
 
 -- the first node from v on that passes a test, n where there is none
 pub record First-passing (test : ℕ → Bool) (n v u : ℕ) : Type 0 where

@@ -6,10 +6,10 @@ ghost use Prim.Native.Nat.{ℕ, _+_, _≤_, _<_};
 ghost use lib.ListN.{length, getD};
 ghost use Rattle.table.specs.Table.{no-arc, most-nodes};
 ghost use Rattle.sheet.specs.Text.{decimal, spaced, text};
-ghost use Rattle.sheet.specs.Sheet.{refused-line, reached-line, counts-line, arc-text, node-line, path-line, node-count, has-distance, has-path, sheet};
+ghost use Rattle.sheet.specs.Sheet.{refused-line, reached-line, counts-line, arc-text, node-line, path-line, node-count, has-distance, has-path};
 ghost use Rattle.printer.specs.Buffers.{Begins};
-ghost use Rattle.printer.specs.declared.lines.Cursor.the-variants.{Node, Path};
-ghost use Rattle.printer.specs.Lines.{printing, Gives, Next-line, line-room, most-digits, most-path, First-passing, Lesser};
+ghost use Rattle.printer.specs.declared.lines.Cursor.the-variants.{Start, Node, Path};
+ghost use Rattle.printer.specs.Lines.{printing, lent-printing, Next-line, line-room, most-digits, most-path, First-passing, Lesser};
 use crate::text::put;
 use crate::text::put_field;
 use crate::text::put_number;
@@ -202,10 +202,7 @@ fn next_path(
     out: &mut [u8],
 ) -> Line
     requires { ⌜ line-room ≤ length (now out) ⌝ }
-    ensures { λ r. ⌜
-        Next-line (Path from) answer origin (now (tails .entry)) (now (heads .entry)) (now (wanted .entry)) (now (distances .entry)) (now (prices .entry))
-        (now (tree .entry)) r (now (out .entry)) (now (out .exit))
-        ⌝ }
+    ensures { λ r. ⌜ Next-line (Path from) (lent-printing answer origin tails heads wanted distances prices tree) out r ⌝ }
 {
     let n = node_count(distances);
     let v = next_with_path(from, n, distances, wanted);
@@ -233,10 +230,7 @@ fn next_node(
     out: &mut [u8],
 ) -> Line
     requires { ⌜ line-room ≤ length (now out) ⌝ }
-    ensures { λ r. ⌜
-        Next-line (Node from) answer origin (now (tails .entry)) (now (heads .entry)) (now (wanted .entry)) (now (distances .entry)) (now (prices .entry))
-        (now (tree .entry)) r (now (out .entry)) (now (out .exit))
-        ⌝ }
+    ensures { λ r. ⌜ Next-line (Node from) (lent-printing answer origin tails heads wanted distances prices tree) out r ⌝ }
 {
     let n = node_count(distances);
     let v = next_with_distance(from, n, distances);
@@ -263,10 +257,7 @@ fn next_node(
 // The first line: a refusal's where there is one. Behind it the sheet ends, unless the plan was made all the same.
 fn first_line(answer: Planned, out: &mut [u8]) -> Line
     requires { ⌜ line-room ≤ length (now out) ⌝ }
-    ensures { λ r. ⌜
-        ((o : ℕ) (ts hs ws ds ps tr : List ℕ) →
-        Gives (printing answer o ts hs ws ds ps tr) (sheet (printing answer o ts hs ws ds ps tr)) r (now (out .entry)) (now (out .exit)))
-        ⌝ }
+    ensures { λ r. ⌜ ((o : ℕ) (ts hs ws ds ps tr : List ℕ) → Next-line Start (printing answer o ts hs ws ds ps tr) out r) ⌝ }
 {
     let number = answer.number;
     if number == Refusal::NONE {
@@ -294,10 +285,7 @@ pub fn next_line(
     out: &mut [u8],
 ) -> Line
     requires { ⌜ line-room ≤ length (now out) ⌝ }
-    ensures { λ r. ⌜
-        Next-line cursor answer origin (now (tails .entry)) (now (heads .entry)) (now (wanted .entry)) (now (distances .entry)) (now (prices .entry))
-        (now (tree .entry)) r (now (out .entry)) (now (out .exit))
-        ⌝ }
+    ensures { λ r. ⌜ Next-line cursor (lent-printing answer origin tails heads wanted distances prices tree) out r ⌝ }
 {
     match cursor {
         Cursor::Start => first_line(answer, out),

@@ -1,7 +1,8 @@
 // A sheet in pieces: as many whole lines as fit into a buffer.
 ghost use Prim.Native.Nat.{_≤_};
 ghost use lib.ListN.{length};
-ghost use Rattle.printer.specs.Lines.{printing, line-room};
+ghost use Rattle.table.specs.Slices.{left};
+ghost use Rattle.printer.specs.Lines.{lent-printing, line-room};
 ghost use Rattle.printer.specs.Pieces.{Continues};
 use crate::lines::Cursor;
 use crate::lines::Line;
@@ -31,10 +32,7 @@ pub fn next_piece(
     out: &mut [u8],
 ) -> Piece
     requires { ⌜ line-room ≤ length (now out) ⌝ }
-    ensures { λ r. ⌜
-        Continues (printing answer origin (now (tails .entry)) (now (heads .entry)) (now (wanted .entry)) (now (distances .entry))
-        (now (prices .entry)) (now (tree .entry))) cursor r (now (out .exit))
-        ⌝ }
+    ensures { λ r. ⌜ Continues (lent-printing answer origin tails heads wanted distances prices tree) cursor r (left out) ⌝ }
 {
     let mut at = 0;
     let mut next = cursor;

@@ -1,2 +1,3 @@
 pub mod Table
 pub mod Refusals
+pub mod Slices
