@@ -1,3 +1,4 @@
 pub mod Buffers
 pub mod Lines
 pub mod Pieces
+pub mod Input
