@@ -90,7 +90,7 @@ arcs-low i n (a ∷ more) =
     cond-low (eqb (arc-fault n a) 0) (arcs-from (suc i) n more) (refusal (arc-fault n a) i) 7 (arcs-low (suc i) n more) (fault-low n a)
 
 module _ (n o : ℕ) (ts hs ls ws ds ps tr ms : List ℕ) where
-  refusal-low : plan-refusal n o ts hs ls ws ds ps tr ms .number ≤ 7
+  pub refusal-low : plan-refusal n o ts hs ls ws ds ps tr ms .number ≤ 7
   unfolding plan-refusal table-refusal or-else wanted-refusal arcs-refusal refusal
   refusal-low =
       let w = cond-low (ltb most-wanted (length ws)) (refusal 5 most-wanted) (wanted-from 0 n ws) 7 (omega arith) (wanted-low 0 n ws) in
@@ -104,7 +104,7 @@ module _ (n o : ℕ) (ts hs ls ws ds ps tr ms : List ℕ) where
   unfolding plan refused-plan
   refused-number d = rw (ne-eqb (plan-refusal n o ts hs ls ws ds ps tr ms .number) 0 d)
 
-  routes-so : plan-refusal n o ts hs ls ws ds ps tr ms .number ≡ 0 → plan n o ts hs ls ws ds ps tr ms ≡ routes-of (table-of n o ts hs ls) ws
+  pub routes-so : plan-refusal n o ts hs ls ws ds ps tr ms .number ≡ 0 → plan n o ts hs ls ws ds ps tr ms ≡ routes-of (table-of n o ts hs ls) ws
   unfolding plan
   routes-so e = rw (eq-eqb (plan-refusal n o ts hs ls ws ds ps tr ms .number) 0 e)
 

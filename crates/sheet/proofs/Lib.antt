@@ -1,3 +1,4 @@
 pub mod Nodes
 pub mod Promised
+pub mod Unseen
 pub mod Examples

@@ -1,0 +1,75 @@
+-- From what was read to what is printed of it. Assumes nothing.
+use mathlib.Core.Path.{_≡_, refl, sym, ap, subst, _∙_}
+use mathlib.Core.List.{List, [], _∷_, _++_}
+use mathlib.Core.Logic.{_⊎_, ⊎-elim}
+use Prim.Native.Nat.{ℕ, _≤_, _<_}
+use native.Mathlib.Omega.{arith}
+use lib.ListN.{length, take, drop, replicate, length-replicate, length-map}
+use lib.Seq.{take-at}
+use Rattle.table.specs.Table.{Arc}
+use Rattle.table.specs.Refusals.{refusal, no-refusal}
+use Rattle.auction.specs.HandOver.{Answer}
+use Rattle.auction.specs.Plan.{plan}
+use Rattle.auction.specs.Demands.{distance-of, price-of, link-of}
+use Rattle.link_format.specs.Format.{Content, content, tails-of, heads-of, lengths-of}
+use Rattle.link_format.specs.Reading.{Outcome, got, refused}
+use Rattle.link_format.specs.Buffers.{over, refusal-of, content-of}
+use Rattle.link_file.specs.declared.TableRead.{TableRead}
+use Rattle.link_file.specs.Entries.{read-answer, Left-by-reading}
+use Rattle.planner.specs.declared.Planned.{Planned}
+use Rattle.planner.specs.Plan.{answered, Plan-made}
+use Rattle.sheet.specs.Sheet.{Finished, finished, refused-line, reached-nodes, path-nodes, node-lines, path-lines, after-counts, from-counts, from-reached, sheet}
+use Rattle.sheet.specs.Printed.{plan-of, lines-of}
+use Rattle.sheet.specs.Promises.{Refusals-printed}
+use Rattle.sheet.proofs.Promised.{refusals-printed}
+use Rattle.sheet.proofs.Unseen.{unseen}
+use Rattle.printer.specs.Lines.{printing}
+use Rattle.printer.specs.Input.{printing-read, refused-file, Refuses-well}
+
+-- a list at the start of a buffer
+pub start-of : (xs buffer : List ℕ) (k : ℕ) → k ≡ length xs → take k (over xs buffer) ≡ xs
+unfolding over
+start-of xs buffer k e = take-at xs (drop (length xs) buffer) k (sym e)
+
+-- the sheet does not show the marks
+unmarked : (a : Planned) (o : ℕ) (ts hs ws ds ps tr ms : List ℕ) → sheet (printing a o ts hs ws ds ps tr) ≡ sheet (finished o ts hs ws (answered a ds ps tr ms))
+unfolding sheet from-reached from-counts after-counts reached-nodes path-nodes node-lines path-lines printing answered distance-of price-of link-of
+unmarked a o ts hs ws ds ps tr ms = refl
+
+module _ (r : TableRead) (ts₀ hs₀ ls₀ ws₀ ts hs ls ws ds ps tr : List ℕ) where
+  -- a file that was refused prints its refusal
+  pub prints-refusal : (n p : ℕ) → Left-by-reading (refused n p) ts₀ hs₀ ls₀ ws₀ ts hs ls ws r → (0 < n) × (n ≡ 8 → ⊥) →
+      sheet (printing-read r (refused-file (r .number) (r .place)) ts hs ws ds ps tr) ≡ lines-of (refused n p)
+  unfolding refusal-of refusal read-answer printing-read printing answered refused-file lines-of Refusals-printed
+  prints-refusal n p l well =
+      let number : r .number ≡ n = ap (λ (x : TableRead). x .number) (l .answer) in
+      let place : r .place ≡ p = ap (λ (x : TableRead). x .place) (l .answer) in
+      refusals-printed (printing-read r (refused-file (r .number) (r .place)) ts hs ws ds ps tr) (λ e. omega (arith, well .0, number)) (λ e. well .1 (sym number ∙ e))
+      ∙ ap (λ (k : ℕ). refused-line k (r .place) ∷ []) number
+      ∙ ap (λ (k : ℕ). refused-line n k ∷ []) place
+
+  -- a table that was read prints its plan, whatever the buffers held
+  pub prints-plan : (c : Content) (next : ℕ) (rest : List ℕ) → Left-by-reading (got c next rest) ts₀ hs₀ ls₀ ws₀ ts hs ls ws r → (a : Planned) (ds₀ ps₀ tr₀ ms₀ ms : List ℕ) →
+      length ds₀ ≡ r .n → length ps₀ ≡ r .n → length tr₀ ≡ r .n → length ms₀ ≡ r .arcs →
+      Plan-made (r .n) (r .origin) (take (r .arcs) ts) (take (r .arcs) hs) (take (r .arcs) ls) (take (r .wanted) ws) ds₀ ps₀ tr₀ ms₀
+      (take (r .n) ds) (take (r .n) ps) (take (r .n) tr) ms a →
+      sheet (printing-read r a ts hs ws ds ps tr) ≡ lines-of (got c next rest)
+  unfolding refusal-of content-of read-answer printing-read lines-of plan-of tails-of heads-of lengths-of
+  prints-plan c next rest l a ds₀ ps₀ tr₀ ms₀ ms d p t m made =
+      let n : r .n ≡ c .n = ap (λ (x : TableRead). x .n) (l .answer) in
+      let origin : r .origin ≡ c .origin = ap (λ (x : TableRead). x .origin) (l .answer) in
+      let arcs : r .arcs ≡ length (c .arcs) = ap (λ (x : TableRead). x .arcs) (l .answer) in
+      let wanted : r .wanted ≡ length (c .wanted) = ap (λ (x : TableRead). x .wanted) (l .answer) in
+      let tails : take (r .arcs) ts ≡ tails-of (c .arcs) =
+      ap (take (r .arcs)) (l .tails-are) ∙ start-of (tails-of (c .arcs)) ts₀ (r .arcs) (arcs ∙ sym (length-map (c .arcs) (λ (x : Arc). x .tail))) in
+      let heads : take (r .arcs) hs ≡ heads-of (c .arcs) =
+      ap (take (r .arcs)) (l .heads-are) ∙ start-of (heads-of (c .arcs)) hs₀ (r .arcs) (arcs ∙ sym (length-map (c .arcs) (λ (x : Arc). x .head))) in
+      let lengths : take (r .arcs) ls ≡ lengths-of (c .arcs) =
+      ap (take (r .arcs)) (l .lengths-are) ∙ start-of (lengths-of (c .arcs)) ls₀ (r .arcs) (arcs ∙ sym (length-map (c .arcs) (λ (x : Arc). x .arc-length))) in
+      let list : take (r .wanted) ws ≡ c .wanted = ap (take (r .wanted)) (l .wanted-are) ∙ start-of (c .wanted) ws₀ (r .wanted) wanted in
+      unmarked a (r .origin) (take (r .arcs) ts) (take (r .arcs) hs) (take (r .wanted) ws) (take (r .n) ds) (take (r .n) ps) (take (r .n) tr) ms
+      ∙ ap (λ (x : Answer). sheet (finished (r .origin) (take (r .arcs) ts) (take (r .arcs) hs) (take (r .wanted) ws) x)) made
+      ∙ rw (n, origin, tails, heads, lengths, list)
+      (unseen (c .n) (c .origin) (tails-of (c .arcs)) (heads-of (c .arcs)) (lengths-of (c .arcs)) (c .wanted) ds₀ ps₀ tr₀ ms₀ (replicate (c .n) 0) (replicate (c .n) 0)
+      (replicate (c .n) 0) (replicate (length (c .arcs)) 0) (d ∙ n ∙ sym (length-replicate (c .n) 0)) (p ∙ n ∙ sym (length-replicate (c .n) 0))
+      (t ∙ n ∙ sym (length-replicate (c .n) 0)) (m ∙ arcs ∙ sym (length-replicate (length (c .arcs)) 0)))
