@@ -7,6 +7,7 @@ use Prim.Native.Nat.{ℕ, _≤_, _<_}
 use lib.ListN.{length, take}
 use Rattle.table.specs.Table.{Below, most-nodes, most-arcs, most-wanted}
 use Rattle.link_format.specs.Buffers.{over, too-short}
+use Rattle.link_format.specs.Format.{byte-limit, node-width, length-width, limit}
 use Rattle.link_file.specs.Entries.{Read-says, Write-says}
 use Rattle.link_file.specs.declared.TableRead.{TableRead}
 use Rattle.link_file.specs.declared.Written.{Written}
@@ -23,7 +24,7 @@ pub record Table-there (n origin : ℕ) (tails heads lengths wanted : List ℕ) 
 abbrev pub Write-then-read : Type 0
 Write-then-read =
     (n o : ℕ) (tails heads lengths wanted out out′ : List ℕ) (w : Written)
-    → o < 65536 → Below 65536 tails → Below 65536 heads → Below 4294967296 lengths → Below 65536 wanted
+    → o < limit node-width → Below (limit node-width) tails → Below (limit node-width) heads → Below (limit length-width) lengths → Below (limit node-width) wanted
     → Write-says n o tails heads lengths wanted out out′ w → w .number ≡ 0
     → (ts hs ls ws ts′ hs′ ls′ ws′ : List ℕ) (r : TableRead) → too-short (length ts) (length hs) (length ls) (length ws) ≡ false
     → Read-says (take (w .length) out′) ts hs ls ws ts′ hs′ ls′ ws′ r
@@ -32,7 +33,7 @@ Write-then-read =
 -- Read a file, without a refusal; write what was read, into an output with room: the file is there.
 abbrev pub Read-then-write : Type 0
 Read-then-write =
-    (file ts hs ls ws ts′ hs′ ls′ ws′ : List ℕ) (r : TableRead) → Below 256 file → Read-says file ts hs ls ws ts′ hs′ ls′ ws′ r → r .number ≡ 0
+    (file ts hs ls ws ts′ hs′ ls′ ws′ : List ℕ) (r : TableRead) → Below byte-limit file → Read-says file ts hs ls ws ts′ hs′ ls′ ws′ r → r .number ≡ 0
     → (out out′ : List ℕ) (w : Written) → length file ≤ length out
     → Write-says (r .n) (r .origin) (take (r .arcs) ts′) (take (r .arcs) hs′) (take (r .arcs) ls′) (take (r .wanted) ws′) out out′ w
     → (w ≡ record { number = 0; place = 0; length = length file }) × (out′ ≡ over file out)
@@ -44,4 +45,4 @@ pub record Counts-fit (r : TableRead) : Type 0 where
   pub wanted-few : r .wanted ≤ most-wanted
 
 abbrev pub Answers-fit : Type 0
-Answers-fit = (file ts hs ls ws ts′ hs′ ls′ ws′ : List ℕ) (r : TableRead) → Below 256 file → Read-says file ts hs ls ws ts′ hs′ ls′ ws′ r → Counts-fit r
+Answers-fit = (file ts hs ls ws ts′ hs′ ls′ ws′ : List ℕ) (r : TableRead) → Below byte-limit file → Read-says file ts hs ls ws ts′ hs′ ls′ ws′ r → Counts-fit r

@@ -4,13 +4,13 @@ use mathlib.Core.Option.{none, some}
 use mathlib.Core.Path.{_≡_, refl, ap, sym, _∙_}
 use Prim.Native.Nat.{ℕ, zero, suc, _+_, _≤_}
 use native.Mathlib.Omega.{arith}
-use lib.Dec.{eqb}
+use lib.Dec.{ltb, eqb}
 use borrow.Author.Tests.{ltb-false, eq-eqb, eqb-true, not-false}
 use Rattle.table.specs.Table.{arc}
 use Rattle.link_format.specs.Format.{bit-map, has, all-nodes, header-bits, record-bits}
 use Rattle.link_format.specs.Promises.{needless, needless-header, Needless-is-not-canonical, Needless-header-is-not-canonical}
-use Rattle.link_format.specs.Reading.{forbidden, implied}
-use Rattle.table.proofs.Basics.{not-both}
+use Rattle.link_format.specs.Reading.{forbidden-header, forbidden, implied}
+use Rattle.table.proofs.Basics.{either-false, not-both}
 
 -- A bit map has the bits that it was made of, and no other.
 pub record Made-of (a b c : Bool) : Type 0 where
@@ -91,8 +91,11 @@ needless-record (some p) bits a good said =
     rw (← its-bits bits (ltb-false 7 bits good)) at e
 
 pub needless-header-bits : Needless-header-is-not-canonical
-unfolding needless-header header-bits Agree
-needless-header-bits bits n o ws low count no-origin no-list =
+unfolding needless-header header-bits Agree forbidden-header
+needless-header-bits bits n o ws allowed no-origin no-list =
+    let tests = either-false (ltb 7 bits) (not (has 1 bits)) allowed in
+    let low : bits ≤ 7 = ltb-false 7 bits (tests .0) in
+    let count : has 1 bits ≡ true = not-false (has 1 bits) (tests .1) in
     let e = not-canonical true false (has 2 bits) (eqb o 0) (has 4 bits) (all-nodes n ws)
     (λ (z : true ≡ false). sym z) (eqb-said no-origin) no-list in
     let made : bit-map true (has 2 bits) (has 4 bits) ≡ bits = ap (λ (b : Bool). bit-map b (has 2 bits) (has 4 bits)) (sym count) ∙ sym (its-bits bits low) in

@@ -2,16 +2,17 @@
 use mathlib.Core.Bool.{Bool, true, false, cond}
 use mathlib.Core.List.{List, [], _∷_}
 use mathlib.Core.Option.{Option, none, some}
-use mathlib.Core.Path.{_≡_, refl}
+use mathlib.Core.Path.{_≡_, refl, _∙_}
 use Prim.Native.Nat.{ℕ, zero, suc, _<_}
 use native.Mathlib.Omega.{arith}
 use lib.Dec.{ltb, leb}
 use lib.ListN.{length}
+use Rattle.table.specs.declared.Refusal.{Refusal}
 use Rattle.table.specs.Refusals.{refusal}
 use Rattle.table.specs.Table.{Arc, most-arcs, most-wanted}
 use Rattle.link_format.specs.Buffers.{too-short, reading, refusal-of}
 use Rattle.link_format.specs.Format.{Content}
-use Rattle.link_format.specs.Reading.{_>>_, _>>=_, Outcome, Reader, got, refused, after, give, here, refuse-if, field, optional, implied, read-nodes, read-wanted, read-header, read-record, read-records, read-content, read-file}
+use Rattle.link_format.specs.Reading.{_>>_, _>>=_, Outcome, Reader, got, refused, and-then, give, here, refuse-if, field, optional, implied, read-nodes, read-wanted, read-header, read-record, read-records, read-content, read-file}
 
 -- two outcomes that are equal
 pub got-value : {A : Type 0} {a b : A} {m n : ℕ} {xs ys : List ℕ} → got a m xs ≡ got b n ys → a ≡ b
@@ -26,14 +27,19 @@ got-rest e = cc
 pub refused-got : {A : Type 0} {a : A} {m n p : ℕ} {xs : List ℕ} → refused m p ≡ got a n xs → ⊥
 refused-got e = let z : _≡_ {A = ℕ} 0 1 = cc in omega arith
 
+-- an outcome that is refused, by a refusal of that number and place
+pub refused-by : {A : Type 0} {o : Outcome A} {f : Refusal} {n p : ℕ} → f ≡ refusal n p → o ≡ refused n p → o ≡ refused (f .number) (f .place)
+unfolding refusal
+refused-by e h = h ∙ rw e
+
 -- no refusal of the reader has number 0
 data Numbered {A : Type 0} : Outcome A → Type 0 where
   a-value : {a : A} {at : ℕ} {rest : List ℕ} → Numbered (got a at rest)
   a-ground : {n p : ℕ} → 0 < n → Numbered (refused n p)
 
 numbered-after : {A B : Type 0} {o : Outcome A} {f : A → Reader B} → Numbered o
-    → ((a : A) (at : ℕ) (rest : List ℕ) → Numbered (f a at rest)) → Numbered (after o f)
-unfolding after
+    → ((a : A) (at : ℕ) (rest : List ℕ) → Numbered (f a at rest)) → Numbered (and-then o f)
+unfolding and-then
 numbered-after (a-value {a} {at} {rest}) k = k a at rest
 numbered-after (a-ground h) k = a-ground h
 
@@ -70,7 +76,7 @@ numbered-wanted true n at rest =
     numbered-after (numbered-if (ltb most-wanted count) 5 most-wanted at₁ r₁ (omega arith)) λ (u : Unit) (at₂ : ℕ) (r₂ : List ℕ). numbered-nodes count at₂ r₂
 
 numbered-header : (at : ℕ) (rest : List ℕ) → Numbered (read-header at rest)
-unfolding read-header _>>=_ _>>_ here after give
+unfolding read-header _>>=_ _>>_ here and-then give
 numbered-header at rest =
     numbered-after (numbered-field 1 at rest) λ (bits at₁ : ℕ) (r₁ : List ℕ).
     numbered-after (numbered-if _ 10 at at₁ r₁ (omega arith)) λ (u₁ : Unit) (at₂ : ℕ) (r₂ : List ℕ).
@@ -81,7 +87,7 @@ numbered-header at rest =
     numbered-after (numbered-if _ 12 at at₆ r₆ (omega arith)) λ (u₃ : Unit) (at₇ : ℕ) (r₇ : List ℕ). a-value
 
 numbered-record : (before : Option Arc) (at : ℕ) (rest : List ℕ) → Numbered (read-record before at rest)
-unfolding read-record _>>=_ _>>_ here after give
+unfolding read-record _>>=_ _>>_ here and-then give
 numbered-record before at rest =
     numbered-after (numbered-field 1 at rest) λ (bits at₁ : ℕ) (r₁ : List ℕ).
     numbered-after (numbered-if _ 10 at at₁ r₁ (omega arith)) λ (u₁ : Unit) (at₂ : ℕ) (r₂ : List ℕ).

@@ -1,6 +1,6 @@
 -- Every file that the reader accepts is what the writer makes of what was read. Each part of the reader is taken back to the bytes that it
 -- read: where it got a value, those bytes are what the writer puts for that value. Assumes nothing.
-use mathlib.Core.Bool.{Bool, true, false, not, _||_}
+use mathlib.Core.Bool.{Bool, true, false, not}
 use mathlib.Core.List.{List, [], _∷_, _++_, append-assoc}
 use mathlib.Core.Option.{Option, none, some}
 use mathlib.Core.Path.{_≡_, refl, ap, sym, _∙_, subst}
@@ -15,7 +15,7 @@ use Rattle.table.specs.Refusals.{count-bad}
 use Rattle.table.specs.Table.{Arc, arc, Below, most-nodes, most-arcs, most-wanted}
 use Rattle.link_format.specs.Format.{Content, content, bytes, has, count-up, field-bytes, nodes-bytes, wanted-bytes, header-bits, header-bytes, record-bits, fields-bytes, record-bytes, records-bytes, file-bytes}
 use Rattle.link_format.specs.Promises.{Accepted-files-write-back}
-use Rattle.link_format.specs.Reading.{_>>_, _>>=_, Outcome, Reader, got, refused, list-got, after, give, here, refuse-if, number, field, optional, implied, forbidden, read-nodes, read-wanted, read-header, read-record, read-records, read-content, read-file}
+use Rattle.link_format.specs.Reading.{forbidden-header, _>>_, _>>=_, Outcome, Reader, got, refused, list-got, and-then, give, here, refuse-if, number, field, optional, implied, forbidden, read-nodes, read-wanted, read-header, read-record, read-records, read-content, read-file}
 use Rattle.link_format.proofs.AllNodes.{length-count-up}
 use Rattle.link_format.proofs.Counts.{few-nodes}
 use Rattle.link_format.proofs.Numbers.{bytes-number, below-drop}
@@ -24,22 +24,22 @@ use Rattle.link_format.proofs.Records.{few-records}
 
 -- What follows a step of a `do` block that got a value: the step got one too.
 module _ {B : Type 0} {b : B} {next : ℕ} {end : List ℕ} {P : Type 0} where
-  then-got : {A : Type 0} (o : Outcome A) (f : A → Reader B) → after o f ≡ got b next end
+  then-got : {A : Type 0} (o : Outcome A) (f : A → Reader B) → and-then o f ≡ got b next end
       → ((a : A) (at : ℕ) (rest : List ℕ) → o ≡ got a at rest → f a at rest ≡ got b next end → P) → P
-  unfolding after
+  unfolding and-then
   then-got (got a at rest) f e k = k a at rest refl e
   then-got (refused n p) f e k = absurd (refused-got e)
 
-  passed : (bad : Bool) (n p : ℕ) (at : ℕ) (rest : List ℕ) (f : Unit → Reader B) → after (refuse-if bad n p at rest) f ≡ got b next end
+  passed : (bad : Bool) (n p : ℕ) (at : ℕ) (rest : List ℕ) (f : Unit → Reader B) → and-then (refuse-if bad n p at rest) f ≡ got b next end
       → (bad ≡ false → f tt at rest ≡ got b next end → P) → P
-  unfolding after refuse-if
+  unfolding and-then refuse-if
   passed true n p at rest f e k = absurd (refused-got e)
   passed false n p at rest f e k = k refl e
 
   -- a bit map
-  byte-first : (at : ℕ) (rest : List ℕ) (f : ℕ → Reader B) → Below 256 rest → after (field 1 at rest) f ≡ got b next end
+  byte-first : (at : ℕ) (rest : List ℕ) (f : ℕ → Reader B) → Below 256 rest → and-then (field 1 at rest) f ≡ got b next end
       → ((bits : ℕ) (more : List ℕ) → rest ≡ bits ∷ more → Below 256 more → f bits (at + 1) more ≡ got b next end → P) → P
-  unfolding after field number Below
+  unfolding and-then field number Below
   byte-first at [] f small e k = absurd (refused-got e)
   byte-first at (x ∷ more) f small e k =
       k x more refl (λ (i : ℕ). small (suc i)) (rw (le-leb 1 (length (x ∷ more)) (omega arith), zero-add x) at e)
@@ -143,10 +143,10 @@ record-made before bits t h l rest r₁ r₂ r₃ r₄ {a} {at} {next} {more} e�
 -- the header
 pub header-back : (at : ℕ) (rest : List ℕ) {t : Content} {next : ℕ} {more : List ℕ} → Below 256 rest → read-header at rest ≡ got t next more
     → Header-back rest more t
-unfolding read-header _>>=_ _>>_ here after give
+unfolding read-header _>>=_ _>>_ here and-then give
 header-back at rest {t} {next} {more} small e =
     byte-first at rest _ small e λ (bits : ℕ) (r₁ : List ℕ) e₁ s₁ k₁.
-    passed (ltb 7 bits || not (has 1 bits)) 10 at (at + 1) r₁ _ k₁ λ ok₁ k₂.
+    passed (forbidden-header bits) 10 at (at + 1) r₁ _ k₁ λ ok₁ k₂.
     then-got (field 2 (at + 1) r₁) _ k₂ λ (n at₂ : ℕ) (r₂ : List ℕ) e₂ k₃.
     passed (count-bad n) 1 0 at₂ r₂ _ k₃ λ ok₂ k₄.
     then-got (optional (has 2 bits) 2 0 at₂ r₂) _ k₄ λ (o at₃ : ℕ) (r₃ : List ℕ) e₃ k₅.
@@ -160,7 +160,7 @@ header-back at rest {t} {next} {more} small e =
 -- one record
 pub record-back : (before : Option Arc) (at : ℕ) (rest : List ℕ) {a : Arc} {next : ℕ} {more : List ℕ} → Below 256 rest
     → read-record before at rest ≡ got a next more → (rest ≡ record-bytes before a ++ more) × Below 256 more
-unfolding read-record _>>=_ _>>_ here after give
+unfolding read-record _>>=_ _>>_ here and-then give
 record-back before at rest {a} {next} {more} small e =
     byte-first at rest _ small e λ (bits : ℕ) (r₁ : List ℕ) e₁ s₁ k₁.
     passed (forbidden before bits) 10 at (at + 1) r₁ _ k₁ λ ok₁ k₂.

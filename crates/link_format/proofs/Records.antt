@@ -6,11 +6,11 @@ use Prim.Native.Nat.{ℕ, zero, suc, _≤_, _<_}
 use native.Mathlib.Omega.{arith}
 use lib.ListN.{length}
 use Rattle.table.specs.Table.{Arc, most-arcs}
-use Rattle.link_format.specs.Reading.{_>>=_, Outcome, got, refused, list-got, after, give, read-record, read-records}
+use Rattle.link_format.specs.Reading.{_>>=_, Outcome, got, refused, list-got, and-then, give, read-record, read-records}
 
 -- one arc in front of the rest
-abbrev pub then : Arc → Outcome (List Arc) → Outcome (List Arc)
-then a rest = after rest (λ (more : List Arc). give (a ∷ more))
+abbrev pub in-front : Arc → Outcome (List Arc) → Outcome (List Arc)
+in-front a rest = and-then rest (λ (more : List Arc). give (a ∷ more))
 
 pub records-none : (k : ℕ) (before : Option Arc) (at : ℕ) → read-records k before at [] ≡ got [] at []
 unfolding read-records
@@ -24,20 +24,20 @@ records-full before at (b ∷ rest) h = refl
 
 pub records-more : (k : ℕ) (before : Option Arc) (at : ℕ) (rest : List ℕ) → 0 < length rest
     → read-records (suc k) before at rest
-    ≡ after (read-record before at rest) (λ (a : Arc) (next : ℕ) (tl : List ℕ). then a (read-records k (some a) next tl))
+    ≡ and-then (read-record before at rest) (λ (a : Arc) (next : ℕ) (tl : List ℕ). in-front a (read-records k (some a) next tl))
 unfolding read-records _>>=_
 records-more k before at [] h = absurd (omega arith)
 records-more k before at (b ∷ rest) h = refl
 
 -- no more records than are allowed
-one-then : (k : ℕ) (a : Arc) (o : Outcome (List Arc)) → length (list-got o) ≤ k → length (list-got (after o (λ (more : List Arc). give (a ∷ more)))) ≤ suc k
-unfolding list-got after give
+one-then : (k : ℕ) (a : Arc) (o : Outcome (List Arc)) → length (list-got o) ≤ k → length (list-got (and-then o (λ (more : List Arc). give (a ∷ more)))) ≤ suc k
+unfolding list-got and-then give
 one-then k a (got more next tl) h = omega arith
 one-then k a (refused n p) h = omega arith
 
 one-more : (k : ℕ) → ((a : Arc) (at : ℕ) (rest : List ℕ) → length (list-got (read-records k (some a) at rest)) ≤ k) → (o : Outcome Arc)
-    → length (list-got (after o (λ (a : Arc). _>>=_ (read-records k (some a)) (λ (more : List Arc). give (a ∷ more))))) ≤ suc k
-unfolding list-got after _>>=_
+    → length (list-got (and-then o (λ (a : Arc). _>>=_ (read-records k (some a)) (λ (more : List Arc). give (a ∷ more))))) ≤ suc k
+unfolding list-got and-then _>>=_
 one-more k few (got a next tl) = one-then k a (read-records k (some a) next tl) (few a next tl)
 one-more k few (refused n p) = omega arith
 

@@ -50,11 +50,14 @@ unfolding content
 writable n o ts hs ls ws room so st sh sl sw u =
     let equal = equal-columns ts hs ls (u .equal) in
     record {
-      some = some-nodes (u .fine);
-      nodes = few-nodes (u .fine);
-      origin-fits = so;
-      wanted-few = ltb-false most-wanted (length ws) (u .few);
-      wanted-fit = sw;
+      header =
+          record {
+            some = some-nodes (u .fine);
+            nodes = few-nodes (u .fine);
+            origin-fits = so;
+            wanted-few = ltb-false most-wanted (length ws) (u .few);
+            wanted-fit = sw;
+          };
       arcs-few = omega (arith, equal .few, arcs-count ts hs ls (equal .heads-are) (equal .lengths-are));
       arcs-fit = small-arcs ts hs ls st sh sl;
     }

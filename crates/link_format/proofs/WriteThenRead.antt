@@ -1,26 +1,26 @@
 -- Every table that the writer accepts is read back as it was: each part of the reader gets, from the bytes that the writer puts for a value,
 -- that value. Assumes nothing.
-use mathlib.Core.Bool.{Bool, true, false, not, _||_}
+use mathlib.Core.Bool.{Bool, true, false, not}
 use mathlib.Core.List.{List, [], _∷_, _++_, append-assoc}
 use mathlib.Core.Option.{Option, none, some}
 use mathlib.Core.Path.{_≡_, refl, sym, _∙_}
 use Prim.Native.Nat.{ℕ, zero, suc, _+_, _^_, _≤_, _<_}
 use native.Mathlib.Nat.{zero-add, add-zero}
 use native.Mathlib.Omega.{arith}
-use lib.Dec.{eqb, ltb}
+use lib.Dec.{eqb}
 use lib.ListN.{length, length-append}
 use lib.Seq.{drop-at}
 use borrow.Author.Tests.{le-leb, le-ltb, eq-eqb, eqb-true, not-false}
 use Rattle.table.specs.Refusals.{count-bad}
-use Rattle.table.specs.Table.{Arc, arc, Below, most-nodes, most-arcs, most-wanted}
+use Rattle.table.specs.Table.{Arc, arc, Below, most-arcs, most-wanted}
 use Rattle.link_format.specs.Format.{content, bytes, bit-map, has, field-bytes, all-nodes, nodes-bytes, wanted-bytes, header-bits, header-bytes, record-bits, fields-bytes, record-bytes, records-bytes, file-bytes}
-use Rattle.link_format.specs.Promises.{Small-arc, Small-arcs, Implied-where-absent, Written-tables-read-back}
-use Rattle.link_format.specs.Reading.{_>>_, _>>=_, got, after, give, here, refuse-if, number, field, optional, implied, forbidden, read-nodes, read-wanted, read-header, read-record, read-records, read-content, read-file}
+use Rattle.link_format.specs.Promises.{Long-files-are-refused, Writable-header, Small-arc, Small-arcs, Implied-where-absent, Written-tables-read-back}
+use Rattle.link_format.specs.Reading.{forbidden-header, refused, _>>_, _>>=_, got, and-then, give, here, refuse-if, number, field, optional, implied, forbidden, read-nodes, read-wanted, read-header, read-record, read-records, read-content, read-file}
 use Rattle.link_format.proofs.AllNodes.{all-nodes-are}
 use Rattle.link_format.proofs.BitMaps.{made-of}
 use Rattle.link_format.proofs.Counts.{good-count}
 use Rattle.link_format.proofs.Numbers.{length-bytes, number-bytes}
-use Rattle.link_format.proofs.Records.{then, records-none, records-more}
+use Rattle.link_format.proofs.Records.{records-full, in-front, records-none, records-more}
 use Rattle.table.proofs.Basics.{not-both}
 
 -- a field
@@ -44,7 +44,7 @@ byte-again bits at rest = rw (le-leb 1 (length (bits ∷ rest)) (omega arith), z
 -- a run of nodes
 nodes-again : (ws : List ℕ) (at : ℕ) (rest : List ℕ) → Below 65536 ws
     → read-nodes (length ws) at (nodes-bytes ws ++ rest) ≡ got ws (at + length (nodes-bytes ws)) rest
-unfolding read-nodes _>>=_ after give nodes-bytes Below
+unfolding read-nodes _>>=_ and-then give nodes-bytes Below
 nodes-again [] at rest small = rw (add-zero at)
 nodes-again (w ∷ ws) at rest small =
     let sum : at + length (bytes 2 w) + length (nodes-bytes ws) ≡ at + length (bytes 2 w ++ nodes-bytes ws) = omega (arith, length-append (bytes 2 w) (nodes-bytes ws)) in
@@ -58,7 +58,7 @@ nodes-again (w ∷ ws) at rest small =
 -- the wanted list
 wanted-again : (stands : Bool) (n : ℕ) (ws : List ℕ) (at : ℕ) (rest : List ℕ) → (stands ≡ false → all-nodes n ws ≡ true) → length ws ≤ most-wanted
     → Below 65536 ws → read-wanted stands n at (wanted-bytes stands ws ++ rest) ≡ got ws (at + length (wanted-bytes stands ws)) rest
-unfolding read-wanted _>>=_ _>>_ after refuse-if give wanted-bytes
+unfolding read-wanted _>>=_ _>>_ and-then refuse-if give wanted-bytes
 wanted-again false n ws at rest said few small = rw (← all-nodes-are n ws (said refl), add-zero at)
 wanted-again true n ws at rest said few small =
     let sum : at + length (bytes 2 (length ws)) + length (nodes-bytes ws) ≡ at + length (bytes 2 (length ws) ++ nodes-bytes ws) =
@@ -99,7 +99,7 @@ canonical-implied (some p) a =
 -- one record
 record-again : (before : Option Arc) (a : Arc) (at : ℕ) (rest : List ℕ) → Small-arc a
     → read-record before at (record-bytes before a ++ rest) ≡ got a (at + length (record-bytes before a)) rest
-unfolding read-record _>>=_ _>>_ after here refuse-if give record-bytes fields-bytes arc
+unfolding read-record _>>=_ _>>_ and-then here refuse-if give record-bytes fields-bytes arc
 record-again before a at rest small =
     let bits : ℕ = record-bits before a in
     let x : List ℕ = field-bytes (has 1 bits) 2 (a .tail) in
@@ -127,8 +127,8 @@ some-bytes before a rest = omega arith
 
 next : (k : ℕ) (before : Option Arc) (a : Arc) (more : List Arc) (at : ℕ) (r rest : List ℕ) → at + length r + length rest ≡ at + length (r ++ rest)
     → read-record before at (r ++ rest) ≡ got a (at + length r) rest → read-records k (some a) (at + length r) rest ≡ got more (at + length r + length rest) []
-    → after (read-record before at (r ++ rest)) (λ (b : Arc) (to : ℕ) (tl : List ℕ). then b (read-records k (some b) to tl)) ≡ got (a ∷ more) (at + length (r ++ rest)) []
-unfolding after give
+    → and-then (read-record before at (r ++ rest)) (λ (b : Arc) (to : ℕ) (tl : List ℕ). in-front b (read-records k (some b) to tl)) ≡ got (a ∷ more) (at + length (r ++ rest)) []
+unfolding and-then give
 next k before a more at r rest sum one all = rw (one, all, sum)
 
 -- the records to the end of the file
@@ -144,9 +144,28 @@ records-again (suc k) before (a ∷ more) at few small =
     records-more k before at (r ++ rest) (some-bytes before a rest)
     ∙ next k before a more at r rest sum (record-again before a at rest (small .0)) (records-again k (some a) more (at + length r) (omega arith) (small .1))
 
+-- and more of them than are allowed
+one-too-many : (k : ℕ) (before : Option Arc) (a : Arc) (at : ℕ) (r rest : List ℕ) → read-record before at (r ++ rest) ≡ got a (at + length r) rest
+    → read-records k (some a) (at + length r) rest ≡ refused 2 most-arcs
+    → and-then (read-record before at (r ++ rest)) (λ (b : Arc) (to : ℕ) (tl : List ℕ). in-front b (read-records k (some b) to tl)) ≡ refused 2 most-arcs
+unfolding and-then give
+one-too-many k before a at r rest one all = rw (one, all)
+
+records-refused : (k : ℕ) (before : Option Arc) (arcs : List Arc) (at : ℕ) → k < length arcs → Small-arcs arcs
+    → read-records k before at (records-bytes before arcs) ≡ refused 2 most-arcs
+unfolding records-bytes Small-arcs
+records-refused k before [] at many small = absurd (omega arith)
+records-refused zero before (a ∷ more) at many small =
+    records-full before at (record-bytes before a ++ records-bytes (some a) more) (some-bytes before a (records-bytes (some a) more))
+records-refused (suc k) before (a ∷ more) at many small =
+    let r : List ℕ = record-bytes before a in
+    let rest : List ℕ = records-bytes (some a) more in
+    records-more k before at (r ++ rest) (some-bytes before a rest)
+    ∙ one-too-many k before a at r rest (record-again before a at rest (small .0)) (records-refused k (some a) more (at + length r) (omega arith) (small .1))
+
 -- the canonical bit map of a header is allowed, and the fields that it leaves out are implied
-header-allowed : (n o : ℕ) (ws : List ℕ) → (ltb 7 (header-bits n o ws) || not (has 1 (header-bits n o ws))) ≡ false
-unfolding header-bits
+header-allowed : (n o : ℕ) (ws : List ℕ) → forbidden-header (header-bits n o ws) ≡ false
+unfolding header-bits forbidden-header
 header-allowed n o ws =
     let made = made-of true (not (eqb o 0)) (not (all-nodes n ws)) in
     rw (le-ltb 7 (bit-map true (not (eqb o 0)) (not (all-nodes n ws))) (made .low), made .first-bit)
@@ -160,37 +179,46 @@ unfolding header-bits
 list-said n o ws e = not-false (all-nodes n ws) (sym (made-of true (not (eqb o 0)) (not (all-nodes n ws)) .third-bit) ∙ e)
 
 -- the header
-header-again : (n o : ℕ) (ws : List ℕ) (at : ℕ) (rest : List ℕ) → 0 < n → n ≤ most-nodes → o < 65536 → length ws ≤ most-wanted → Below 65536 ws
+header-again : (n o : ℕ) (ws : List ℕ) (at : ℕ) (rest : List ℕ) → Writable-header n o ws
     → read-header at (header-bytes n o ws ++ rest) ≡ got (content n o ws []) (at + length (header-bytes n o ws)) rest
-unfolding read-header _>>=_ _>>_ after here refuse-if give header-bytes
-header-again n o ws at rest pos low small few fits =
+unfolding read-header _>>=_ _>>_ and-then here refuse-if give header-bytes
+header-again n o ws at rest w =
     let bits : ℕ = header-bits n o ws in
     let x : List ℕ = bytes 2 n in
     let y : List ℕ = field-bytes (has 2 bits) 2 o in
     let z : List ℕ = wanted-bytes (has 4 bits) ws in
     let sum : at + 1 + length x + length y + length z ≡ at + suc (length (x ++ (y ++ z))) = omega (arith, length-append x (y ++ z), length-append y z) in
-    let good : count-bad n ≡ false = good-count n pos low in
+    let good : count-bad n ≡ false = good-count n (w .some) (w .nodes) in
     rw (
       byte-again bits at ((x ++ (y ++ z)) ++ rest),
       header-allowed n o ws,
       append-assoc x (y ++ z) rest,
       append-assoc y z rest,
-      field-again 2 n (at + 1) (y ++ (z ++ rest)) (omega arith),
+      field-again 2 n (at + 1) (y ++ (z ++ rest)) (omega (arith, w .nodes)),
       good,
-      optional-again (has 2 bits) 2 0 o (at + 1 + length x) (z ++ rest) small (origin-said n o ws),
-      wanted-again (has 4 bits) n ws (at + 1 + length x + length y) rest (list-said n o ws) few fits,
+      optional-again (has 2 bits) 2 0 o (at + 1 + length x) (z ++ rest) (w .origin-fits) (origin-said n o ws),
+      wanted-again (has 4 bits) n ws (at + 1 + length x + length y) rest (list-said n o ws) (w .wanted-few) (w .wanted-fit),
       eq-eqb bits bits refl,
       sum,
     )
 
 pub written-tables-read-back : Written-tables-read-back
-unfolding read-file read-content _>>=_ after give file-bytes content
+unfolding read-file read-content _>>=_ and-then give file-bytes content
 written-tables-read-back t w =
     let head : List ℕ = header-bytes (t .n) (t .origin) (t .wanted) in
     let rest : List ℕ = records-bytes none (t .arcs) in
     let sum : 0 + length head + length rest ≡ length (head ++ rest) = omega (arith, length-append head rest) in
     rw (
-      header-again (t .n) (t .origin) (t .wanted) 0 rest (w .some) (w .nodes) (w .origin-fits) (w .wanted-few) (w .wanted-fit),
+      header-again (t .n) (t .origin) (t .wanted) 0 rest (w .header),
       records-again most-arcs none (t .arcs) (0 + length head) (w .arcs-few) (w .arcs-fit),
       sum,
+    )
+
+pub long-files-are-refused : Long-files-are-refused
+unfolding read-file read-content _>>=_ and-then give file-bytes
+long-files-are-refused t w small many =
+    let head : List ℕ = header-bytes (t .n) (t .origin) (t .wanted) in
+    rw (
+      header-again (t .n) (t .origin) (t .wanted) 0 (records-bytes none (t .arcs)) w,
+      records-refused most-arcs none (t .arcs) (0 + length head) many small,
     )

@@ -10,14 +10,41 @@
 use mathlib.Core.Bool.{Bool, true, _&&_, not, cond}
 use mathlib.Core.List.{List, [], _∷_, _++_, map}
 use mathlib.Core.Option.{Option, none, some}
-use Prim.Native.Nat.{ℕ, zero, suc, _+_, _/_, _%_}
+use Prim.Native.Nat.{ℕ, zero, suc, _+_, _*_, _/_, _%_, _^_}
 use lib.Dec.{eqb}
 use lib.ListN.{length}
-use Rattle.table.specs.Table.{Arc}
+use Rattle.table.specs.Table.{Arc, most-arcs, most-wanted}
 
--- the highest head that 16 bits hold
+-- the bytes of a bit map, of a node number or a count, and of a length
+abbrev pub map-width : ℕ
+map-width = 1
+
+abbrev pub node-width : ℕ
+node-width = 2
+
+abbrev pub length-width : ℕ
+length-width = 4
+
+-- a byte, and a number of so many bytes, is below a limit
+abbrev pub byte-limit : ℕ
+byte-limit = 256
+
+abbrev pub limit : (width : ℕ) → ℕ
+limit w = byte-limit ^ w
+
+-- the highest head, which is what a node's bytes hold
 abbrev pub last-head : ℕ
 last-head = 65535
+
+-- the most bytes of a header, of a record and of a file: every field stands, and there are as many wanted nodes and arcs as there may be
+abbrev pub most-header : ℕ
+most-header = map-width + node-width + node-width + node-width + node-width * most-wanted
+
+abbrev pub most-record : ℕ
+most-record = map-width + node-width + node-width + length-width
+
+abbrev pub most-file : ℕ
+most-file = most-header + most-record * most-arcs
 
 -- what a link file holds
 pub record Content : Type 0 where
@@ -42,7 +69,7 @@ lengths-of arcs = map (λ (a : Arc). a .arc-length) arcs
 -- a number in so many bytes, the lowest first
 unfoldable pub bytes : (width value : ℕ) → List ℕ
 bytes zero v = []
-bytes (suc w) v = v % 256 ∷ bytes w (v / 256)
+bytes (suc w) v = v % byte-limit ∷ bytes w (v / byte-limit)
 
 -- the bit map of three fields, of weight 1, 2 and 4; whether the field of a weight stands in a bit map
 unfoldable pub bit-map : (first second third : Bool) → ℕ
@@ -73,15 +100,15 @@ header-bits n o ws = bit-map true (not (eqb o 0)) (not (all-nodes n ws))
 
 unfoldable pub nodes-bytes : List ℕ → List ℕ
 nodes-bytes [] = []
-nodes-bytes (w ∷ ws) = bytes 2 w ++ nodes-bytes ws
+nodes-bytes (w ∷ ws) = bytes node-width w ++ nodes-bytes ws
 
 unfoldable pub wanted-bytes : (stands : Bool) → List ℕ → List ℕ
-wanted-bytes stands ws = cond stands (bytes 2 (length ws) ++ nodes-bytes ws) []
+wanted-bytes stands ws = cond stands (bytes node-width (length ws) ++ nodes-bytes ws) []
 
 unfoldable pub header-bytes : (n origin : ℕ) → (wanted : List ℕ) → List ℕ
 header-bytes n o ws =
     let bits = header-bits n o ws in
-    bits ∷ (bytes 2 n ++ (field-bytes (has 2 bits) 2 o ++ wanted-bytes (has 4 bits) ws))
+    bits ∷ (bytes node-width n ++ (field-bytes (has 2 bits) node-width o ++ wanted-bytes (has 4 bits) ws))
 
 -- the canonical bit map of an arc's record, given the arc of the record before it, and the record's bytes. After a head of 65535 the head always
 -- stands, since no head is 65536
@@ -92,7 +119,8 @@ record-bits (some p) a =
 
 unfoldable pub fields-bytes : (bits : ℕ) → Arc → List ℕ
 fields-bytes bits a =
-    field-bytes (has 1 bits) 2 (a .tail) ++ (field-bytes (has 2 bits) 2 (a .head) ++ field-bytes (has 4 bits) 4 (a .arc-length))
+    field-bytes (has 1 bits) node-width (a .tail)
+    ++ (field-bytes (has 2 bits) node-width (a .head) ++ field-bytes (has 4 bits) length-width (a .arc-length))
 
 unfoldable pub record-bytes : (before : Option Arc) → Arc → List ℕ
 record-bytes before a = record-bits before a ∷ fields-bytes (record-bits before a) a

@@ -7,36 +7,45 @@ use Prim.Native.Nat.{ℕ, _+_, _≤_, _<_}
 use lib.Dec.{eqb}
 use lib.ListN.{length}
 use Rattle.table.specs.Table.{Arc, Below, most-nodes, most-arcs, most-wanted}
-use Rattle.link_format.specs.Format.{Content, has, all-nodes, header-bits, record-bits, file-bytes}
-use Rattle.link_format.specs.Reading.{got, forbidden, implied, read-file}
+use Rattle.link_format.specs.Format.{Content, byte-limit, node-width, length-width, limit, has, all-nodes, header-bits, record-bits, file-bytes}
+use Rattle.link_format.specs.Reading.{got, refused, forbidden-header, forbidden, implied, read-file}
 
 -- Every file that the reader accepts is what the writer makes of what was read.
 abbrev pub Accepted-files-write-back : Type 0
 Accepted-files-write-back =
-    (file : List ℕ) (t : Content) (next : ℕ) (rest : List ℕ) → Below 256 file → read-file file ≡ got t next rest → file-bytes t ≡ file
+    (file : List ℕ) (t : Content) (next : ℕ) (rest : List ℕ) → Below byte-limit file → read-file file ≡ got t next rest → file-bytes t ≡ file
 
--- An arc, and a content, as 16- and 32-bit columns hold them: tails, heads and wanted nodes need not be below n, nor a length above 0.
+-- An arc, and a content, as columns of 16 and 32 bits hold them: tails, heads and wanted nodes need not be below n, nor a length above 0.
 pub record Small-arc (a : Arc) : Type 0 where
-  pub tail-fits : a .tail < 65536
-  pub head-fits : a .head < 65536
-  pub length-fits : a .arc-length < 4294967296
+  pub tail-fits : a .tail < limit node-width
+  pub head-fits : a .head < limit node-width
+  pub length-fits : a .arc-length < limit length-width
 
 unfoldable pub Small-arcs : List Arc → Type 0
 Small-arcs [] = Unit {0}
 Small-arcs (a ∷ more) = Small-arc a × Small-arcs more
 
+pub record Writable-header (n origin : ℕ) (wanted : List ℕ) : Type 0 where
+  pub some : 0 < n
+  pub nodes : n ≤ most-nodes
+  pub origin-fits : origin < limit node-width
+  pub wanted-few : length wanted ≤ most-wanted
+  pub wanted-fit : Below (limit node-width) wanted
+
 pub record Writable (t : Content) : Type 0 where
-  pub some : 0 < t .n
-  pub nodes : t .n ≤ most-nodes
-  pub origin-fits : t .origin < 65536
-  pub wanted-few : length (t .wanted) ≤ most-wanted
-  pub wanted-fit : Below 65536 (t .wanted)
+  pub header : Writable-header (t .n) (t .origin) (t .wanted)
   pub arcs-few : length (t .arcs) ≤ most-arcs
   pub arcs-fit : Small-arcs (t .arcs)
 
 -- Every table that the writer accepts is read back as it was.
 abbrev pub Written-tables-read-back : Type 0
 Written-tables-read-back = (t : Content) → Writable t → read-file (file-bytes t) ≡ got t (length (file-bytes t)) []
+
+-- A file with more than 6,000 records, whatever arcs they say, is refused where record 6,001 begins.
+abbrev pub Long-files-are-refused : Type 0
+Long-files-are-refused =
+    (t : Content) → Writable-header (t .n) (t .origin) (t .wanted) → Small-arcs (t .arcs) → most-arcs < length (t .arcs)
+    → read-file (file-bytes t) ≡ refused 2 most-arcs
 
 -- Rule 12 in 01's words: a field stands that says what its absence would say. Where the fields that are absent say that, and the bit map is
 -- allowed, this is the same as a bit map that is not the canonical one.
@@ -61,5 +70,5 @@ needless-header bits n o ws = (has 2 bits && eqb o 0) || (has 4 bits && all-node
 
 abbrev pub Needless-header-is-not-canonical : Type 0
 Needless-header-is-not-canonical =
-    (bits n o : ℕ) (ws : List ℕ) → bits ≤ 7 → has 1 bits ≡ true → (has 2 bits ≡ false → o ≡ 0) → (has 4 bits ≡ false → all-nodes n ws ≡ true)
+    (bits n o : ℕ) (ws : List ℕ) → forbidden-header bits ≡ false → (has 2 bits ≡ false → o ≡ 0) → (has 4 bits ≡ false → all-nodes n ws ≡ true)
     → needless-header bits n o ws ≡ not (eqb bits (header-bits n o ws))

@@ -11,7 +11,7 @@ use lib.Dec.{eqb, ltb, leb}
 use lib.ListN.{length, drop}
 use Rattle.table.specs.Refusals.{count-bad}
 use Rattle.table.specs.Table.{Arc, arc, most-arcs, most-wanted}
-use Rattle.link_format.specs.Format.{Content, content, last-head, has, count-up, header-bits, record-bits}
+use Rattle.link_format.specs.Format.{Content, content, map-width, node-width, length-width, byte-limit, last-head, has, count-up, header-bits, record-bits}
 
 pub data Outcome (A : Type 0) : Type 0 where
   got : (value : A) → (next : ℕ) → (rest : List ℕ) → Outcome A
@@ -30,15 +30,15 @@ list-got (got xs at rest) = xs
 list-got (refused n p) = []
 
 -- what follows a reader: it goes on where that one got a value
-unfoldable pub after : {A B : Type 0} → Outcome A → (A → Reader B) → Outcome B
-after (got a at rest) f = f a at rest
-after (refused n p) f = refused n p
+unfoldable pub and-then : {A B : Type 0} → Outcome A → (A → Reader B) → Outcome B
+and-then (got a at rest) f = f a at rest
+and-then (refused n p) f = refused n p
 
 unfoldable pub _>>=_ : {A B : Type 0} → Reader A → (A → Reader B) → Reader B
-_>>=_ m f = λ at rest. after (m at rest) f
+_>>=_ m f = λ at rest. and-then (m at rest) f
 
 unfoldable pub _>>_ : {A B : Type 0} → Reader A → Reader B → Reader B
-_>>_ m k = λ at rest. after (m at rest) (λ _. k)
+_>>_ m k = λ at rest. and-then (m at rest) (λ _. k)
 
 unfoldable pub give : {A : Type 0} → A → Reader A
 give a = λ at rest. got a at rest
@@ -54,7 +54,7 @@ refuse-if bad n p = λ at rest. cond bad (refused n p) (got tt at rest)
 unfoldable pub number : (width : ℕ) → List ℕ → ℕ
 number zero bs = 0
 number (suc w) [] = 0
-number (suc w) (b ∷ bs) = number w bs * 256 + b
+number (suc w) (b ∷ bs) = number w bs * byte-limit + b
 
 -- a field of so many bytes. 9: the file is cut inside it, or before it; the place is the file's length
 unfoldable pub field : (width : ℕ) → Reader ℕ
@@ -68,7 +68,7 @@ optional stands w absent = cond stands (field w) (give absent)
 unfoldable pub read-nodes : (count : ℕ) → Reader (List ℕ)
 read-nodes zero = give []
 read-nodes (suc k) = do
-  w ← field 2
+  w ← field node-width
   ws ← read-nodes k
   give (w ∷ ws)
 
@@ -76,19 +76,23 @@ read-nodes (suc k) = do
 unfoldable pub read-wanted : (stands : Bool) → (n : ℕ) → Reader (List ℕ)
 read-wanted false n = give (count-up 0 n)
 read-wanted true n = do
-  count ← field 2
+  count ← field node-width
   refuse-if (ltb most-wanted count) 5 most-wanted
   read-nodes count
+
+-- the bit maps that a header may not have: bits 3 to 7, or no node count
+unfoldable pub forbidden-header : (bits : ℕ) → Bool
+forbidden-header bits = ltb 7 bits || not (has 1 bits)
 
 -- The header: 10 in its bit map, 9 in a field, 1 after the node count, 5 after the wanted count, 12 at its end. Its content has no arcs yet.
 unfoldable pub read-header : Reader Content
 read-header = do
   start ← here
-  bits ← field 1
-  refuse-if (ltb 7 bits || not (has 1 bits)) 10 start
-  n ← field 2
+  bits ← field map-width
+  refuse-if (forbidden-header bits) 10 start
+  n ← field node-width
   refuse-if (count-bad n) 1 0
-  origin ← optional (has 2 bits) 2 0
+  origin ← optional (has 2 bits) node-width 0
   wanted ← read-wanted (has 4 bits) n
   refuse-if (not (eqb bits (header-bits n origin wanted))) 12 start
   give (content n origin wanted [])
@@ -107,11 +111,11 @@ forbidden (some p) bits = ltb 7 bits
 unfoldable pub read-record : (before : Option Arc) → Reader Arc
 read-record before = do
   start ← here
-  bits ← field 1
+  bits ← field map-width
   refuse-if (forbidden before bits) 10 start
-  tail ← optional (has 1 bits) 2 (implied before .tail)
-  head ← optional (has 2 bits) 2 (implied before .head)
-  long ← optional (has 4 bits) 4 (implied before .arc-length)
+  tail ← optional (has 1 bits) node-width (implied before .tail)
+  head ← optional (has 2 bits) node-width (implied before .head)
+  long ← optional (has 4 bits) length-width (implied before .arc-length)
   refuse-if (ltb last-head head) 11 start
   refuse-if (not (eqb bits (record-bits before (arc tail head long)))) 12 start
   give (arc tail head long)
@@ -121,7 +125,7 @@ unfoldable pub read-records : (allowed : ℕ) → (before : Option Arc) → Read
 read-records zero before at [] = got [] at []
 read-records (suc k) before at [] = got [] at []
 read-records zero before at (b ∷ rest) = refused 2 most-arcs
-read-records (suc k) before at (b ∷ rest) = after (read-record before at (b ∷ rest)) λ a.
+read-records (suc k) before at (b ∷ rest) = and-then (read-record before at (b ∷ rest)) λ a.
     do
       more ← read-records k (some a)
       give (a ∷ more)

@@ -1,10 +1,14 @@
 -- The files of document 01 and of its table of grounds, as rows of one result. Assumes nothing: this is a statement.
 use mathlib.Core.List.{List, [], _∷_}
+use mathlib.Core.Option.{Option}
 use mathlib.Core.Path.{_≡_}
 use Prim.Native.Nat.{ℕ}
-use Rattle.table.specs.Table.{arc}
+use lib.ListN.{replicate}
+use Rattle.table.specs.Refusals.{refusal, no-refusal}
+use Rattle.table.specs.Table.{Arc, arc}
+use Rattle.link_format.specs.Buffers.{writing}
 use Rattle.link_format.specs.Format.{Content, content, file-bytes}
-use Rattle.link_format.specs.Reading.{got, refused, read-file}
+use Rattle.link_format.specs.Reading.{got, refused, read-records, read-file}
 
 -- 01's input of `routes`: 05 0400 0100 0300; 07 0000 0100 02000000; 04 05000000; 07 0100 0200 03000000; 05 0200 01000000; 07 0100 0300 09000000
 abbrev pub example-file : List ℕ
@@ -27,12 +31,14 @@ pub record Rows : Type 0 where
   pub empty : read-file [] ≡ refused 9 0
   pub cut : read-file (1 ∷ []) ≡ refused 9 1
   pub cut-record : read-file (1 ∷ 1 ∷ 0 ∷ 7 ∷ 0 ∷ 0 ∷ 0 ∷ 0 ∷ 5 ∷ 0 ∷ []) ≡ refused 9 10
-  -- 10: no node count; a forbidden bit, before the fields are looked at; a first record without its length
+  -- 10: no node count; a forbidden bit, before the fields are looked at, also beside the node count; a first record without its length
   pub no-count : read-file (2 ∷ []) ≡ refused 10 0
   pub forbidden-bit : read-file (8 ∷ []) ≡ refused 10 0
+  pub forbidden-beside : read-file (9 ∷ []) ≡ refused 10 0
   pub first-incomplete : read-file (1 ∷ 1 ∷ 0 ∷ 3 ∷ []) ≡ refused 10 3
-  -- 1: no nodes; 5: 1,025 wanted nodes, also where the file ends there
+  -- 1: no nodes, also where the file is cut right after the node count, in front of an origin. 5: 1,025 wanted nodes, also where the file ends there
   pub no-nodes : read-file (1 ∷ 0 ∷ 0 ∷ []) ≡ refused 1 0
+  pub no-nodes-cut : read-file (3 ∷ 0 ∷ 0 ∷ []) ≡ refused 1 0
   pub many-wanted : read-file (5 ∷ 1 ∷ 0 ∷ 1 ∷ 4 ∷ []) ≡ refused 5 1024
   -- 11: an implied head after 65535, also where the tail is needless; a head that is written there is not
   pub head-too-high : read-file (1 ∷ 1 ∷ 0 ∷ 7 ∷ 1 ∷ 0 ∷ 255 ∷ 255 ∷ 1 ∷ 0 ∷ 0 ∷ 0 ∷ 1 ∷ 1 ∷ 0 ∷ []) ≡ refused 11 12
@@ -43,3 +49,11 @@ pub record Rows : Type 0 where
   pub wanted-needless : read-file (5 ∷ 2 ∷ 0 ∷ 2 ∷ 0 ∷ 0 ∷ 0 ∷ 1 ∷ 0 ∷ []) ≡ refused 12 0
   pub tail-needless : read-file (1 ∷ 1 ∷ 0 ∷ 7 ∷ 1 ∷ 0 ∷ 2 ∷ 0 ∷ 1 ∷ 0 ∷ 0 ∷ 0 ∷ 1 ∷ 1 ∷ 0 ∷ []) ≡ refused 12 12
   pub wanted-empty : read-file (5 ∷ 2 ∷ 0 ∷ 0 ∷ 0 ∷ []) ≡ got (content 2 0 [] []) 5 []
+  -- 2: where record 6,001 begins, none is allowed any more, whatever it says
+  pub record-6001 : (before : Option Arc) (at b : ℕ) (rest : List ℕ) → read-records 0 before at (b ∷ rest) ≡ refused 2 6000
+  -- the writer tests 1, 2, 5 and 13 in this order: each of the first four has every fault of those below it
+  pub write-no-nodes : writing 0 0 (0 ∷ []) [] [] (replicate 1025 0) 0 ≡ refusal 1 0
+  pub write-columns : writing 1 0 (0 ∷ []) [] [] (replicate 1025 0) 0 ≡ refusal 2 0
+  pub write-wanted : writing 1 0 [] [] [] (replicate 1025 0) 0 ≡ refusal 5 1024
+  pub write-short : writing 1 0 [] [] [] [] 4 ≡ refusal 13 0
+  pub write-just-room : writing 1 0 [] [] [] [] 5 ≡ no-refusal

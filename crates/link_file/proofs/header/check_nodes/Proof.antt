@@ -4,8 +4,8 @@ use native.Mathlib.Omega.{arith}
 use borrow.Author.Needs.{needs}
 use Rattle.link_format.specs.Reading.{field}
 use Rattle.link_file.specs.Says.{Nodes-says, Got}
-use Rattle.link_file.proofs.Nodes.{Checking, checking-begins, checking-next, checking-done}
-use Rattle.link_file.proofs.Parts.{field-value, as-got, as-ends}
+use Rattle.link_file.proofs.fields.Parts.{field-value, as-got, as-cut}
+use Rattle.link_file.proofs.header.Nodes.{Checking, checking-begins, checking-next, checking-done}
 use Rattle.link_file.proofs.header.check_nodes.Statement.{statement}
 use Rattle.link_file.proofs.header.check_nodes.Tie as tie
 
@@ -36,7 +36,7 @@ returns : tie.Need-returns Inv-loop μ-loop
 unfolding Nodes-says
 returns c =
     let l = c .before .before .before .before in
-    omega (arith, as-ends 65536 (c .enum-told .given .1) (c .before .before .read-field .ensures) .near, l .loop .inv .along .here, c .before .before .before .loop-test .taken)
+    omega (arith, as-cut 65536 (c .enum-told .given .1) (c .before .before .read-field .ensures) .near, l .loop .inv .along .here, c .before .before .before .loop-test .taken)
 
 both-requires : tie.Need-both-requires Inv-loop μ-loop
 both-requires c κs = search needs

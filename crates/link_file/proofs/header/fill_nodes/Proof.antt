@@ -4,8 +4,8 @@ use native.Mathlib.Omega.{arith}
 use borrow.Author.Needs.{needs}
 use Rattle.link_format.specs.Reading.{field}
 use Rattle.link_file.specs.Says.{Got}
-use Rattle.link_file.proofs.Nodes.{Filling-nodes, nodes-begin, nodes-next, nodes-done}
-use Rattle.link_file.proofs.Parts.{field-value, as-got, as-ends}
+use Rattle.link_file.proofs.header.Nodes.{nodes-begin, nodes-next, Filling-nodes, nodes-done}
+use Rattle.link_file.proofs.fields.Parts.{field-value, as-got, as-cut}
 use Rattle.link_file.proofs.header.fill_nodes.Statement.{statement}
 use Rattle.link_file.proofs.header.fill_nodes.Tie as tie
 
@@ -40,7 +40,7 @@ returns c =
     let l = c .before .before .before .before in
     absurd (omega (
       arith,
-      as-ends 65536 (c .enum-told .given .1) (c .before .before .read-field .ensures) .near,
+      as-cut 65536 (c .enum-told .given .1) (c .before .before .read-field .ensures) .near,
       l .loop .inv .along .here,
       c .before .before .before .loop-test .taken,
       l .before .before .before .pre .0,
@@ -48,9 +48,6 @@ returns c =
 
 cast-wanted : tie.Need-cast-wanted Inv-loop μ-loop
 cast-wanted c = record { fits = node (c .before) .small }
-
-cast-wanted-2 : tie.Need-cast-wanted-2 Inv-loop μ-loop
-cast-wanted-2 c = omega arith
 
 mul-wanted : tie.Need-mul-wanted Inv-loop μ-loop
 mul-wanted c = omega arith
@@ -90,7 +87,6 @@ fill-nodes-spec =
     same-length
     returns
     cast-wanted
-    cast-wanted-2
     mul-wanted
     slice-write-wanted
     add-i

@@ -6,9 +6,6 @@ use Rattle.link_file.specs.Says.{wanted-in}
 use Rattle.link_file.proofs.header.fill_wanted.Statement.{statement}
 use Rattle.link_file.proofs.header.fill_wanted.Tie as tie
 
-cast-from : tie.Need-cast-from
-cast-from c = search needs
-
 mul-from : tie.Need-mul-from
 mul-from c = search needs
 
@@ -41,7 +38,6 @@ pub fill-wanted-spec : {M : Type 1} → statement M
 fill-wanted-spec =
     tie.close
     (tie.spec
-    cast-from
     mul-from
     sub-from
     fill-nodes-requires

@@ -3,7 +3,7 @@ use borrow.Author.Needs.{needs}
 use mathlib.Core.Bool.{Bool, cond}
 use mathlib.Core.Path.{ap, _∙_}
 use Prim.Native.Nat.{_+_, _*_}
-use Rattle.link_file.proofs.HeaderBytes.{header-sized}
+use Rattle.link_file.proofs.writer.HeaderBytes.{header-sized}
 use Rattle.link_file.proofs.writer.header_size.Statement.{statement}
 use Rattle.link_file.proofs.writer.header_size.Tie as tie
 
@@ -31,6 +31,9 @@ add-result c = search needs
 add-result-2 : tie.Need-add-result-2
 add-result-2 c = search needs
 
+add-result-3 : tie.Need-add-result-3
+add-result-3 c = search needs
+
 returns : tie.Need-returns
 returns c =
     header-sized _ _ _ _
@@ -50,4 +53,5 @@ header-size-spec =
     field-size-requires-2
     add-result
     add-result-2
+    add-result-3
     returns)

@@ -3,7 +3,7 @@ use borrow.Author.Needs.{needs}
 use mathlib.Core.Bool.{Bool, cond}
 use mathlib.Core.Path.{ap, _∙_}
 use native.Mathlib.Omega.{arith}
-use Rattle.link_file.proofs.Sizes.{sized}
+use Rattle.link_file.proofs.writer.Sizes.{sized}
 use Rattle.link_file.proofs.writer.record_size.Statement.{statement}
 use Rattle.link_file.proofs.writer.record_size.Tie as tie
 

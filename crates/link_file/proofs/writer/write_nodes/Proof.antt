@@ -3,7 +3,7 @@ use Prim.Native.Nat.{_-_}
 use native.Mathlib.Omega.{arith}
 use borrow.Author.Needs.{needs}
 use lib.ListN.{length}
-use Rattle.link_file.proofs.HeaderBytes.{Writing-nodes, nodes-begin, node-room, nodes-next, nodes-put}
+use Rattle.link_file.proofs.writer.HeaderBytes.{nodes-begin, nodes-next, Writing-nodes, node-room, nodes-put}
 use Rattle.link_file.proofs.writer.write_nodes.Statement.{statement}
 use Rattle.link_file.proofs.writer.write_nodes.Tie as tie
 

@@ -6,16 +6,13 @@ use denote.Ref.{now}
 use lib.ListN.{length}
 use Rattle.link_format.specs.Format.{bytes, nodes-bytes}
 use Rattle.link_format.proofs.Numbers.{length-bytes}
-use Rattle.link_file.proofs.HeaderBytes.{list-room, list-put, list-absent}
-use Rattle.link_file.proofs.Pieces.{put-then, room-first, room-rest}
+use Rattle.link_file.proofs.writer.HeaderBytes.{list-room, list-put, list-absent}
+use Rattle.link_file.proofs.writer.Pieces.{put-then, room-first, room-rest}
 use Rattle.link_file.proofs.writer.write_wanted.Statement.{statement}
 use Rattle.link_file.proofs.writer.write_wanted.Tie as tie
 
 returns : tie.Need-returns
 returns c = let s = c .before .before .before in list-absent _ _ _ (not-true (s .args .stands) (c .if1 .taken))
-
-cast-put-field : tie.Need-cast-put-field
-cast-put-field c = search needs
 
 put-field-requires : tie.Need-put-field-requires
 put-field-requires c κs =
@@ -46,4 +43,4 @@ returns-2 c =
 pub write-wanted-spec : {M : Type 1} → statement M
 write-wanted-spec =
     tie.close
-    (tie.spec returns cast-put-field put-field-requires write-nodes-requires same-length returns-2)
+    (tie.spec returns put-field-requires write-nodes-requires same-length returns-2)

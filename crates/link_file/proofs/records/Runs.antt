@@ -8,12 +8,14 @@ use native.Mathlib.Omega.{arith}
 use lib.ListN.{length, take, drop, length-drop, drop-of-length-le}
 use lib.Seq.{take-all, drop-drop}
 use Rattle.table.specs.Table.{Arc, most-arcs}
-use Rattle.link_format.specs.Reading.{Outcome, got, refused, after, give, read-record, read-records}
+use Rattle.link_format.specs.Reading.{Outcome, got, refused, and-then, give, read-record, read-records}
+use Rattle.link_format.proofs.Records.{in-front, records-more, records-full, records-none}
 use Rattle.link_file.specs.Says.{Record-got, Record-says, arc-of, tally}
 use Rattle.link_file.specs.declared.arcs.Arc as Code
 use Rattle.link_file.specs.declared.records.RecordRead.{RecordRead}
 use Rattle.link_file.specs.declared.records.RecordRead.the-variants.{Record, Refused}
-use Rattle.link_format.proofs.Records.{then, records-more, records-full, records-none}
+use Rattle.link_format.specs.Format.{most-record, most-header}
+use Rattle.table.specs.declared.Refusal.{Refusal}
 
 -- the part of a file from an offset on
 pub part-is : (file : List ℕ) (at : ℕ) → take (length file - at) (drop at file) ≡ drop at file
@@ -41,27 +43,27 @@ module _ (file : List ℕ) (at count : ℕ) (before : Option Arc) where
       one-less = omega arith
 
       pub run-refused : {n p : ℕ} → read-record before at (drop at file) ≡ refused n p → remaining file at count before ≡ refused n p
-      unfolding after
+      unfolding and-then
       run-refused e = rw one-less (records-more (most-arcs - (count + 1)) before at (drop at file) left ∙ rw e)
 
       pub run-more : {a : Arc} {next : ℕ} → Record-got before (drop at file) at a next
-          → remaining file at count before ≡ then a (remaining file next (count + 1) (some a))
-      unfolding after
+          → remaining file at count before ≡ in-front a (remaining file next (count + 1) (some a))
+      unfolding and-then
       run-more {a} {next} r =
           let there : at + (next - at) ≡ next = omega (arith, r .on) in
           rw one-less (records-more (most-arcs - (count + 1)) before at (drop at file) left ∙ rw (r .is, drop-drop (next - at) at file, there))
 
 -- the count of one record more
-pub tally-more : (k : ℕ) (a : Arc) (o : Outcome (List Arc)) → tally k (then a o) ≡ tally (k + 1) o
-unfolding after give tally
+pub tally-more : (k : ℕ) (a : Arc) (o : Outcome (List Arc)) → tally k (in-front a o) ≡ tally (k + 1) o
+unfolding and-then give tally
 tally-more k a (got more next rest) = let e : k + suc (length more) ≡ k + 1 + length more = omega arith in rw e
 tally-more k a (refused n p) = refl
 
--- Where both passes stand: inside the file, after at most 6,000 records of at most 9 bytes behind a header of at most 2,055.
+-- Where both passes stand: inside the file, after so many records behind a header.
 pub record Standing (file : List ℕ) (at count : ℕ) : Type 0 where
   pub inside : at ≤ length file
   pub few : count ≤ most-arcs
-  pub short : at ≤ 2055 + 9 * count
+  pub short : at ≤ most-header + most-record * count
 
 pub standing-next : {file : List ℕ} {at count : ℕ} → Standing file at count → (before : Option Arc) (a : Arc) (next : ℕ) → count < most-arcs
     → Record-got before (drop at file) at a next → Standing file next (count + 1)
@@ -78,6 +80,6 @@ module _ (file : List ℕ) (at : ℕ) (before : Option Arc) (r : RecordRead) (sa
   unfolding Record-says
   answer-record e = rw (e, part-is file at) at says
 
-  pub answer-refused : {n p : ℕ} → r ≡ Refused n p → read-record before at (drop at file) ≡ refused n p
+  pub answer-refused : {f : Refusal} → r ≡ Refused f → read-record before at (drop at file) ≡ refused (f .number) (f .place)
   unfolding Record-says
   answer-refused e = rw (e, part-is file at) at says

@@ -14,8 +14,8 @@ use Rattle.link_format.specs.Format.{bytes, has, field-bytes, counts-from, all-
 use Rattle.link_format.proofs.Numbers.{length-bytes}
 use Rattle.link_file.specs.Says.{Put, Header-sized}
 use Rattle.link_file.proofs.Columns.{Column, column-begins, column-piece}
-use Rattle.link_file.proofs.Pieces.{put-byte, put-then, room-first, room-rest}
-use Rattle.link_file.proofs.Sizes.{length-field}
+use Rattle.link_file.proofs.writer.Pieces.{put-byte, put-then, room-first, room-rest}
+use Rattle.link_file.proofs.writer.Sizes.{length-field}
 
 pub length-nodes : (ws : List ℕ) → length (nodes-bytes ws) ≡ 2 * length ws
 unfolding nodes-bytes bytes

@@ -12,7 +12,7 @@ use lib.ListN.{length, drop, set, length-drop}
 use lib.Seq.{drop-drop, sets}
 use borrow.Author.Tests.{le-leb, lt-leb}
 use Rattle.link_format.specs.Format.{count-up, counts-from}
-use Rattle.link_format.specs.Reading.{_>>=_, got, refused, after, give, field, number, read-nodes}
+use Rattle.link_format.specs.Reading.{_>>=_, got, refused, and-then, give, field, number, read-nodes}
 use Rattle.link_file.specs.Says.{nodes-in, Nodes-got, Nodes-says}
 use Rattle.link_file.proofs.Columns.{Column, column-begins, column-next}
 use Rattle.link_file.specs.declared.header.NodesRead.{NodesRead}
@@ -21,7 +21,7 @@ use Rattle.table.proofs.Basics.{and-assoc, and-true}
 
 -- the reader, where all nodes are there
 pub nodes-read : (k at : ℕ) (rest : List ℕ) → 2 * k ≤ length rest → read-nodes k at rest ≡ got (nodes-in k rest) (at + 2 * k) (drop (2 * k) rest)
-unfolding read-nodes nodes-in give _>>=_ after field
+unfolding read-nodes nodes-in give _>>=_ and-then field
 nodes-read zero at rest h = rw (add-zero at)
 nodes-read (suc k) at rest h =
     let left : 2 * k ≤ length (drop 2 rest) = rw (length-drop 2 rest) (omega arith) in
@@ -31,7 +31,7 @@ nodes-read (suc k) at rest h =
 
 -- and where they are not
 pub nodes-cut : (k at : ℕ) (rest : List ℕ) → length rest < 2 * k → read-nodes k at rest ≡ refused 9 (at + length rest)
-unfolding read-nodes _>>=_ after field
+unfolding read-nodes _>>=_ and-then field
 nodes-cut zero at rest h = absurd (omega arith)
 nodes-cut (suc k) at rest h =
     elim (decLt (length rest) 2) [
