@@ -1,5 +1,5 @@
-// The link file of a table: reader and writer. specs/Format.antt says what bytes a table has, specs/Reading.antt what reading bytes gives, and
-// specs/Entries.antt what the two entries answer.
+// The link file of a table: reader and writer. Crate `link_format` says what bytes a table has and what reading bytes gives; specs/Entries.antt says
+// what the two entries answer.
 mod arcs;
 mod fields;
 mod header;
@@ -93,7 +93,8 @@ pub fn read_link_file(
     lengths: &mut [u32],
     wanted: &mut [u16],
 ) -> TableRead
-    ensures { λ r. ⌜ Read-says (now (file .entry)) (now (tails .entry)) (now (heads .entry)) (now (lengths .entry)) (now (wanted .entry)) (now (tails .exit)) (now (heads .exit)) (now (lengths .exit)) (now (wanted .exit)) r ⌝ }
+    ensures { λ r. ⌜ Read-says (now (file .entry)) (now (tails .entry)) (now (heads .entry)) (now (lengths .entry)) (now (wanted .entry))
+        (now (tails .exit)) (now (heads .exit)) (now (lengths .exit)) (now (wanted .exit)) r ⌝ }
 {
     if short(tails.len(), heads.len(), lengths.len(), wanted.len()) {
         return not_read(refuse(Refusal::BUFFERS, 0));
@@ -135,7 +136,8 @@ pub fn write_link_file(
     wanted: &[u16],
     output: &mut [u8],
 ) -> Written
-    ensures { λ r. ⌜ Write-says n origin (now (tails .entry)) (now (heads .entry)) (now (lengths .entry)) (now (wanted .entry)) (now (output .entry)) (now (output .exit)) r ⌝ }
+    ensures { λ r. ⌜ Write-says n origin (now (tails .entry)) (now (heads .entry)) (now (lengths .entry)) (now (wanted .entry)) (now (output .entry))
+        (now (output .exit)) r ⌝ }
 {
     let n = n as usize;
     if table::bad_count(n) {

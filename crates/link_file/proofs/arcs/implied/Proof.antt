@@ -34,10 +34,10 @@ returns c = record { is = rw (c .enum-told .given .1); tail-fits = omega arith; 
 returns-2 : tie.Need-returns-2
 unfolding implied arc-before arc-of arc
 returns-2 c =
-    let p = c .before .before .before .before .previous .given in
-    let first = c .before .before .wide .ensures in
-    let e : c .before .before .before .before .before .before .args .previous ≡ Record (p .0 .0) = p .1 in
-    record { is = rw (e, first .0, c .before .wide2 .ensures .0); tail-fits = first .1; length-fits = search needs }
+    let first = c .before .before in
+    let p = first .before .before in
+    let e : p .before .before .args .previous ≡ Record (p .previous .given .0 .0) = p .previous .given .1 in
+    record { is = rw (e, first .wide .ensures .0, c .before .wide2 .ensures .0); tail-fits = first .wide .ensures .1; length-fits = search needs }
 
 pub implied-spec : {M : Type 1} → statement M
 implied-spec =

@@ -44,12 +44,14 @@ value-of-requires c κs = search needs
 
 add-value : tie.Need-add-value Inv-loop μ-loop
 add-value c =
-    let s = c .before .before .before .before .before in
+    let t = c .before .before in
+    let l = t .before in
+    let s = l .before .before in
     omega (
       arith,
       c .value-of .ensures,
-      c .before .shared-slice-known2 .given (s .before .args .from + (c .before .before .before .loop .left - 1)),
-      passed-small (c .before .before .before .loop .inv) (c .before .before .loop-test .taken) (s .before .pre .1) (column-below w8 _ (s .shared-slice-known .given)),
+      c .before .shared-slice-known2 .given (s .before .args .from + (l .loop .left - 1)),
+      passed-small (l .loop .inv) (t .loop-test .taken) (s .before .pre .1) (column-below w8 _ (s .shared-slice-known .given)),
     )
 
 loop-less : tie.Need-loop-less Inv-loop μ-loop
@@ -57,9 +59,9 @@ loop-less c = omega arith
 
 loop-again : tie.Need-loop-again Inv-loop μ-loop
 loop-again c =
-    let l = c .before .before .before .loop in
-    let s = c .before .before .before .before .before .before in
-    rw (c .value-of .ensures) (passed-next (l .inv) (c .before .before .loop-test .taken) (s .pre .0) (omega arith))
+    let t = c .before .before in
+    let l = t .before in
+    rw (c .value-of .ensures) (passed-next (l .loop .inv) (t .loop-test .taken) (l .before .before .before .pre .0) (omega arith))
 
 add-t6 : tie.Need-add-t6 Inv-loop μ-loop
 add-t6 c = search needs

@@ -36,10 +36,12 @@ add-result-3 c = search needs
 
 returns : tie.Need-returns
 returns c =
+    let o = c .before .before in
+    let s = o .before .before in
     header-sized _ _ _ _
-    (c .before .before .field-size .ensures .0 ∙ ap (λ (b : Bool). cond b 2 0) (c .before .before .before .stands .ensures)) (c .before .before .field-size .ensures .1)
-    (c .field-size2 .ensures .0 ∙ ap (λ (b : Bool). cond b (2 + 2 * c .before .before .before .before .args .wanted) 0) (c .before .stands2 .ensures)) (c .field-size2 .ensures .1)
-    (c .before .before .before .before .pre)
+    (o .field-size .ensures .0 ∙ ap (λ (b : Bool). cond b 2 0) (o .before .stands .ensures)) (o .field-size .ensures .1)
+    (c .field-size2 .ensures .0 ∙ ap (λ (b : Bool). cond b (2 + 2 * s .args .wanted) 0) (c .before .stands2 .ensures)) (c .field-size2 .ensures .1)
+    (s .pre)
 
 pub header-size-spec : {M : Type 1} → statement M
 header-size-spec =
