@@ -33,14 +33,17 @@ use Rattle.link_file.specs.declared.fields.Field.the-variants.{Value, Cu
 -- At an offset of a part of the file a reader gets this value and goes on at the next offset, wherever in the file the part begins.
 pub record Got (m : Reader ℕ) (part : List ℕ) (from width bound value next : ℕ) : Type 0 where
   pub is : (at : ℕ) → m (at + from) (drop from part) ≡ got value (at + next) (drop next part)
+  -- the next offset is behind this one, by at most the field's width, and inside the part
   pub on : from ≤ next
   pub near : next ≤ from + width
   pub inside : next ≤ length part
+  -- the value is below a bound
   pub small : value < bound
 
 -- The part ends inside a field of this width, which is refused at the file's length.
 pub record Cut-inside (m : Reader ℕ) (part : List ℕ) (from width : ℕ) : Type 0 where
   pub is : (at : ℕ) → m (at + from) (drop from part) ≡ refused 9 (at + length part)
+  -- the end is near, so that its offset is small
   pub near : length part < from + width
 
 unfoldable pub Field-says : Field → Reader ℕ → (part : List ℕ) → (from width bound : ℕ) → Type 0
@@ -74,6 +77,7 @@ first (some p) = false
 -- The record at the start of a part of the file gives this arc, and the next one begins at this offset of the file.
 pub record Record-got (before : Option Arc) (part : List ℕ) (at : ℕ) (a : Arc) (next : ℕ) : Type 0 where
   pub is : read-record before at part ≡ got a next (drop (next - at) part)
+  -- the next record is behind this one, by at most the longest record, and not behind the file's end
   pub on : at < next
   pub near : next ≤ at + most-record
   pub inside : next ≤ at + length part
@@ -96,9 +100,12 @@ arcs-from file start = list-got (records-from file start)
 
 -- The second pass may run: the first one accepted the records, and the columns have room.
 pub record Fillable (file : List ℕ) (start : ℕ) (tails heads lengths : List ℕ) : Type 0 where
+  -- the records begin inside the file, behind a header
   pub inside : start ≤ length file
   pub short : start ≤ most-header
+  -- all of them are good
   pub good : accepted (records-from file start) ≡ true
+  -- and each column is long enough
   pub tails-room : most-arcs ≤ length tails
   pub heads-room : most-arcs ≤ length heads
   pub lengths-room : most-arcs ≤ length lengths
@@ -110,8 +117,10 @@ nodes-in (suc k) bs = number node-width bs ∷ nodes-in k (drop node-width bs)
 
 -- a run of nodes at an offset of the file, read, and whether they count up from 0; or the file ends inside it
 pub record Nodes-got (file : List ℕ) (from count next : ℕ) (ascending : Bool) : Type 0 where
+  -- the next offset, behind all nodes and inside the file
   pub on : next ≡ from + node-width * count
   pub inside : next ≤ length file
+  -- whether they count up
   pub up : ascending ≡ counts-from 0 (nodes-in count (drop from file))
 
 unfoldable pub Nodes-says : NodesRead → (file : List ℕ) → (from count : ℕ) → Type 0
@@ -125,9 +134,12 @@ wanted-in file listed n count next = cond listed (nodes-in count (drop (next - n
 -- The wanted list was read: the count, the next offset, and whether it is all nodes ascending.
 pub record Wanted-got (file : List ℕ) (from : ℕ) (listed : Bool) (n count next : ℕ) (all : Bool) : Type 0 where
   pub is : read-wanted listed n (0 + from) (drop from file) ≡ got (wanted-in file listed n count next) (0 + next) (drop next file)
+  -- the count is the list's length, and not too high
   pub size : length (wanted-in file listed n count next) ≡ count
-  pub same : all ≡ all-nodes n (wanted-in file listed n count next)
   pub few : count ≤ most-wanted
+  -- whether it is all nodes
+  pub same : all ≡ all-nodes n (wanted-in file listed n count next)
+  -- the next offset is near and inside the file, and the nodes of a list fit in front of it
   pub near : next ≤ from + node-width + node-width * most-wanted
   pub inside : next ≤ length file
   pub room : listed ≡ true → node-width * count ≤ next
@@ -143,9 +155,12 @@ wanted-of file h = wanted-in file (h .listed) (h .n) (h .wanted) (h .next)
 -- The header was read.
 pub record Header-got (file : List ℕ) (h : Header) : Type 0 where
   pub is : read-header 0 file ≡ got (content (h .n) (h .origin) (wanted-of file h) []) (h .next) (drop (h .next) file)
+  -- the count of wanted nodes is the list's length
   pub size : length (wanted-of file h) ≡ h .wanted
+  -- both counts are in range
   pub nodes : h .n ≤ most-nodes
   pub few : h .wanted ≤ most-wanted
+  -- the first record is near and inside the file, and the nodes of a list fit in front of it
   pub short : h .next ≤ most-header
   pub inside : h .next ≤ length file
   pub room : h .listed ≡ true → node-width * h .wanted ≤ h .next
@@ -160,7 +175,9 @@ header-answer h k = record { number = 0; place = 0; n = h .n; origin = h .origin
 
 -- A piece of the file was put at an offset of the output.
 pub record Put (output : List ℕ) (at : ℕ) (piece : List ℕ) (next : ℕ) (output′ : List ℕ) : Type 0 where
+  -- the next offset is behind it
   pub on : next ≡ at + length piece
+  -- the rest of the output is as it was
   pub is : output′ ≡ sets output at piece
 
 -- the size of a record with a bit map, whatever its arc

@@ -51,7 +51,7 @@ pub record Rows : Type 0 where
   pub wanted-empty : read-file (5 ∷ 2 ∷ 0 ∷ 0 ∷ 0 ∷ []) ≡ got (content 2 0 [] []) 5 []
   -- 2: where record 6,001 begins, none is allowed any more, whatever it says
   pub record-6001 : (before : Option Arc) (at b : ℕ) (rest : List ℕ) → read-records 0 before at (b ∷ rest) ≡ refused 2 6000
-  -- the writer tests 1, 2, 5 and 13 in this order: each of the first four has every fault of those below it
+  -- the writer tests 1, 2, 5 and 13 in this order: each of the first three has every fault of those below it
   pub write-no-nodes : writing 0 0 (0 ∷ []) [] [] (replicate 1025 0) 0 ≡ refusal 1 0
   pub write-columns : writing 1 0 (0 ∷ []) [] [] (replicate 1025 0) 0 ≡ refusal 2 0
   pub write-wanted : writing 1 0 [] [] [] (replicate 1025 0) 0 ≡ refusal 5 1024

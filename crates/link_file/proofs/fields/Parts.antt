@@ -67,7 +67,9 @@ absent-got part from width absent bound fits small =
 
 -- The loop over a field's bytes, from the highest down: the value is the number in the bytes passed.
 pub record Passed (part : List ℕ) (from width value left : ℕ) : Type 0 where
+  -- so many bytes are left
   pub low : left ≤ width
+  -- those above them make the value
   pub is : value ≡ number (width - left) (drop (from + left) part)
 
 module _ {part : List ℕ} {from width value left : ℕ} where

@@ -59,7 +59,9 @@ module _ (file : List ℕ) (at i : ℕ) (before : Option Arc) (more : at < lengt
 -- Where the second pass stands.
 pub record Filling (file : List ℕ) (start : ℕ) (tails₀ heads₀ lengths₀ tails heads lengths : List ℕ) (at i : ℕ) (before : Option Arc) : Type 0 where
   pub stands : Standing file at i
+  -- what is left is good
   pub good : accepted (remaining file at i before) ≡ true
+  -- and stored from i on it gives each column with all arcs
   pub tails-left : Column tails₀ 0 (tails-of (arcs-from file start)) tails i (tails-of (list-got (remaining file at i before)))
   pub heads-left : Column heads₀ 0 (heads-of (arcs-from file start)) heads i (heads-of (list-got (remaining file at i before)))
   pub lengths-left : Column lengths₀ 0 (lengths-of (arcs-from file start)) lengths i (lengths-of (list-got (remaining file at i before)))

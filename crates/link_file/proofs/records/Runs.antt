@@ -63,6 +63,7 @@ tally-more k a (refused n p) = refl
 pub record Standing (file : List ℕ) (at count : ℕ) : Type 0 where
   pub inside : at ≤ length file
   pub few : count ≤ most-arcs
+  -- no record is longer than the longest, so that the offset stays small
   pub short : at ≤ most-header + most-record * count
 
 pub standing-next : {file : List ℕ} {at count : ℕ} → Standing file at count → (before : Option Arc) (a : Arc) (next : ℕ) → count < most-arcs
