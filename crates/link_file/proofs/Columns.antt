@@ -15,7 +15,9 @@ sets-append (x ∷ xs) ys l i = let e : suc i + length xs ≡ i + suc (length xs
 
 -- Of a list to be stored in a buffer from an index on, the elements that are left, stored from i on, give the buffer with all of them.
 pub record Column (first : List ℕ) (start : ℕ) (all buffer : List ℕ) (i : ℕ) (left : List ℕ) : Type 0 where
+  -- the buffer is as long as it was
   pub kept : length buffer ≡ length first
+  -- storing the rest makes it whole
   pub same : sets buffer i left ≡ sets first start all
 
 pub column-begins : (first : List ℕ) (start : ℕ) (all : List ℕ) → Column first start all first start all

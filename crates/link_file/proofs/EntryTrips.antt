@@ -7,18 +7,18 @@ use borrow.Author.Tests.{le-ltb}
 use lib.ListN.{length, take}
 use Rattle.table.specs.Refusals.{refusal, no-refusal}
 use Rattle.table.specs.Table.{Arc, arcs-of, Below, most-wanted}
-use Rattle.link_format.specs.Buffers.{over, reading, refusal-of, content-of, file-of, put-bytes}
+use Rattle.link_format.specs.Buffers.{no-content, over, reading, refusal-of, content-of, file-of, put-bytes}
 use Rattle.link_format.specs.Format.{Content, content, tails-of, heads-of, lengths-of}
 use Rattle.link_format.specs.Reading.{Outcome, got, refused, read-file}
+use Rattle.link_format.proofs.ArcColumns.{lengths-back, length-lengths, heads-back, length-heads, columns-equal, tails-back, length-tails, arcs-count}
 use Rattle.link_format.proofs.Counts.{few-nodes, equal-columns}
 use Rattle.link_format.proofs.Outcomes.{read-without-refusal, file-of-reading, reading-roomy}
 use Rattle.link_format.proofs.ReadThenWrite.{File-back, file-back}
+use Rattle.link_format.proofs.Unrefused.{read-of, is-accepted, start-of, file-of-content, unrefused, Unrefused}
 use Rattle.link_file.specs.Entries.{read-answer, Read-says, write-answer, Write-says}
 use Rattle.link_file.specs.Promises.{Table-there, Counts-fit, Write-then-read, Read-then-write, Answers-fit}
 use Rattle.link_file.specs.declared.TableRead.{TableRead}
 use Rattle.link_file.specs.declared.Written.{Written}
-use Rattle.link_format.proofs.Unrefused.{read-of, is-accepted, start-of, file-of-content, unrefused, Unrefused}
-use Rattle.link_format.proofs.ArcColumns.{lengths-back, length-lengths, heads-back, length-heads, columns-equal, tails-back, length-tails, arcs-count}
 
 -- what the writer leaves then: the file
 record File-there (n o : ℕ) (ts hs ls ws out out′ : List ℕ) (w : Written) : Type 0 where
@@ -110,7 +110,7 @@ read-then-write file ts hs ls ws ts′ hs′ ls′ ws′ r small says zero-numbe
 
 counts-fit : (file : List ℕ) (o : Outcome Content) → Below 256 file → ((t : Content) (at : ℕ) (rest : List ℕ) → o ≡ got t at rest → read-file file ≡ got t at rest)
     → Counts-fit (read-answer (refusal-of o) (content-of o))
-unfolding read-answer content-of content
+unfolding read-answer content-of no-content content
 counts-fit file (got t at rest) small read =
     let back = file-back file small (read t at rest refl) in
     record {

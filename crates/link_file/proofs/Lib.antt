@@ -1,15 +1,6 @@
-pub mod Parts
-pub mod BitMaps
-pub mod RecordWays
-pub mod Runs
+-- Laws that several functions share. Those of one Rust module stand beside its functions' proofs, named in the module's node file (fields.antt,
+-- arcs.antt, header.antt, records.antt, writer.antt).
 pub mod Columns
-pub mod Filling
-pub mod Nodes
-pub mod HeaderWays
-pub mod Whole
-pub mod Putting
-pub mod Sizes
-pub mod Pieces
-pub mod HeaderBytes
-pub mod WriteWays
+pub mod ReaderWays
+pub mod WriterWays
 pub mod EntryTrips

@@ -6,8 +6,8 @@ use mathlib.Core.Path.{_≡_}
 use Prim.Native.Nat.{ℕ, _≤_, _<_}
 use lib.ListN.{length, take}
 use Rattle.table.specs.Table.{Below, most-nodes, most-arcs, most-wanted}
-use Rattle.link_format.specs.Format.{byte-limit, node-width, length-width, limit}
 use Rattle.link_format.specs.Buffers.{over, too-short}
+use Rattle.link_format.specs.Format.{byte-limit, node-width, length-width, limit}
 use Rattle.link_file.specs.Entries.{Read-says, Write-says}
 use Rattle.link_file.specs.declared.TableRead.{TableRead}
 use Rattle.link_file.specs.declared.Written.{Written}

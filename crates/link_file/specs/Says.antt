@@ -7,9 +7,11 @@ use mathlib.Core.Path.{_≡_}
 use Prim.Native.Nat.{ℕ, zero, suc, _+_, _-_, _*_, _≤_, _<_}
 use lib.ListN.{length, drop}
 use lib.Seq.{sets}
-use Rattle.link_format.specs.Format.{tails-of, heads-of, lengths-of, content, count-up, counts-from, all-nodes, header-bits, header-bytes, fields-bytes}
-use Rattle.link_format.specs.Reading.{Outcome, Reader, got, refused, accepted, number, read-wanted, read-header, read-record, read-records}
+use Rattle.link_format.specs.Format.{node-width, length-width, limit, most-header, most-record, content, count-up, counts-from, all-nodes, header-bits, header-bytes, fields-bytes}
+use Rattle.link_format.specs.Reading.{Outcome, Reader, got, refused, accepted, list-got, number, optional, implied, read-wanted, read-header, read-record, read-records}
+use Rattle.table.specs.Refusals.{refusal}
 use Rattle.table.specs.Table.{Arc, arc, most-arcs, most-nodes, most-wanted}
+use Rattle.link_file.specs.declared.TableRead.{TableRead}
 use Rattle.link_file.specs.declared.arcs.Arc as Arcs
 use Rattle.link_file.specs.declared.arcs.Previous.{Previous}
 use Rattle.link_file.specs.declared.arcs.Previous.the-variants.{Nothing, Record}
@@ -31,21 +33,29 @@ use Rattle.link_file.specs.declared.fields.Field.the-variants.{Value, Cu
 -- At an offset of a part of the file a reader gets this value and goes on at the next offset, wherever in the file the part begins.
 pub record Got (m : Reader ℕ) (part : List ℕ) (from width bound value next : ℕ) : Type 0 where
   pub is : (at : ℕ) → m (at + from) (drop from part) ≡ got value (at + next) (drop next part)
+  -- the next offset is behind this one, by at most the field's width, and inside the part
   pub on : from ≤ next
   pub near : next ≤ from + width
   pub inside : next ≤ length part
+  -- the value is below a bound
   pub small : value < bound
 
 -- The part ends inside a field of this width, which is refused at the file's length.
-pub record Ends (m : Reader ℕ) (part : List ℕ) (from width : ℕ) : Type 0 where
+pub record Cut-inside (m : Reader ℕ) (part : List ℕ) (from width : ℕ) : Type 0 where
   pub is : (at : ℕ) → m (at + from) (drop from part) ≡ refused 9 (at + length part)
+  -- the end is near, so that its offset is small
   pub near : length part < from + width
 
 unfoldable pub Field-says : Field → Reader ℕ → (part : List ℕ) → (from width bound : ℕ) → Type 0
 Field-says (Value v next) m part from w bound = Got m part from w bound v next
-Field-says Cut m part from w bound = Ends m part from w
+Field-says Cut m part from w bound = Cut-inside m part from w
 
--- an arc of the code, the arc of the record before, and the fields that absent ones say
+-- the same of a field that may be absent, with a value below any bound that both the field's bytes and what its absence says are below
+unfoldable pub Optional-says : Field → (stands : Bool) → (absent : ℕ) → (part : List ℕ) → (from width : ℕ) → Type 0
+Optional-says r stands absent part from w =
+    (bound : ℕ) → limit w ≤ bound → absent < bound → Field-says r (optional stands w absent) part from w bound
+
+-- an arc of the code, and the arc of the record before
 unfoldable pub arc-of : Arcs.Arc → Arc
 arc-of a = arc (a .tail) (a .head) (a .length)
 
@@ -53,8 +63,11 @@ unfoldable pub arc-before : Previous → Option Arc
 arc-before Nothing = none
 arc-before (Record p) = some (arc-of p)
 
-unfoldable pub arc-implied : Absent → Arc
-arc-implied a = arc (a .tail) (a .head) (a .length)
+-- What a record's absent fields say: a tail and a length fit their fields, a head may be one too high.
+pub record Absent-says (before : Option Arc) (a : Absent) : Type 0 where
+  pub is : arc (a .tail) (a .head) (a .length) ≡ implied before
+  pub tail-fits : a .tail < limit node-width
+  pub length-fits : a .length < limit length-width
 
 -- no record before
 unfoldable pub first : Option Arc → Bool
@@ -64,100 +77,118 @@ first (some p) = false
 -- The record at the start of a part of the file gives this arc, and the next one begins at this offset of the file.
 pub record Record-got (before : Option Arc) (part : List ℕ) (at : ℕ) (a : Arc) (next : ℕ) : Type 0 where
   pub is : read-record before at part ≡ got a next (drop (next - at) part)
+  -- the next record is behind this one, by at most the longest record, and not behind the file's end
   pub on : at < next
-  pub near : next ≤ at + 9
+  pub near : next ≤ at + most-record
   pub inside : next ≤ at + length part
 
 unfoldable pub Record-says : RecordRead → (before : Option Arc) → (part : List ℕ) → (at : ℕ) → Type 0
 Record-says (Records.Record a next) before part at = Record-got before part at (arc-of a) next
-Record-says (Records.Refused number place) before part at = read-record before at part ≡ refused number place
+Record-says (Records.Refused r) before part at = read-record before at part ≡ refused (r .number) (r .place)
 
 -- the count of records, after so many before them, or the refusal
 unfoldable pub tally : (before : ℕ) → Outcome (List Arc) → Counted
 tally k (got arcs next rest) = Counts.Arcs (k + length arcs)
-tally k (refused number place) = Counts.Refused number place
+tally k (refused number place) = Counts.Refused (refusal number place)
 
--- What reading the records from an offset to the end of the file gives.
+-- what reading the records from an offset to the end of the file gives, and their arcs
 abbrev pub records-from : (file : List ℕ) → (start : ℕ) → Outcome (List Arc)
 records-from file start = read-records most-arcs none start (drop start file)
 
+abbrev pub arcs-from : (file : List ℕ) → (start : ℕ) → List Arc
+arcs-from file start = list-got (records-from file start)
+
 -- The second pass may run: the first one accepted the records, and the columns have room.
 pub record Fillable (file : List ℕ) (start : ℕ) (tails heads lengths : List ℕ) : Type 0 where
+  -- the records begin inside the file, behind a header
   pub inside : start ≤ length file
-  pub short : start ≤ 2055
+  pub short : start ≤ most-header
+  -- all of them are good
   pub good : accepted (records-from file start) ≡ true
+  -- and each column is long enough
   pub tails-room : most-arcs ≤ length tails
   pub heads-room : most-arcs ≤ length heads
   pub lengths-room : most-arcs ≤ length lengths
 
--- The columns of the arcs that were read stand at the starts of the buffers.
-pub record Filled (arcs : List Arc) (tails heads lengths tails′ heads′ lengths′ : List ℕ) : Type 0 where
-  pub tails-are : tails′ ≡ sets tails 0 (tails-of arcs)
-  pub heads-are : heads′ ≡ sets heads 0 (heads-of arcs)
-  pub lengths-are : lengths′ ≡ sets lengths 0 (lengths-of arcs)
-
 -- the nodes in so many pairs of bytes
 unfoldable pub nodes-in : (count : ℕ) → List ℕ → List ℕ
 nodes-in zero bs = []
-nodes-in (suc k) bs = number 2 bs ∷ nodes-in k (drop 2 bs)
+nodes-in (suc k) bs = number node-width bs ∷ nodes-in k (drop node-width bs)
 
 -- a run of nodes at an offset of the file, read, and whether they count up from 0; or the file ends inside it
 pub record Nodes-got (file : List ℕ) (from count next : ℕ) (ascending : Bool) : Type 0 where
-  pub on : next ≡ from + 2 * count
+  -- the next offset, behind all nodes and inside the file
+  pub on : next ≡ from + node-width * count
   pub inside : next ≤ length file
+  -- whether they count up
   pub up : ascending ≡ counts-from 0 (nodes-in count (drop from file))
 
 unfoldable pub Nodes-says : NodesRead → (file : List ℕ) → (from count : ℕ) → Type 0
 Nodes-says (Nodes.Read next ascending) file from count = Nodes-got file from count next ascending
-Nodes-says Nodes.Cut file from count = length file < from + 2 * count
+Nodes-says Nodes.Cut file from count = length file < from + node-width * count
 
 -- The wanted list that a header says: so many nodes that end at an offset of the file, or all n nodes.
 unfoldable pub wanted-in : (file : List ℕ) → (listed : Bool) → (n count next : ℕ) → List ℕ
-wanted-in file listed n count next = cond listed (nodes-in count (drop (next - 2 * count) file)) (count-up 0 n)
+wanted-in file listed n count next = cond listed (nodes-in count (drop (next - node-width * count) file)) (count-up 0 n)
 
 -- The wanted list was read: the count, the next offset, and whether it is all nodes ascending.
 pub record Wanted-got (file : List ℕ) (from : ℕ) (listed : Bool) (n count next : ℕ) (all : Bool) : Type 0 where
   pub is : read-wanted listed n (0 + from) (drop from file) ≡ got (wanted-in file listed n count next) (0 + next) (drop next file)
+  -- the count is the list's length, and not too high
   pub size : length (wanted-in file listed n count next) ≡ count
-  pub same : all ≡ all-nodes n (wanted-in file listed n count next)
   pub few : count ≤ most-wanted
-  pub near : next ≤ from + 2050
+  -- whether it is all nodes
+  pub same : all ≡ all-nodes n (wanted-in file listed n count next)
+  -- the next offset is near and inside the file, and the nodes of a list fit in front of it
+  pub near : next ≤ from + node-width + node-width * most-wanted
   pub inside : next ≤ length file
-  pub room : listed ≡ true → 2 * count ≤ next
+  pub room : listed ≡ true → node-width * count ≤ next
 
 unfoldable pub Wanted-says : WantedRead → (file : List ℕ) → (from : ℕ) → (listed : Bool) → (n : ℕ) → Type 0
 Wanted-says (Wanteds.Read count next all) file from listed n = Wanted-got file from listed n count next all
-Wanted-says (Wanteds.Refused number place) file from listed n = read-wanted listed n (0 + from) (drop from file) ≡ refused number place
+Wanted-says (Wanteds.Refused r) file from listed n = read-wanted listed n (0 + from) (drop from file) ≡ refused (r .number) (r .place)
+
+-- the wanted list of a header
+abbrev pub wanted-of : (file : List ℕ) → Header → List ℕ
+wanted-of file h = wanted-in file (h .listed) (h .n) (h .wanted) (h .next)
 
 -- The header was read.
 pub record Header-got (file : List ℕ) (h : Header) : Type 0 where
-  pub is : read-header 0 file
-      ≡ got (content (h .n) (h .origin) (wanted-in file (h .listed) (h .n) (h .wanted) (h .next)) []) (h .next) (drop (h .next) file)
-  pub size : length (wanted-in file (h .listed) (h .n) (h .wanted) (h .next)) ≡ h .wanted
+  pub is : read-header 0 file ≡ got (content (h .n) (h .origin) (wanted-of file h) []) (h .next) (drop (h .next) file)
+  -- the count of wanted nodes is the list's length
+  pub size : length (wanted-of file h) ≡ h .wanted
+  -- both counts are in range
   pub nodes : h .n ≤ most-nodes
   pub few : h .wanted ≤ most-wanted
-  pub short : h .next ≤ 2055
+  -- the first record is near and inside the file, and the nodes of a list fit in front of it
+  pub short : h .next ≤ most-header
   pub inside : h .next ≤ length file
-  pub room : h .listed ≡ true → 2 * h .wanted ≤ h .next
+  pub room : h .listed ≡ true → node-width * h .wanted ≤ h .next
 
 unfoldable pub Header-says : HeaderRead → (file : List ℕ) → Type 0
 Header-says (Headers.Read h) file = Header-got file h
-Header-says (Headers.Refused number place) file = read-header 0 file ≡ refused number place
+Header-says (Headers.Refused r) file = read-header 0 file ≡ refused (r .number) (r .place)
+
+-- the answer to a header and so many arcs that were read
+unfoldable pub header-answer : Header → (arcs : ℕ) → TableRead
+header-answer h k = record { number = 0; place = 0; n = h .n; origin = h .origin; arcs = k; wanted = h .wanted }
 
 -- A piece of the file was put at an offset of the output.
 pub record Put (output : List ℕ) (at : ℕ) (piece : List ℕ) (next : ℕ) (output′ : List ℕ) : Type 0 where
+  -- the next offset is behind it
   pub on : next ≡ at + length piece
+  -- the rest of the output is as it was
   pub is : output′ ≡ sets output at piece
 
 -- the size of a record with a bit map, whatever its arc
 pub record Record-sized (bits size : ℕ) : Type 0 where
   pub is : (a : Arc) → size ≡ suc (length (fields-bytes bits a))
-  pub near : size ≤ 9
+  pub near : size ≤ most-record
 
 -- the size of a header with a bit map and so many wanted nodes
 pub record Header-sized (bits wanted size : ℕ) : Type 0 where
   pub is : (n o : ℕ) (ws : List ℕ) → length ws ≡ wanted → bits ≡ header-bits n o ws → size ≡ length (header-bytes n o ws)
-  pub near : size ≤ 2055
+  pub near : size ≤ most-header
 
 -- a header may be put: its bit map is the canonical one, and there is room
 pub record Header-asks (n origin : ℕ) (wanted : List ℕ) (bits : ℕ) (output : List ℕ) : Type 0 where

@@ -1,10 +1,11 @@
 // An arc's record: the canonical bit map, and what absent fields say.
+use table::wide;
 ghost use mathlib.Core.Path.{_≡_};
 ghost use mathlib.Core.Bool.{cond};
 ghost use Prim.Native.Nat.{_<_, _≤_};
 ghost use Rattle.link_format.specs.Format.{bit-map, has, record-bits};
-ghost use Rattle.link_format.specs.Reading.{implied, forbidden};
-ghost use Rattle.link_file.specs.Says.{arc-of, arc-before, arc-implied, first};
+ghost use Rattle.link_format.specs.Reading.{forbidden};
+ghost use Rattle.link_file.specs.Says.{arc-of, arc-before, first, Absent-says};
 
 // The weights of a record's bits.
 pub const TAIL: u8 = 1;
@@ -14,7 +15,7 @@ pub const HEAD: u8 = 2;
 pub const LENGTH: u8 = 4;
 
 // The highest head, which no implied head may pass.
-pub const LAST_HEAD: u32 = 65535;
+pub const LAST_HEAD: usize = 65535;
 
 // An arc of the table.
 pub struct Arc {
@@ -31,9 +32,9 @@ pub enum Previous {
 
 // The fields that a record's absent fields say: an implied head may be 65536.
 pub struct Absent {
-    pub tail: u32,
-    pub head: u32,
-    pub length: u32,
+    pub tail: usize,
+    pub head: usize,
+    pub length: usize,
 }
 
 fn bit(stands: bool, weight: u8) -> u8
@@ -71,16 +72,9 @@ pub fn record_bits(previous: Previous, arc: Arc) -> u8
     }
 }
 
-// A node's number, widened.
-pub fn wide(node: u16) -> u32
-    ensures { λ r. ⌜ (r ≡ node) × (r < 65536) ⌝ }
-{
-    node as u32
-}
-
 // What a record says where its fields are absent.
 pub fn implied(previous: Previous) -> Absent
-    ensures { λ r. ⌜ (arc-implied r ≡ implied (arc-before previous)) × (r .tail < 65536) ⌝ }
+    ensures { λ r. ⌜ Absent-says (arc-before previous) r ⌝ }
 {
     match previous {
         Previous::Nothing => Absent {
@@ -91,7 +85,7 @@ pub fn implied(previous: Previous) -> Absent
         Previous::Record(p) => Absent {
             tail: wide(p.tail),
             head: wide(p.head) + 1,
-            length: p.length,
+            length: p.length as usize,
         },
     }
 }

@@ -1,49 +1,56 @@
-// Fields of one to four bytes, the lowest byte first.
+// Fields of so many bytes, the lowest byte first; refusals, and the numbers of an answer.
+use table::Refusal;
 ghost use mathlib.Core.Path.{_≡_};
-ghost use Prim.Native.Nat.{ℕ, _+_, _≤_, _<_, _^_};
+ghost use Prim.Native.Nat.{_+_, _≤_, _<_};
 ghost use lib.ListN.{length};
-ghost use Rattle.link_format.specs.Format.{bytes, field-bytes};
-ghost use Rattle.link_format.specs.Reading.{field, optional};
-ghost use Rattle.link_file.specs.Says.{Field-says, Put};
+ghost use Rattle.table.specs.Refusals.{refusal};
+ghost use Rattle.link_format.specs.Format.{length-width, limit, bytes, field-bytes};
+ghost use Rattle.link_format.specs.Reading.{field};
+ghost use Rattle.link_file.specs.Says.{Field-says, Optional-says, Put};
 
-// The bytes of a node's number, and of a length.
-pub const NODE: usize = 2;
+// The bytes of a bit map, of a node's number or a count, and of a length.
+pub const MAP_WIDTH: usize = 1;
 
-pub const LENGTH: usize = 4;
+pub const NODE_WIDTH: usize = 2;
+
+pub const LENGTH_WIDTH: usize = 4;
+
+// A byte is below this.
+const BYTE_LIMIT: usize = 256;
 
 // A field's answer: its value with the next offset, or the part ends inside it.
 pub enum Field {
-    Value(u32, usize),
+    Value(usize, usize),
     Cut,
 }
 
-fn wide(byte: u8) -> u32
+fn value_of(byte: u8) -> usize
     ensures { λ r. ⌜ r ≡ byte ⌝ }
 {
-    byte as u32
+    byte as usize
 }
 
 // The field of so many bytes at an offset of a part of the file.
 pub fn read_field(part: &[u8], from: usize, width: usize) -> Field
-    requires { ⌜ (from ≤ length (now part)) × (width ≤ 4) ⌝ }
-    ensures { λ r. ⌜ Field-says r (field width) (now (part .entry)) from width (256 ^ width) ⌝ }
+    requires { ⌜ (from ≤ length (now part)) × (width ≤ length-width) ⌝ }
+    ensures { λ r. ⌜ Field-says r (field width) (now (part .entry)) from width (limit width) ⌝ }
 {
     if part.len() - from < width {
         return Field::Cut;
     }
-    let mut value: u32 = 0;
+    let mut value = 0;
     let mut left = width;
     while 0 < left {
         left -= 1;
-        value = value * 256 + wide(part[from + left]);
+        value = value * BYTE_LIMIT + value_of(part[from + left]);
     }
     Field::Value(value, from + width)
 }
 
 // A field that may be absent, and what its absence says.
-pub fn read_optional(part: &[u8], from: usize, width: usize, stands: bool, absent: u32) -> Field
-    requires { ⌜ (from ≤ length (now part)) × (width ≤ 4) ⌝ }
-    ensures { λ r. ⌜ ((bound : ℕ) → 256 ^ width ≤ bound → absent < bound → Field-says r (optional stands width absent) (now (part .entry)) from width bound) ⌝ }
+pub fn read_optional(part: &[u8], from: usize, width: usize, stands: bool, absent: usize) -> Field
+    requires { ⌜ (from ≤ length (now part)) × (width ≤ length-width) ⌝ }
+    ensures { λ r. ⌜ Optional-says r stands absent (now (part .entry)) from width ⌝ }
 {
     if stands {
         return read_field(part, from, width);
@@ -51,31 +58,42 @@ pub fn read_optional(part: &[u8], from: usize, width: usize, stands: bool, absen
     Field::Value(absent, from)
 }
 
-// An offset of the file as a place: the reader stops long before it passes 65535.
-pub fn place(offset: usize) -> u32
-    requires { ⌜ offset < 65536 ⌝ }
-    ensures { λ r. ⌜ r ≡ offset ⌝ }
+// A count, an offset or a length as an answer has it.
+pub fn narrow(number: usize) -> u32
+    requires { ⌜ number < limit length-width ⌝ }
+    ensures { λ r. ⌜ r ≡ number ⌝ }
 {
-    offset as u32
+    number as u32
+}
+
+// A refusal by its number and its place, which is an offset of the file or a count.
+pub fn refuse(number: u32, place: usize) -> Refusal
+    requires { ⌜ place < limit length-width ⌝ }
+    ensures { λ r. ⌜ r ≡ refusal number place ⌝ }
+{
+    Refusal {
+        number,
+        place: narrow(place),
+    }
 }
 
 // Puts a number of so many bytes at an offset, and gives the next one.
-pub fn put_field(output: &mut [u8], at: usize, width: usize, value: u32) -> usize
+pub fn put_field(output: &mut [u8], at: usize, width: usize, value: usize) -> usize
     requires { ⌜ at + width ≤ length (now output) ⌝ }
     ensures { λ r. ⌜ Put (now (output .entry)) at (bytes width value) r (now (output .exit)) ⌝ }
 {
     let mut left = value;
     let mut i = 0;
     while i < width {
-        output[at + i] = (left % 256) as u8;
-        left = left / 256;
+        output[at + i] = (left % BYTE_LIMIT) as u8;
+        left = left / BYTE_LIMIT;
         i += 1;
     }
     at + width
 }
 
 // Puts a field where it stands.
-pub fn put_optional(output: &mut [u8], at: usize, width: usize, stands: bool, value: u32) -> usize
+pub fn put_optional(output: &mut [u8], at: usize, width: usize, stands: bool, value: usize) -> usize
     requires { ⌜ at + length (field-bytes stands width value) ≤ length (now output) ⌝ }
     ensures { λ r. ⌜ Put (now (output .entry)) at (field-bytes stands width value) r (now (output .exit)) ⌝ }
 {

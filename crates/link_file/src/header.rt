@@ -1,23 +1,22 @@
 // Reading the header: the node count, the origin and the wanted list.
 use crate::arcs;
 use crate::fields::Field;
-use crate::fields::NODE;
-use crate::fields::place;
+use crate::fields::MAP_WIDTH;
+use crate::fields::NODE_WIDTH;
 use crate::fields::read_field;
 use crate::fields::read_optional;
-use crate::grounds;
-ghost use mathlib.Core.Bool.{_&&_, _||_, not};
+use crate::fields::refuse;
+use table::MOST_WANTED;
+use table::Refusal;
+ghost use mathlib.Core.Bool.{_&&_};
 ghost use mathlib.Core.Path.{_≡_};
-ghost use Prim.Native.Nat.{_+_, _*_, _≤_, _<_};
-ghost use lib.Dec.{ltb};
+ghost use Prim.Native.Nat.{_+_, _*_, _≤_};
 ghost use lib.ListN.{length, drop};
 ghost use lib.Seq.{sets};
 ghost use Rattle.table.specs.Table.{most-nodes, most-wanted};
-ghost use Rattle.link_format.specs.Format.{has, count-up};
-ghost use Rattle.link_file.specs.Says.{nodes-in, wanted-in, Nodes-says, Wanted-says, Header-got, Header-says};
-
-// The most wanted nodes.
-pub const MOST_WANTED: u32 = 1024;
+ghost use Rattle.link_format.specs.Format.{map-width, node-width, count-up};
+ghost use Rattle.link_format.specs.Reading.{forbidden-header};
+ghost use Rattle.link_file.specs.Says.{nodes-in, wanted-of, Nodes-says, Wanted-says, Header-got, Header-says};
 
 // The weights of a header's bits.
 pub const COUNT: u8 = 1;
@@ -28,23 +27,23 @@ pub const WANTED: u8 = 4;
 
 // What a header says; `listed`: the wanted nodes stand in the file, just before the first record, which is at `next`.
 pub struct Header {
-    pub n: u32,
+    pub n: usize,
     pub origin: u16,
-    pub wanted: u32,
+    pub wanted: usize,
     pub listed: bool,
     pub next: usize,
 }
 
-// A header's answer, or the refusal's number and place.
+// A header's answer.
 pub enum HeaderRead {
     Read(Header),
-    Refused(u32, u32),
+    Refused(Refusal),
 }
 
-// The wanted list's answer: how many nodes it has, the next offset and whether it is all nodes ascending; or the refusal.
+// The wanted list's answer: how many nodes it has, the next offset and whether it is all nodes ascending.
 pub enum WantedRead {
-    Read(u32, usize, bool),
-    Refused(u32, u32),
+    Read(usize, usize, bool),
+    Refused(Refusal),
 }
 
 // The answer of a run of nodes: the next offset and whether they count up from 0; or the file ends inside it.
@@ -60,15 +59,15 @@ fn both(a: bool, b: bool) -> bool
 }
 
 // Every one of so many nodes is read, and compared with its index.
-fn check_nodes(file: &[u8], from: usize, count: u32) -> NodesRead
+fn check_nodes(file: &[u8], from: usize, count: usize) -> NodesRead
     requires { ⌜ (from ≤ length (now file)) × (count ≤ most-wanted) ⌝ }
     ensures { λ r. ⌜ Nodes-says r (now (file .entry)) from count ⌝ }
 {
     let mut at = from;
     let mut ascending = true;
-    let mut i: u32 = 0;
+    let mut i = 0;
     while i < count {
-        let Field::Value(node, next) = read_field(file, at, NODE) else {
+        let Field::Value(node, next) = read_field(file, at, NODE_WIDTH) else {
             return NodesRead::Cut;
         };
         ascending = both(ascending, node == i);
@@ -79,28 +78,28 @@ fn check_nodes(file: &[u8], from: usize, count: u32) -> NodesRead
 }
 
 // The wanted list of n nodes.
-fn read_wanted(file: &[u8], from: usize, listed: bool, n: u32) -> WantedRead
-    requires { ⌜ (from ≤ length (now file)) × ((from ≤ 5) × (n ≤ most-nodes)) ⌝ }
+fn read_wanted(file: &[u8], from: usize, listed: bool, n: usize) -> WantedRead
+    requires { ⌜ (from ≤ length (now file)) × ((from ≤ map-width + node-width + node-width) × (n ≤ most-nodes)) ⌝ }
     ensures { λ r. ⌜ Wanted-says r (now (file .entry)) from listed n ⌝ }
 {
     if !listed {
         return WantedRead::Read(n, from, true);
     }
-    let Field::Value(count, nodes_at) = read_field(file, from, NODE) else {
-        return WantedRead::Refused(grounds::CUT, place(file.len()));
+    let Field::Value(count, nodes_at) = read_field(file, from, NODE_WIDTH) else {
+        return WantedRead::Refused(refuse(Refusal::CUT, file.len()));
     };
     if MOST_WANTED < count {
-        return WantedRead::Refused(grounds::WANTED, MOST_WANTED);
+        return WantedRead::Refused(refuse(Refusal::WANTED, MOST_WANTED));
     }
     let NodesRead::Read(next, ascending) = check_nodes(file, nodes_at, count) else {
-        return WantedRead::Refused(grounds::CUT, place(file.len()));
+        return WantedRead::Refused(refuse(Refusal::CUT, file.len()));
     };
     WantedRead::Read(count, next, both(count == n, ascending))
 }
 
 // The bit maps that a header may not have: bits 3 to 7, or no node count.
 fn forbidden(bits: u8) -> bool
-    ensures { λ r. ⌜ r ≡ (ltb 7 bits || not (has 1 bits)) ⌝ }
+    ensures { λ r. ⌜ r ≡ forbidden-header bits ⌝ }
 {
     match bits {
         0..=7 => !arcs::stands(COUNT, bits),
@@ -113,28 +112,28 @@ pub fn read_header(file: &[u8]) -> HeaderRead
     ensures { λ r. ⌜ Header-says r (now (file .entry)) ⌝ }
 {
     if file.len() == 0 {
-        return HeaderRead::Refused(grounds::CUT, 0);
+        return HeaderRead::Refused(refuse(Refusal::CUT, 0));
     }
     let bits = file[0];
     if forbidden(bits) {
-        return HeaderRead::Refused(grounds::BIT_MAP, 0);
+        return HeaderRead::Refused(refuse(Refusal::BIT_MAP, 0));
     }
-    let Field::Value(n, from) = read_field(file, 1, NODE) else {
-        return HeaderRead::Refused(grounds::CUT, place(file.len()));
+    let Field::Value(n, from) = read_field(file, MAP_WIDTH, NODE_WIDTH) else {
+        return HeaderRead::Refused(refuse(Refusal::CUT, file.len()));
     };
-    if table::bad_count(n as usize) {
-        return HeaderRead::Refused(grounds::NODES, 0);
+    if table::bad_count(n) {
+        return HeaderRead::Refused(refuse(Refusal::NODE_COUNT, 0));
     }
     let has_origin = arcs::stands(ORIGIN, bits);
-    let Field::Value(origin, from) = read_optional(file, from, NODE, has_origin, 0) else {
-        return HeaderRead::Refused(grounds::CUT, place(file.len()));
+    let Field::Value(origin, from) = read_optional(file, from, NODE_WIDTH, has_origin, 0) else {
+        return HeaderRead::Refused(refuse(Refusal::CUT, file.len()));
     };
     let listed = arcs::stands(WANTED, bits);
     match read_wanted(file, from, listed, n) {
-        WantedRead::Refused(number, at) => HeaderRead::Refused(number, at),
+        WantedRead::Refused(refusal) => HeaderRead::Refused(refusal),
         WantedRead::Read(wanted, next, all) => {
             if bits != arcs::bits_of(true, origin != 0, !all) {
-                return HeaderRead::Refused(grounds::NEEDLESS, 0);
+                return HeaderRead::Refused(refuse(Refusal::NEEDLESS, 0));
             }
             let origin = origin as u16;
             HeaderRead::Read(Header {
@@ -149,30 +148,31 @@ pub fn read_header(file: &[u8]) -> HeaderRead
 }
 
 // The wanted nodes of a header that was read, at the start of a buffer.
-fn fill_nodes(file: &[u8], from: usize, count: u32, wanted: &mut [u16])
-    requires { ⌜ (from + 2 * count ≤ length (now file)) × ((count ≤ most-wanted) × (most-wanted ≤ length (now wanted))) ⌝ }
+fn fill_nodes(file: &[u8], from: usize, count: usize, wanted: &mut [u16])
+    requires { ⌜ from + node-width * count ≤ length (now file) ⌝ }
+    requires { ⌜ (count ≤ most-wanted) × (most-wanted ≤ length (now wanted)) ⌝ }
     ensures { λ _. ⌜ now (wanted .exit) ≡ sets (now (wanted .entry)) 0 (nodes-in count (drop from (now (file .entry)))) ⌝ }
 {
     let mut at = from;
-    let mut i: u32 = 0;
+    let mut i = 0;
     while i < count {
-        let Field::Value(node, next) = read_field(file, at, NODE) else {
+        let Field::Value(node, next) = read_field(file, at, NODE_WIDTH) else {
             return;
         };
-        wanted[i as usize] = node as u16;
+        wanted[i] = node as u16;
         at = next;
         i += 1;
     }
 }
 
 // All n nodes, ascending, at the start of a buffer.
-fn fill_all(n: u32, wanted: &mut [u16])
+fn fill_all(n: usize, wanted: &mut [u16])
     requires { ⌜ (n ≤ most-nodes) × (most-wanted ≤ length (now wanted)) ⌝ }
     ensures { λ _. ⌜ now (wanted .exit) ≡ sets (now (wanted .entry)) 0 (count-up 0 n) ⌝ }
 {
-    let mut i: u32 = 0;
+    let mut i = 0;
     while i < n {
-        wanted[i as usize] = i as u16;
+        wanted[i] = i as u16;
         i += 1;
     }
 }
@@ -180,11 +180,11 @@ fn fill_all(n: u32, wanted: &mut [u16])
 // The wanted list of a header that was read, at the start of a buffer.
 pub fn fill_wanted(file: &[u8], header: Header, wanted: &mut [u16])
     requires { ⌜ Header-got (now file) header × (most-wanted ≤ length (now wanted)) ⌝ }
-    ensures { λ _. ⌜ now (wanted .exit) ≡ sets (now (wanted .entry)) 0 (wanted-in (now (file .entry)) (header .listed) (header .n) (header .wanted) (header .next)) ⌝ }
+    ensures { λ _. ⌜ now (wanted .exit) ≡ sets (now (wanted .entry)) 0 (wanted-of (now (file .entry)) header) ⌝ }
 {
     let count = header.wanted;
     if header.listed {
-        let from = header.next - 2 * (count as usize);
+        let from = header.next - NODE_WIDTH * count;
         fill_nodes(file, from, count, wanted);
         return;
     }

@@ -1,20 +1,25 @@
-// The link file of a table: reader and writer. specs/Format.antt says what bytes a table has, specs/Reading.antt what reading bytes gives, and
-// specs/Entries.antt what the two entries answer.
+// The link file of a table: reader and writer. Crate `link_format` says what bytes a table has and what reading bytes gives; specs/Entries.antt says
+// what the two entries answer.
 mod arcs;
 mod fields;
-mod grounds;
 mod header;
 mod records;
 mod writer;
 
+use fields::narrow;
+use fields::refuse;
+use header::Header;
 use header::HeaderRead;
 use records::Counted;
-ghost use mathlib.Core.List.{[]};
+use table::MOST_ARCS;
+use table::MOST_WANTED;
+use table::Refusal;
 ghost use mathlib.Core.Path.{_≡_};
-ghost use Rattle.table.specs.Refusals.{refusal};
-ghost use Rattle.link_format.specs.Buffers.{too-short};
-ghost use Rattle.link_format.specs.Format.{content};
+ghost use Prim.Native.Nat.{_≤_};
+ghost use Rattle.table.specs.Table.{most-nodes, most-arcs, most-wanted};
+ghost use Rattle.link_format.specs.Buffers.{too-short, no-content};
 ghost use Rattle.link_file.specs.Entries.{read-answer, Read-says, write-answer, Write-says};
+ghost use Rattle.link_file.specs.Says.{header-answer};
 
 // What reading a link file answers: the refusal's number and place, both 0 where there is none, and the node count, the origin and how many
 // arcs and wanted nodes there are, all 0 in a refusal.
@@ -36,14 +41,12 @@ pub struct Written {
     pub length: u32,
 }
 
-const MOST_WANTED: usize = header::MOST_WANTED as usize;
-
-fn not_read(number: u32, place: u32) -> TableRead
-    ensures { λ r. ⌜ r ≡ read-answer (refusal number place) (content 0 0 [] []) ⌝ }
+fn not_read(refusal: Refusal) -> TableRead
+    ensures { λ r. ⌜ r ≡ read-answer refusal no-content ⌝ }
 {
     TableRead {
-        number,
-        place,
+        number: refusal.number,
+        place: refusal.place,
         n: 0,
         origin: 0,
         arcs: 0,
@@ -51,17 +54,31 @@ fn not_read(number: u32, place: u32) -> TableRead
     }
 }
 
+fn all_read(header: Header, arcs: usize) -> TableRead
+    requires { ⌜ (header .n ≤ most-nodes) × ((header .wanted ≤ most-wanted) × (arcs ≤ most-arcs)) ⌝ }
+    ensures { λ r. ⌜ r ≡ header-answer header arcs ⌝ }
+{
+    TableRead {
+        number: Refusal::NONE,
+        place: 0,
+        n: narrow(header.n),
+        origin: header.origin,
+        arcs: narrow(arcs),
+        wanted: narrow(header.wanted),
+    }
+}
+
 // 3: a lent buffer is too short.
 fn short(tails: usize, heads: usize, lengths: usize, wanted: usize) -> bool
     ensures { λ r. ⌜ r ≡ too-short tails heads lengths wanted ⌝ }
 {
-    if tails < table::MOST_ARCS {
+    if tails < MOST_ARCS {
         return true;
     }
-    if heads < table::MOST_ARCS {
+    if heads < MOST_ARCS {
         return true;
     }
-    if lengths < table::MOST_ARCS {
+    if lengths < MOST_ARCS {
         return true;
     }
     wanted < MOST_WANTED
@@ -76,40 +93,34 @@ pub fn read_link_file(
     lengths: &mut [u32],
     wanted: &mut [u16],
 ) -> TableRead
-    ensures { λ r. ⌜ Read-says (now (file .entry)) (now (tails .entry)) (now (heads .entry)) (now (lengths .entry)) (now (wanted .entry)) (now (tails .exit)) (now (heads .exit)) (now (lengths .exit)) (now (wanted .exit)) r ⌝ }
+    ensures { λ r. ⌜ Read-says (now (file .entry)) (now (tails .entry)) (now (heads .entry)) (now (lengths .entry)) (now (wanted .entry))
+        (now (tails .exit)) (now (heads .exit)) (now (lengths .exit)) (now (wanted .exit)) r ⌝ }
 {
     if short(tails.len(), heads.len(), lengths.len(), wanted.len()) {
-        return not_read(grounds::BUFFERS, 0);
+        return not_read(refuse(Refusal::BUFFERS, 0));
     }
     match header::read_header(file) {
-        HeaderRead::Refused(number, place) => not_read(number, place),
+        HeaderRead::Refused(refusal) => not_read(refusal),
         HeaderRead::Read(header) => {
             let next = header.next;
             match records::count_records(file, next) {
-                Counted::Refused(number, place) => not_read(number, place),
+                Counted::Refused(refusal) => not_read(refusal),
                 Counted::Arcs(arcs) => {
                     header::fill_wanted(file, header, wanted);
                     records::fill_records(file, next, tails, heads, lengths);
-                    TableRead {
-                        number: 0,
-                        place: 0,
-                        n: header.n,
-                        origin: header.origin,
-                        arcs,
-                        wanted: header.wanted,
-                    }
+                    all_read(header, arcs)
                 }
             }
         }
     }
 }
 
-fn not_written(number: u32, place: u32) -> Written
-    ensures { λ r. ⌜ r ≡ write-answer (refusal number place) 0 ⌝ }
+fn not_written(refusal: Refusal) -> Written
+    ensures { λ r. ⌜ r ≡ write-answer refusal 0 ⌝ }
 {
     Written {
-        number,
-        place,
+        number: refusal.number,
+        place: refusal.place,
         length: 0,
     }
 }
@@ -125,29 +136,30 @@ pub fn write_link_file(
     wanted: &[u16],
     output: &mut [u8],
 ) -> Written
-    ensures { λ r. ⌜ Write-says n origin (now (tails .entry)) (now (heads .entry)) (now (lengths .entry)) (now (wanted .entry)) (now (output .entry)) (now (output .exit)) r ⌝ }
+    ensures { λ r. ⌜ Write-says n origin (now (tails .entry)) (now (heads .entry)) (now (lengths .entry)) (now (wanted .entry)) (now (output .entry))
+        (now (output .exit)) r ⌝ }
 {
-    if table::bad_count(n as usize) {
-        return not_written(grounds::NODES, 0);
+    let n = n as usize;
+    if table::bad_count(n) {
+        return not_written(refuse(Refusal::NODE_COUNT, 0));
     }
     if table::bad_columns(tails.len(), heads.len(), lengths.len()) {
-        return not_written(grounds::ARCS, 0);
+        return not_written(refuse(Refusal::COLUMNS, 0));
     }
     if MOST_WANTED < wanted.len() {
-        return not_written(grounds::WANTED, header::MOST_WANTED);
+        return not_written(refuse(Refusal::WANTED, MOST_WANTED));
     }
     let bits = writer::header_bits(n, origin, wanted);
     let size = writer::header_size(bits, wanted.len())
         + writer::records_size(tails, heads, lengths);
     if output.len() < size {
-        return not_written(grounds::ROOM, 0);
+        return not_written(refuse(Refusal::ROOM, 0));
     }
     let at = writer::write_header(n, origin, wanted, bits, output);
     writer::write_records(tails, heads, lengths, at, output);
-    let length = size as u32;
     Written {
-        number: 0,
+        number: Refusal::NONE,
         place: 0,
-        length,
+        length: narrow(size),
     }
 }

@@ -3,60 +3,70 @@ use crate::arcs;
 use crate::arcs::Arc;
 use crate::arcs::Previous;
 use crate::fields::Field;
-use crate::fields::LENGTH;
-use crate::fields::NODE;
-use crate::fields::place;
+use crate::fields::LENGTH_WIDTH;
+use crate::fields::MAP_WIDTH;
+use crate::fields::NODE_WIDTH;
 use crate::fields::read_optional;
-use crate::grounds;
+use crate::fields::refuse;
+use table::MOST_ARCS;
+use table::Refusal;
 ghost use mathlib.Core.Path.{_≡_};
 ghost use Prim.Native.Nat.{_≤_, _<_};
 ghost use lib.ListN.{length};
-ghost use Rattle.link_format.specs.Reading.{list-got};
-ghost use Rattle.link_file.specs.Says.{arc-before, Record-says, tally, records-from, Fillable, Filled};
+ghost use lib.Seq.{sets};
+ghost use Rattle.link_format.specs.Format.{tails-of, heads-of, lengths-of, most-header, most-file};
+ghost use Rattle.link_file.specs.Says.{arc-before, Record-says, tally, records-from, arcs-from, Fillable};
 
-// A record's answer: its arc with the next offset, or the refusal's number and place.
+// A record's answer: its arc with the next offset.
 pub enum RecordRead {
     Record(Arc, usize),
-    Refused(u32, u32),
+    Refused(Refusal),
 }
 
 // The record at the start of a part of the file, which begins at an offset of the file.
 pub fn read_record(part: &[u8], at: usize, previous: Previous) -> RecordRead
-    requires { ⌜ (0 < length (now part)) × (at < 65000) ⌝ }
+    requires { ⌜ (0 < length (now part)) × (at ≤ most-file) ⌝ }
     ensures { λ r. ⌜ Record-says r (arc-before previous) (now (part .entry)) at ⌝ }
 {
     let bits = part[0];
-    let start = at as u32;
     let file_length = at + part.len();
     if arcs::forbidden(previous, bits) {
-        return RecordRead::Refused(grounds::BIT_MAP, start);
+        return RecordRead::Refused(refuse(Refusal::BIT_MAP, at));
     }
     let absent = arcs::implied(previous);
     let has_tail = arcs::stands(arcs::TAIL, bits);
-    let Field::Value(tail, from) = read_optional(part, 1, NODE, has_tail, absent.tail) else {
-        return RecordRead::Refused(grounds::CUT, place(file_length));
+    let Field::Value(tail, from) = read_optional(part, MAP_WIDTH, NODE_WIDTH, has_tail, absent.tail)
+    else {
+        return RecordRead::Refused(refuse(Refusal::CUT, file_length));
     };
     let has_head = arcs::stands(arcs::HEAD, bits);
-    let Field::Value(head, from) = read_optional(part, from, NODE, has_head, absent.head) else {
-        return RecordRead::Refused(grounds::CUT, place(file_length));
+    let Field::Value(head, from) = read_optional(part, from, NODE_WIDTH, has_head, absent.head)
+    else {
+        return RecordRead::Refused(refuse(Refusal::CUT, file_length));
     };
     let has_length = arcs::stands(arcs::LENGTH, bits);
-    let Field::Value(length, end) = read_optional(part, from, LENGTH, has_length, absent.length)
-    else {
-        return RecordRead::Refused(grounds::CUT, place(file_length));
+    let Field::Value(length, end) = read_optional(
+        part,
+        from,
+        LENGTH_WIDTH,
+        has_length,
+        absent.length,
+    ) else {
+        return RecordRead::Refused(refuse(Refusal::CUT, file_length));
     };
     if arcs::LAST_HEAD < head {
-        return RecordRead::Refused(grounds::HEAD, start);
+        return RecordRead::Refused(refuse(Refusal::IMPLIED_HEAD, at));
     }
     let near = tail as u16;
     let far = head as u16;
+    let length = length as u32;
     let arc = Arc {
         tail: near,
         head: far,
         length,
     };
     if bits != arcs::record_bits(previous, arc) {
-        return RecordRead::Refused(grounds::NEEDLESS, start);
+        return RecordRead::Refused(refuse(Refusal::NEEDLESS, at));
     }
     let next = at + end;
     RecordRead::Record(arc, next)
@@ -64,23 +74,21 @@ pub fn read_record(part: &[u8], at: usize, previous: Previous) -> RecordRead
 
 // How many records there are, or the first refusal.
 pub enum Counted {
-    Arcs(u32),
-    Refused(u32, u32),
+    Arcs(usize),
+    Refused(Refusal),
 }
-
-const MOST: u32 = table::MOST_ARCS as u32;
 
 // The first pass: every record from an offset to the end of the file is read, and counted.
 pub fn count_records(file: &[u8], start: usize) -> Counted
-    requires { ⌜ (start ≤ length (now file)) × (start ≤ 2055) ⌝ }
+    requires { ⌜ (start ≤ length (now file)) × (start ≤ most-header) ⌝ }
     ensures { λ r. ⌜ r ≡ tally 0 (records-from (now (file .entry)) start) ⌝ }
 {
     let mut at = start;
-    let mut count: u32 = 0;
+    let mut count = 0;
     let mut previous = Previous::Nothing;
     while at < file.len() {
-        if count == MOST {
-            return Counted::Refused(grounds::ARCS, MOST);
+        if count == MOST_ARCS {
+            return Counted::Refused(refuse(Refusal::COLUMNS, MOST_ARCS));
         }
         match read_record(&file[at..], at, previous) {
             RecordRead::Record(arc, next) => {
@@ -88,15 +96,16 @@ pub fn count_records(file: &[u8], start: usize) -> Counted
                 at = next;
                 count += 1;
             }
-            RecordRead::Refused(number, place) => {
-                return Counted::Refused(number, place);
+            RecordRead::Refused(refusal) => {
+                return Counted::Refused(refusal);
             }
         }
     }
     Counted::Arcs(count)
 }
 
-// The second pass: the records, all of them good, fill the columns from their starts.
+// The second pass: the records, all of them good, fill the columns from their starts. It reads them by `read_record` once more, which tests them once
+// more: there is one reader of records, with one proof, and no buffer may be touched before the whole file is known to be good.
 pub fn fill_records(
     file: &[u8],
     start: usize,
@@ -105,7 +114,9 @@ pub fn fill_records(
     lengths: &mut [u32],
 )
     requires { ⌜ Fillable (now file) start (now tails) (now heads) (now lengths) ⌝ }
-    ensures { λ _. ⌜ Filled (list-got (records-from (now (file .entry)) start)) (now (tails .entry)) (now (heads .entry)) (now (lengths .entry)) (now (tails .exit)) (now (heads .exit)) (now (lengths .exit)) ⌝ }
+    ensures tails { λ _. ⌜ now (tails .exit) ≡ sets (now (tails .entry)) 0 (tails-of (arcs-from (now (file .entry)) start)) ⌝ }
+    ensures heads { λ _. ⌜ now (heads .exit) ≡ sets (now (heads .entry)) 0 (heads-of (arcs-from (now (file .entry)) start)) ⌝ }
+    ensures lengths { λ _. ⌜ now (lengths .exit) ≡ sets (now (lengths .entry)) 0 (lengths-of (arcs-from (now (file .entry)) start)) ⌝ }
 {
     let mut at = start;
     let mut i = 0;

@@ -2,21 +2,22 @@
 use crate::arcs;
 use crate::arcs::Arc;
 use crate::arcs::Previous;
-use crate::arcs::wide;
-use crate::fields;
-use crate::fields::NODE;
+use crate::fields::LENGTH_WIDTH;
+use crate::fields::MAP_WIDTH;
+use crate::fields::NODE_WIDTH;
 use crate::fields::put_field;
 use crate::fields::put_optional;
 use crate::header;
+use table::wide;
 ghost use mathlib.Core.Bool.{cond};
 ghost use mathlib.Core.Option.{none};
 ghost use mathlib.Core.Path.{_≡_};
-ghost use Prim.Native.Nat.{_+_, _≤_, _<_};
+ghost use Prim.Native.Nat.{_*_, _+_, _≤_, _<_};
 ghost use lib.ListN.{length, getD};
 ghost use lib.Seq.{sets};
-ghost use Rattle.table.specs.Table.{arc, arcs-of, most-nodes, most-wanted};
+ghost use Rattle.table.specs.Table.{most-arcs, arc, arcs-of, most-wanted};
 ghost use Rattle.link_format.specs.Buffers.{Equal-columns};
-ghost use Rattle.link_format.specs.Format.{all-nodes, header-bits, header-bytes, nodes-bytes, wanted-bytes, record-bytes, records-bytes};
+ghost use Rattle.link_format.specs.Format.{most-record, all-nodes, header-bits, header-bytes, nodes-bytes, wanted-bytes, record-bytes, records-bytes};
 ghost use Rattle.link_file.specs.Says.{arc-of, arc-before, Put, Record-sized, Header-sized, Header-asks};
 
 fn field_size(stands: bool, width: usize) -> usize
@@ -29,10 +30,10 @@ fn field_size(stands: bool, width: usize) -> usize
 fn record_size(bits: u8) -> usize
     ensures { λ r. ⌜ Record-sized bits r ⌝ }
 {
-    let tail = field_size(arcs::stands(arcs::TAIL, bits), NODE);
-    let head = field_size(arcs::stands(arcs::HEAD, bits), NODE);
-    let length = field_size(arcs::stands(arcs::LENGTH, bits), fields::LENGTH);
-    1 + (tail + (head + length))
+    let tail = field_size(arcs::stands(arcs::TAIL, bits), NODE_WIDTH);
+    let head = field_size(arcs::stands(arcs::HEAD, bits), NODE_WIDTH);
+    let length = field_size(arcs::stands(arcs::LENGTH, bits), LENGTH_WIDTH);
+    MAP_WIDTH + (tail + (head + length))
 }
 
 fn arc_at(tails: &[u16], heads: &[u16], lengths: &[u32], i: usize) -> Arc
@@ -49,7 +50,8 @@ fn arc_at(tails: &[u16], heads: &[u16], lengths: &[u32], i: usize) -> Arc
 // The size of all records.
 pub fn records_size(tails: &[u16], heads: &[u16], lengths: &[u32]) -> usize
     requires { ⌜ Equal-columns (now tails) (now heads) (now lengths) ⌝ }
-    ensures { λ r. ⌜ (r ≡ length (records-bytes none (arcs-of (now (tails .entry)) (now (heads .entry)) (now (lengths .entry))))) × (r ≤ 54000) ⌝ }
+    ensures same { λ r. ⌜ r ≡ length (records-bytes none (arcs-of (now (tails .entry)) (now (heads .entry)) (now (lengths .entry)))) ⌝ }
+    ensures low { λ r. ⌜ r ≤ most-record * most-arcs ⌝ }
 {
     let mut size: usize = 0;
     let mut previous = Previous::Nothing;
@@ -71,16 +73,18 @@ fn write_record(output: &mut [u8], at: usize, previous: Previous, arc: Arc) -> u
     let bits = arcs::record_bits(previous, arc);
     output[at] = bits;
     let has_tail = arcs::stands(arcs::TAIL, bits);
-    let head_at = put_optional(output, at + 1, NODE, has_tail, wide(arc.tail));
+    let head_at = put_optional(output, at + MAP_WIDTH, NODE_WIDTH, has_tail, wide(arc.tail));
     let has_head = arcs::stands(arcs::HEAD, bits);
-    let length_at = put_optional(output, head_at, NODE, has_head, wide(arc.head));
+    let length_at = put_optional(output, head_at, NODE_WIDTH, has_head, wide(arc.head));
     let has_length = arcs::stands(arcs::LENGTH, bits);
-    put_optional(output, length_at, fields::LENGTH, has_length, arc.length)
+    let length = arc.length as usize;
+    put_optional(output, length_at, LENGTH_WIDTH, has_length, length)
 }
 
 // Puts all records.
 pub fn write_records(tails: &[u16], heads: &[u16], lengths: &[u32], start: usize, output: &mut [u8])
-    requires { ⌜ Equal-columns (now tails) (now heads) (now lengths) × (start + length (records-bytes none (arcs-of (now tails) (now heads) (now lengths))) ≤ length (now output)) ⌝ }
+    requires { ⌜ Equal-columns (now tails) (now heads) (now lengths) ⌝ }
+    requires { ⌜ start + length (records-bytes none (arcs-of (now tails) (now heads) (now lengths))) ≤ length (now output) ⌝ }
     ensures { λ _. ⌜ now (output .exit) ≡ sets (now (output .entry)) start (records-bytes none (arcs-of (now (tails .entry)) (now (heads .entry)) (now (lengths .entry)))) ⌝ }
 {
     let mut at = start;
@@ -95,16 +99,15 @@ pub fn write_records(tails: &[u16], heads: &[u16], lengths: &[u32], start: usize
 }
 
 // Whether a wanted list is all n nodes, ascending.
-fn is_all(n: u32, wanted: &[u16]) -> bool
-    requires { ⌜ n ≤ most-nodes ⌝ }
+fn is_all(n: usize, wanted: &[u16]) -> bool
     ensures { λ r. ⌜ r ≡ all-nodes n (now (wanted .entry)) ⌝ }
 {
-    if wanted.len() != n as usize {
+    if wanted.len() != n {
         return false;
     }
-    let mut i: u32 = 0;
+    let mut i = 0;
     while i < n {
-        if wide(wanted[i as usize]) != i {
+        if wide(wanted[i]) != i {
             return false;
         }
         i += 1;
@@ -113,8 +116,7 @@ fn is_all(n: u32, wanted: &[u16]) -> bool
 }
 
 // The canonical bit map of a header.
-pub fn header_bits(n: u32, origin: u16, wanted: &[u16]) -> u8
-    requires { ⌜ n ≤ most-nodes ⌝ }
+pub fn header_bits(n: usize, origin: u16, wanted: &[u16]) -> u8
     ensures { λ r. ⌜ r ≡ header-bits n origin (now (wanted .entry)) ⌝ }
 {
     arcs::bits_of(true, origin != 0, !is_all(n, wanted))
@@ -125,9 +127,12 @@ pub fn header_size(bits: u8, wanted: usize) -> usize
     requires { ⌜ wanted ≤ most-wanted ⌝ }
     ensures { λ r. ⌜ Header-sized bits wanted r ⌝ }
 {
-    let origin = field_size(arcs::stands(header::ORIGIN, bits), NODE);
-    let list = field_size(arcs::stands(header::WANTED, bits), 2 + 2 * wanted);
-    3 + (origin + list)
+    let origin = field_size(arcs::stands(header::ORIGIN, bits), NODE_WIDTH);
+    let list = field_size(
+        arcs::stands(header::WANTED, bits),
+        NODE_WIDTH + NODE_WIDTH * wanted,
+    );
+    MAP_WIDTH + NODE_WIDTH + (origin + list)
 }
 
 // Puts the wanted nodes.
@@ -138,7 +143,7 @@ fn write_nodes(wanted: &[u16], start: usize, output: &mut [u8]) -> usize
     let mut at = start;
     let mut i = 0;
     while i < wanted.len() {
-        at = put_field(output, at, NODE, wide(wanted[i]));
+        at = put_field(output, at, NODE_WIDTH, wide(wanted[i]));
         i += 1;
     }
     at
@@ -152,19 +157,19 @@ fn write_wanted(output: &mut [u8], at: usize, stands: bool, wanted: &[u16]) -> u
     if !stands {
         return at;
     }
-    let nodes_at = put_field(output, at, NODE, wanted.len() as u32);
+    let nodes_at = put_field(output, at, NODE_WIDTH, wanted.len());
     write_nodes(wanted, nodes_at, output)
 }
 
 // Puts the header, whose canonical bit map is given.
-pub fn write_header(n: u32, origin: u16, wanted: &[u16], bits: u8, output: &mut [u8]) -> usize
+pub fn write_header(n: usize, origin: u16, wanted: &[u16], bits: u8, output: &mut [u8]) -> usize
     requires { ⌜ Header-asks n origin (now wanted) bits (now output) ⌝ }
     ensures { λ r. ⌜ Put (now (output .entry)) 0 (header-bytes n origin (now (wanted .entry))) r (now (output .exit)) ⌝ }
 {
     output[0] = bits;
-    let origin_at = put_field(output, 1, NODE, n);
+    let origin_at = put_field(output, MAP_WIDTH, NODE_WIDTH, n);
     let has_origin = arcs::stands(header::ORIGIN, bits);
-    let wanted_at = put_optional(output, origin_at, NODE, has_origin, wide(origin));
+    let wanted_at = put_optional(output, origin_at, NODE_WIDTH, has_origin, wide(origin));
     let listed = arcs::stands(header::WANTED, bits);
     write_wanted(output, wanted_at, listed, wanted)
 }

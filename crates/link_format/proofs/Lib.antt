@@ -1,3 +1,4 @@
+pub mod Rows
 pub mod Numbers
 pub mod AllNodes
 pub mod BitMaps
@@ -8,4 +9,3 @@ pub mod Records
 pub mod ReadThenWrite
 pub mod WriteThenRead
 pub mod Unrefused
-pub mod Rows

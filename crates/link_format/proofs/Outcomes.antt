@@ -2,13 +2,14 @@
 use mathlib.Core.Bool.{Bool, true, false, cond}
 use mathlib.Core.List.{List, [], _∷_}
 use mathlib.Core.Option.{Option, none, some}
-use mathlib.Core.Path.{_≡_, refl}
+use mathlib.Core.Path.{_≡_, refl, _∙_}
 use Prim.Native.Nat.{ℕ, zero, suc, _<_}
 use native.Mathlib.Omega.{arith}
 use lib.Dec.{ltb, leb}
 use lib.ListN.{length}
+use Rattle.table.specs.declared.Refusal.{Refusal}
 use Rattle.table.specs.Refusals.{refusal}
-use Rattle.table.specs.Table.{Arc, most-arcs, most-wanted}
+use Rattle.table.specs.Table.{Arc, most-wanted}
 use Rattle.link_format.specs.Buffers.{too-short, reading, refusal-of}
 use Rattle.link_format.specs.Format.{Content}
 use Rattle.link_format.specs.Reading.{_>>_, _>>=_, Outcome, Reader, got, refused, and-then, give, here, refuse-if, field, optional, implied, read-nodes, read-wanted, read-header, read-record, read-records, read-content, read-file}
@@ -25,6 +26,11 @@ got-rest e = cc
 
 pub refused-got : {A : Type 0} {a : A} {m n p : ℕ} {xs : List ℕ} → refused m p ≡ got a n xs → ⊥
 refused-got e = let z : _≡_ {A = ℕ} 0 1 = cc in omega arith
+
+-- an outcome that is refused, by a refusal of that number and place
+pub refused-by : {A : Type 0} {o : Outcome A} {f : Refusal} {n p : ℕ} → f ≡ refusal n p → o ≡ refused n p → o ≡ refused (f .number) (f .place)
+unfolding refusal
+refused-by e h = h ∙ rw e
 
 -- no refusal of the reader has number 0
 data Numbered {A : Type 0} : Outcome A → Type 0 where
@@ -73,23 +79,23 @@ numbered-header : (at : ℕ) (rest : List ℕ) → Numbered (read-header at rest
 unfolding read-header _>>=_ _>>_ here and-then give
 numbered-header at rest =
     numbered-after (numbered-field 1 at rest) λ (bits at₁ : ℕ) (r₁ : List ℕ).
-    numbered-after (numbered-if _ 10 at at₁ r₁ (omega arith)) λ (u₁ : Unit) (at₂ : ℕ) (r₂ : List ℕ).
+    numbered-after (numbered-if _ _ _ at₁ r₁ (omega arith)) λ (u₁ : Unit) (at₂ : ℕ) (r₂ : List ℕ).
     numbered-after (numbered-field 2 at₂ r₂) λ (n at₃ : ℕ) (r₃ : List ℕ).
-    numbered-after (numbered-if _ 1 0 at₃ r₃ (omega arith)) λ (u₂ : Unit) (at₄ : ℕ) (r₄ : List ℕ).
+    numbered-after (numbered-if _ _ _ at₃ r₃ (omega arith)) λ (u₂ : Unit) (at₄ : ℕ) (r₄ : List ℕ).
     numbered-after (numbered-optional _ 2 0 at₄ r₄) λ (o at₅ : ℕ) (r₅ : List ℕ).
     numbered-after (numbered-wanted _ n at₅ r₅) λ (ws : List ℕ) (at₆ : ℕ) (r₆ : List ℕ).
-    numbered-after (numbered-if _ 12 at at₆ r₆ (omega arith)) λ (u₃ : Unit) (at₇ : ℕ) (r₇ : List ℕ). a-value
+    numbered-after (numbered-if _ _ _ at₆ r₆ (omega arith)) λ (u₃ : Unit) (at₇ : ℕ) (r₇ : List ℕ). a-value
 
 numbered-record : (before : Option Arc) (at : ℕ) (rest : List ℕ) → Numbered (read-record before at rest)
 unfolding read-record _>>=_ _>>_ here and-then give
 numbered-record before at rest =
     numbered-after (numbered-field 1 at rest) λ (bits at₁ : ℕ) (r₁ : List ℕ).
-    numbered-after (numbered-if _ 10 at at₁ r₁ (omega arith)) λ (u₁ : Unit) (at₂ : ℕ) (r₂ : List ℕ).
+    numbered-after (numbered-if _ _ _ at₁ r₁ (omega arith)) λ (u₁ : Unit) (at₂ : ℕ) (r₂ : List ℕ).
     numbered-after (numbered-optional _ 2 (implied before .tail) at₂ r₂) λ (t at₃ : ℕ) (r₃ : List ℕ).
     numbered-after (numbered-optional _ 2 (implied before .head) at₃ r₃) λ (h at₄ : ℕ) (r₄ : List ℕ).
     numbered-after (numbered-optional _ 4 (implied before .arc-length) at₄ r₄) λ (l at₅ : ℕ) (r₅ : List ℕ).
-    numbered-after (numbered-if _ 11 at at₅ r₅ (omega arith)) λ (u₂ : Unit) (at₆ : ℕ) (r₆ : List ℕ).
-    numbered-after (numbered-if _ 12 at at₆ r₆ (omega arith)) λ (u₃ : Unit) (at₇ : ℕ) (r₇ : List ℕ). a-value
+    numbered-after (numbered-if _ _ _ at₅ r₅ (omega arith)) λ (u₂ : Unit) (at₆ : ℕ) (r₆ : List ℕ).
+    numbered-after (numbered-if _ _ _ at₆ r₆ (omega arith)) λ (u₃ : Unit) (at₇ : ℕ) (r₇ : List ℕ). a-value
 
 numbered-records : (k : ℕ) (before : Option Arc) (at : ℕ) (rest : List ℕ) → Numbered (read-records k before at rest)
 unfolding read-records _>>=_ give
@@ -105,7 +111,7 @@ unfolding reading read-file read-content _>>=_ give
 numbered-reading file ts hs ls ws =
     numbered-cond (too-short (length ts) (length hs) (length ls) (length ws)) (a-ground (omega arith))
     (numbered-after (numbered-header 0 file) λ (h : Content) (at₁ : ℕ) (r₁ : List ℕ).
-    numbered-after (numbered-records most-arcs none at₁ r₁) λ (arcs : List Arc) (at₂ : ℕ) (r₂ : List ℕ). a-value)
+    numbered-after (numbered-records _ none at₁ r₁) λ (arcs : List Arc) (at₂ : ℕ) (r₂ : List ℕ). a-value)
 
 -- so number 0 is an acceptance, with buffers that are long enough
 got-of : {A : Type 0} (o : Outcome A) → Numbered o → refusal-of o .number ≡ 0 → (a : A) × (at : ℕ) × (rest : List ℕ) × (o ≡ got a at rest)

@@ -1,6 +1,6 @@
 -- Every file that the reader accepts is what the writer makes of what was read. Each part of the reader is taken back to the bytes that it
 -- read: where it got a value, those bytes are what the writer puts for that value. Assumes nothing.
-use mathlib.Core.Bool.{Bool, true, false, not}
+use mathlib.Core.Bool.{Bool, true, false}
 use mathlib.Core.List.{List, [], _∷_, _++_, append-assoc}
 use mathlib.Core.Option.{Option, none, some}
 use mathlib.Core.Path.{_≡_, refl, ap, sym, _∙_, subst}
@@ -8,14 +8,13 @@ use Prim.Native.Nat.{ℕ, zero, suc, _+_, _≤_}
 use native.Mathlib.Nat.{zero-add}
 use native.Mathlib.Decide.{decLe}
 use native.Mathlib.Omega.{arith}
-use lib.Dec.{eqb, ltb}
 use lib.ListN.{length, drop, take-append-drop}
 use borrow.Author.Tests.{le-leb, lt-leb, ltb-false, eqb-true, not-false}
 use Rattle.table.specs.Refusals.{count-bad}
 use Rattle.table.specs.Table.{Arc, arc, Below, most-nodes, most-arcs, most-wanted}
 use Rattle.link_format.specs.Format.{Content, content, bytes, has, count-up, field-bytes, nodes-bytes, wanted-bytes, header-bits, header-bytes, record-bits, fields-bytes, record-bytes, records-bytes, file-bytes}
 use Rattle.link_format.specs.Promises.{Accepted-files-write-back}
-use Rattle.link_format.specs.Reading.{forbidden-header, _>>_, _>>=_, Outcome, Reader, got, refused, list-got, and-then, give, here, refuse-if, number, field, optional, implied, forbidden, read-nodes, read-wanted, read-header, read-record, read-records, read-content, read-file}
+use Rattle.link_format.specs.Reading.{_>>_, _>>=_, Outcome, Reader, got, refused, list-got, and-then, give, here, refuse-if, number, field, optional, implied, read-nodes, read-wanted, read-header, read-record, read-records, read-content, read-file}
 use Rattle.link_format.proofs.AllNodes.{length-count-up}
 use Rattle.link_format.proofs.Counts.{few-nodes}
 use Rattle.link_format.proofs.Numbers.{bytes-number, below-drop}
@@ -24,13 +23,13 @@ use Rattle.link_format.proofs.Records.{few-records}
 
 -- What follows a step of a `do` block that got a value: the step got one too.
 module _ {B : Type 0} {b : B} {next : ℕ} {end : List ℕ} {P : Type 0} where
-  then-got : {A : Type 0} (o : Outcome A) (f : A → Reader B) → and-then o f ≡ got b next end
+  then-got : {A : Type 0} {o : Outcome A} {f : A → Reader B} → and-then o f ≡ got b next end
       → ((a : A) (at : ℕ) (rest : List ℕ) → o ≡ got a at rest → f a at rest ≡ got b next end → P) → P
   unfolding and-then
-  then-got (got a at rest) f e k = k a at rest refl e
-  then-got (refused n p) f e k = absurd (refused-got e)
+  then-got {o = got a at rest} e k = k a at rest refl e
+  then-got {o = refused n p} e k = absurd (refused-got e)
 
-  passed : (bad : Bool) (n p : ℕ) (at : ℕ) (rest : List ℕ) (f : Unit → Reader B) → and-then (refuse-if bad n p at rest) f ≡ got b next end
+  passed : (bad : Bool) (n p at : ℕ) (rest : List ℕ) (f : Unit → Reader B) → and-then (refuse-if bad n p at rest) f ≡ got b next end
       → (bad ≡ false → f tt at rest ≡ got b next end → P) → P
   unfolding and-then refuse-if
   passed true n p at rest f e k = absurd (refused-got e)
@@ -72,8 +71,8 @@ nodes-back : (k at : ℕ) (rest : List ℕ) {ws : List ℕ} {next : ℕ} {more :
 unfolding read-nodes _>>=_ give nodes-bytes
 nodes-back zero at rest small e = rw (← got-value e, ← got-rest e) (refl, small, refl)
 nodes-back (suc k) at rest {ws} {next} {more} small e =
-    then-got (field 2 at rest) _ e λ (w at₁ : ℕ) (r₁ : List ℕ) e₁ k₁.
-    then-got (read-nodes k at₁ r₁) _ k₁ λ (tl : List ℕ) (at₂ : ℕ) (r₂ : List ℕ) e₂ k₂.
+    then-got e λ (w at₁ : ℕ) (r₁ : List ℕ) e₁ k₁.
+    then-got k₁ λ (tl : List ℕ) (at₂ : ℕ) (r₂ : List ℕ) e₂ k₂.
     let one = field-back 2 at rest small e₁ in
     let all = nodes-back k at₁ r₁ (one .1) e₂ in
     let list : w ∷ tl ≡ ws = got-value k₂ in
@@ -92,8 +91,8 @@ wanted-back false n at rest {ws} small low e =
     let all : length (count-up 0 n) ≡ length ws = ap length (got-value e) in
     (got-rest e, subst (Below 256) (got-rest e) small, omega (arith, length-count-up 0 n))
 wanted-back true n at rest {ws} {next} {more} small low e =
-    then-got (field 2 at rest) _ e λ (count at₁ : ℕ) (r₁ : List ℕ) e₁ k₁.
-    passed (ltb most-wanted count) 5 most-wanted at₁ r₁ _ k₁ λ ok k₂.
+    then-got e λ (count at₁ : ℕ) (r₁ : List ℕ) e₁ k₁.
+    passed _ 5 most-wanted _ _ _ k₁ λ ok k₂.
     let one = field-back 2 at rest small e₁ in
     let all = nodes-back count at₁ r₁ (one .1) k₂ in (
       one .0 ∙ rw (all .0, all .2) (sym (append-assoc (bytes 2 count) (nodes-bytes ws) more)),
@@ -146,12 +145,12 @@ pub header-back : (at : ℕ) (rest : List ℕ) {t : Content} {next : ℕ} {more 
 unfolding read-header _>>=_ _>>_ here and-then give
 header-back at rest {t} {next} {more} small e =
     byte-first at rest _ small e λ (bits : ℕ) (r₁ : List ℕ) e₁ s₁ k₁.
-    passed (forbidden-header bits) 10 at (at + 1) r₁ _ k₁ λ ok₁ k₂.
-    then-got (field 2 (at + 1) r₁) _ k₂ λ (n at₂ : ℕ) (r₂ : List ℕ) e₂ k₃.
-    passed (count-bad n) 1 0 at₂ r₂ _ k₃ λ ok₂ k₄.
-    then-got (optional (has 2 bits) 2 0 at₂ r₂) _ k₄ λ (o at₃ : ℕ) (r₃ : List ℕ) e₃ k₅.
-    then-got (read-wanted (has 4 bits) n at₃ r₃) _ k₅ λ (ws : List ℕ) (at₄ : ℕ) (r₄ : List ℕ) e₄ k₆.
-    passed (not (eqb bits (header-bits n o ws))) 12 at at₄ r₄ _ k₆ λ ok₃ k₇.
+    passed _ 10 at _ _ _ k₁ λ ok₁ k₂.
+    then-got k₂ λ (n at₂ : ℕ) (r₂ : List ℕ) e₂ k₃.
+    passed _ 1 0 _ _ _ k₃ λ ok₂ k₄.
+    then-got k₄ λ (o at₃ : ℕ) (r₃ : List ℕ) e₃ k₅.
+    then-got k₅ λ (ws : List ℕ) (at₄ : ℕ) (r₄ : List ℕ) e₄ k₆.
+    passed _ 12 at _ _ _ k₆ λ ok₃ k₇.
     let f₂ = field-back 2 (at + 1) r₁ s₁ e₂ in
     let f₃ = optional-back (has 2 bits) 2 0 at₂ r₂ (f₂ .1) e₃ in
     let f₄ = wanted-back (has 4 bits) n at₃ r₃ (f₃ .1) (few-nodes ok₂) e₄ in
@@ -163,12 +162,12 @@ pub record-back : (before : Option Arc) (at : ℕ) (rest : List ℕ) {a : Arc} {
 unfolding read-record _>>=_ _>>_ here and-then give
 record-back before at rest {a} {next} {more} small e =
     byte-first at rest _ small e λ (bits : ℕ) (r₁ : List ℕ) e₁ s₁ k₁.
-    passed (forbidden before bits) 10 at (at + 1) r₁ _ k₁ λ ok₁ k₂.
-    then-got (optional (has 1 bits) 2 (implied before .tail) (at + 1) r₁) _ k₂ λ (t at₂ : ℕ) (r₂ : List ℕ) e₂ k₃.
-    then-got (optional (has 2 bits) 2 (implied before .head) at₂ r₂) _ k₃ λ (h at₃ : ℕ) (r₃ : List ℕ) e₃ k₄.
-    then-got (optional (has 4 bits) 4 (implied before .arc-length) at₃ r₃) _ k₄ λ (l at₄ : ℕ) (r₄ : List ℕ) e₄ k₅.
-    passed (ltb 65535 h) 11 at at₄ r₄ _ k₅ λ ok₂ k₆.
-    passed (not (eqb bits (record-bits before (arc t h l)))) 12 at at₄ r₄ _ k₆ λ ok₃ k₇.
+    passed _ 10 at _ _ _ k₁ λ ok₁ k₂.
+    then-got k₂ λ (t at₂ : ℕ) (r₂ : List ℕ) e₂ k₃.
+    then-got k₃ λ (h at₃ : ℕ) (r₃ : List ℕ) e₃ k₄.
+    then-got k₄ λ (l at₄ : ℕ) (r₄ : List ℕ) e₄ k₅.
+    passed _ 11 at _ _ _ k₅ λ ok₂ k₆.
+    passed _ 12 at _ _ _ k₆ λ ok₃ k₇.
     let f₂ = optional-back (has 1 bits) 2 (implied before .tail) (at + 1) r₁ s₁ e₂ in
     let f₃ = optional-back (has 2 bits) 2 (implied before .head) at₂ r₂ (f₂ .1) e₃ in
     let f₄ = optional-back (has 4 bits) 4 (implied before .arc-length) at₃ r₃ (f₃ .1) e₄ in
@@ -182,8 +181,8 @@ records-back zero before at [] small e = ap (records-bytes before) (got-value e)
 records-back (suc k) before at [] small e = ap (records-bytes before) (got-value e)
 records-back zero before at (b ∷ rest) small e = absurd (refused-got e)
 records-back (suc k) before at (b ∷ rest) {arcs} small e =
-    then-got (read-record before at (b ∷ rest)) _ e λ (a : Arc) (at₁ : ℕ) (r₁ : List ℕ) e₁ k₁.
-    then-got (read-records k (some a) at₁ r₁) _ k₁ λ (tl : List Arc) (at₂ : ℕ) (r₂ : List ℕ) e₂ k₂.
+    then-got e λ (a : Arc) (at₁ : ℕ) (r₁ : List ℕ) e₁ k₁.
+    then-got k₁ λ (tl : List Arc) (at₂ : ℕ) (r₂ : List ℕ) e₂ k₂.
     let one = record-back before at (b ∷ rest) small e₁ in
     let all : r₁ ≡ records-bytes (some a) tl = records-back k (some a) at₁ r₁ (one .1) e₂ in
     let list : a ∷ tl ≡ arcs = got-value k₂ in
@@ -199,8 +198,8 @@ pub record File-back (file : List ℕ) (t : Content) : Type 0 where
 pub file-back : (file : List ℕ) {t : Content} {next : ℕ} {rest : List ℕ} → Below 256 file → read-file file ≡ got t next rest → File-back file t
 unfolding read-file read-content _>>=_ give file-bytes content list-got
 file-back file {t} small e =
-    then-got (read-header 0 file) _ e λ (h : Content) (at₁ : ℕ) (r₁ : List ℕ) e₁ k₁.
-    then-got (read-records most-arcs none at₁ r₁) _ k₁ λ (arcs : List Arc) (at₂ : ℕ) (r₂ : List ℕ) e₂ k₂.
+    then-got e λ (h : Content) (at₁ : ℕ) (r₁ : List ℕ) e₁ k₁.
+    then-got k₁ λ (arcs : List Arc) (at₂ : ℕ) (r₂ : List ℕ) e₂ k₂.
     let head = header-back 0 file small e₁ in
     let all : r₁ ≡ records-bytes none arcs = records-back most-arcs none at₁ r₁ (head .small) e₂ in
     let is : content (h .n) (h .origin) (h .wanted) arcs ≡ t = got-value k₂ in

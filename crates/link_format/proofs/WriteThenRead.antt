@@ -13,7 +13,7 @@ use lib.Seq.{drop-at}
 use borrow.Author.Tests.{le-leb, le-ltb, eq-eqb, eqb-true, not-false}
 use Rattle.table.specs.Refusals.{count-bad}
 use Rattle.table.specs.Table.{Arc, arc, Below, most-arcs, most-wanted}
-use Rattle.link_format.specs.Format.{content, bytes, bit-map, has, field-bytes, all-nodes, nodes-bytes, wanted-bytes, header-bits, header-bytes, record-bits, fields-bytes, record-bytes, records-bytes, file-bytes}
+use Rattle.link_format.specs.Format.{last-head, content, bytes, bit-map, has, field-bytes, all-nodes, nodes-bytes, wanted-bytes, header-bits, header-bytes, record-bits, fields-bytes, record-bytes, records-bytes, file-bytes}
 use Rattle.link_format.specs.Promises.{Long-files-are-refused, Writable-header, Small-arc, Small-arcs, Implied-where-absent, Written-tables-read-back}
 use Rattle.link_format.specs.Reading.{forbidden-header, refused, _>>_, _>>=_, got, and-then, give, here, refuse-if, number, field, optional, implied, forbidden, read-nodes, read-wanted, read-header, read-record, read-records, read-content, read-file}
 use Rattle.link_format.proofs.AllNodes.{all-nodes-are}
@@ -115,7 +115,7 @@ record-again before a at rest small =
       optional-again (has 1 bits) 2 (implied before .tail) (a .tail) (at + 1) (y ++ (z ++ rest)) (small .tail-fits) (absent .tail-said),
       optional-again (has 2 bits) 2 (implied before .head) (a .head) (at + 1 + length x) (z ++ rest) (small .head-fits) (absent .head-said),
       optional-again (has 4 bits) 4 (implied before .arc-length) (a .arc-length) (at + 1 + length x + length y) rest (small .length-fits) (absent .length-said),
-      le-ltb 65535 (a .head) (omega (arith, small .head-fits)),
+      le-ltb last-head (a .head) (omega (arith, small .head-fits)),
       eq-eqb bits bits refl,
       sum,
     )

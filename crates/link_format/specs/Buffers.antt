@@ -27,13 +27,16 @@ unfoldable pub reading : (file tails heads lengths wanted : List ℕ) → Outcom
 reading file ts hs ls ws = cond (too-short (length ts) (length hs) (length ls) (length ws)) (refused 3 0) (read-file file)
 
 -- the refusal, and the content that was read: none in a refusal
+unfoldable pub no-content : Content
+no-content = content 0 0 [] []
+
 unfoldable pub refusal-of : {A : Type 0} → Outcome A → Refusal
 refusal-of (got a at rest) = no-refusal
 refusal-of (refused n p) = refusal n p
 
 unfoldable pub content-of : Outcome Content → Content
 content-of (got t at rest) = t
-content-of (refused n p) = content 0 0 [] []
+content-of (refused n p) = no-content
 
 -- the file that the writer makes of its arguments
 unfoldable pub file-of : (n origin : ℕ) → (tails heads lengths wanted : List ℕ) → List ℕ

@@ -41,7 +41,7 @@ pub record Writable (t : Content) : Type 0 where
 abbrev pub Written-tables-read-back : Type 0
 Written-tables-read-back = (t : Content) → Writable t → read-file (file-bytes t) ≡ got t (length (file-bytes t)) []
 
--- A file with more than 6,000 records, whatever arcs they say, is refused where record 6,001 begins.
+-- The bytes of more than 6,000 arcs, whatever these are, are refused where record 6,001 begins.
 abbrev pub Long-files-are-refused : Type 0
 Long-files-are-refused =
     (t : Content) → Writable-header (t .n) (t .origin) (t .wanted) → Small-arcs (t .arcs) → most-arcs < length (t .arcs)

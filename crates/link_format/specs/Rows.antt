@@ -6,9 +6,9 @@ use Prim.Native.Nat.{ℕ}
 use lib.ListN.{replicate}
 use Rattle.table.specs.Refusals.{refusal, no-refusal}
 use Rattle.table.specs.Table.{Arc, arc}
+use Rattle.link_format.specs.Buffers.{writing}
 use Rattle.link_format.specs.Format.{Content, content, file-bytes}
 use Rattle.link_format.specs.Reading.{got, refused, read-records, read-file}
-use Rattle.link_format.specs.Buffers.{writing}
 
 -- 01's input of `routes`: 05 0400 0100 0300; 07 0000 0100 02000000; 04 05000000; 07 0100 0200 03000000; 05 0200 01000000; 07 0100 0300 09000000
 abbrev pub example-file : List ℕ
@@ -51,7 +51,7 @@ pub record Rows : Type 0 where
   pub wanted-empty : read-file (5 ∷ 2 ∷ 0 ∷ 0 ∷ 0 ∷ []) ≡ got (content 2 0 [] []) 5 []
   -- 2: where record 6,001 begins, none is allowed any more, whatever it says
   pub record-6001 : (before : Option Arc) (at b : ℕ) (rest : List ℕ) → read-records 0 before at (b ∷ rest) ≡ refused 2 6000
-  -- the writer tests 1, 2, 5 and 13 in this order: each of the first four has every fault of those below it
+  -- the writer tests 1, 2, 5 and 13 in this order: each of the first three has every fault of those below it
   pub write-no-nodes : writing 0 0 (0 ∷ []) [] [] (replicate 1025 0) 0 ≡ refusal 1 0
   pub write-columns : writing 1 0 (0 ∷ []) [] [] (replicate 1025 0) 0 ≡ refusal 2 0
   pub write-wanted : writing 1 0 [] [] [] (replicate 1025 0) 0 ≡ refusal 5 1024

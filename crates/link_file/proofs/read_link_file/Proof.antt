@@ -9,54 +9,93 @@ use lib.ListN.{length}
 use Rattle.link_format.specs.Buffers.{too-short, reading}
 use Rattle.link_format.specs.Reading.{read-file}
 use Rattle.link_format.proofs.Counts.{Roomy, roomy}
-use Rattle.link_format.proofs.Outcomes.{reading-short, reading-roomy}
-use Rattle.link_file.specs.Says.{Header-got, Header-says, tally, records-from}
-use Rattle.link_file.proofs.Whole.{none-read, header-refuses, records-refuse, tally-accepted, all-read}
+use Rattle.link_format.proofs.Outcomes.{refused-by, reading-short, reading-roomy}
+use Rattle.link_file.specs.Says.{Header-got, tally, records-from}
+use Rattle.link_file.proofs.ReaderWays.{none-read, header-refuses, records-refuse, tally-accepted, tally-few, read-whole}
 use Rattle.link_file.specs.declared.records.Counted.the-variants.{Arcs}
+use Rattle.link_file.specs.declared.header.Header.{Header}
+use Rattle.link_file.proofs.header.Ways.{header-as-refused, header-as-got}
+use native.Mathlib.Omega.{arith}
 use Rattle.link_file.proofs.read_link_file.Statement.{statement}
 use Rattle.link_file.proofs.read_link_file.Tie as tie
+
+-- the arguments
+module _ (s : tie.Start) where
+  abbrev file : List ℕ
+  file = now (s .args .file)
+
+  abbrev tails : List ℕ
+  tails = now (s .args .tails)
+
+  abbrev heads : List ℕ
+  heads = now (s .args .heads)
+
+  abbrev lengths : List ℕ
+  lengths = now (s .args .lengths)
+
+  abbrev wanted : List ℕ
+  wanted = now (s .args .wanted)
 
 -- where the buffers were found long enough
 module _ (c : tie.Else1) where
   abbrev start : tie.Start
   start = c .before .before .before .before .before .before .before
 
-  abbrev file : List ℕ
-  file = now (start .args .file)
+  long : too-short (length (tails start)) (length (heads start)) (length (lengths start)) (length (wanted start)) ≡ false
+  long = sym (c .before .short .ensures) ∙ c .if1 .left
 
-  fits : too-short (length (now (start .args .tails))) (length (now (start .args .heads))) (length (now (start .args .lengths))) (length (now (start .args .wanted))) ≡ false
-  fits = sym (c .before .short .ensures) ∙ c .if1 .left
+  room : Roomy (length (tails start)) (length (heads start)) (length (lengths start)) (length (wanted start))
+  room = roomy _ _ _ _ long
 
-  room : Roomy (length (now (start .args .tails))) (length (now (start .args .heads))) (length (now (start .args .lengths))) (length (now (start .args .wanted)))
-  room = roomy _ _ _ _ fits
+  all : reading (file start) (tails start) (heads start) (lengths start) (wanted start) ≡ read-file (file start)
+  all = reading-roomy (file start) _ _ _ _ long
 
-  all : reading file (now (start .args .tails)) (now (start .args .heads)) (now (start .args .lengths)) (now (start .args .wanted)) ≡ read-file file
-  all = reading-roomy file _ _ _ _ fits
+-- where the header was read
+module _ (c : tie.After-header) where
+  abbrev fitting : tie.Else1
+  fitting = c .before .before .before
 
--- the header that was read
-headed : (c : tie.After-header) → Header-got (file (c .before .before .before)) (c .header .given .0 .0)
-unfolding Header-says
-headed c = rw (c .header .given .1) at (c .before .before .read-header .ensures)
+  abbrev header : Header
+  header = c .header .given .0 .0
 
--- the count of the records
-counted : (c : tie.After-arcs) → let h = c .before .before .before .before in
-    tally 0 (records-from (file (h .before .before .before)) (h .header .given .0 .0 .next)) ≡ Arcs (c .arcs .given .0 .0)
-counted c = sym (c .before .before .count-records .ensures) ∙ c .arcs .given .1
+  headed : Header-got (file (start fitting)) header
+  headed = header-as-got (c .header .given .1) (c .before .before .read-header .ensures)
+
+-- where the records were counted
+module _ (c : tie.After-arcs) where
+  abbrev behind : tie.After-header
+  behind = c .before .before .before .before
+
+  counted : tally 0 (records-from (file (start (fitting behind))) (header behind .next)) ≡ Arcs (c .arcs .given .0 .0)
+  counted = sym (c .before .before .count-records .ensures) ∙ c .arcs .given .1
+
+-- where the buffers were filled
+module _ (c : tie.After-fill-records) where
+  abbrev wanted-filled : tie.After-fill-wanted
+  wanted-filled = c .before .before .before .before .before .before
+
+  abbrev good : tie.After-arcs
+  good = wanted-filled .before .before .before
 
 short-requires : tie.Need-short-requires
 short-requires c κs = search needs
+
+refuse-requires : tie.Need-refuse-requires
+refuse-requires c κs = omega arith
 
 not-read-requires : tie.Need-not-read-requires
 not-read-requires c κs = search needs
 
 returns : tie.Need-returns
-returns c = none-read _ (reading-short _ _ _ _ _ (sym (c .before .before .short .ensures) ∙ c .before .if1 .taken)) (c .not-read .ensures)
+returns c =
+    let t = c .before .before in
+    none-read _ (refused-by (c .before .refuse .ensures) (reading-short _ _ _ _ _ (sym (t .before .short .ensures) ∙ t .if1 .taken))) (c .not-read .ensures)
 
 read-header-requires : tie.Need-read-header-requires
 read-header-requires c κs = search needs
 
-enum-known-number : tie.Need-enum-known-number
-enum-known-number c = search needs
+enum-known-refusal : tie.Need-enum-known-refusal
+enum-known-refusal c = search needs
 
 not-read-requires-2 : tie.Need-not-read-requires-2
 not-read-requires-2 c κs = search needs
@@ -67,8 +106,8 @@ enum-known-header c = search needs
 count-records-requires : tie.Need-count-records-requires
 count-records-requires c κs = let g = headed (c .before) in (g .inside, g .short)
 
-enum-known-number-2 : tie.Need-enum-known-number-2
-enum-known-number-2 c = search needs
+enum-known-refusal-2 : tie.Need-enum-known-refusal-2
+enum-known-refusal-2 c = search needs
 
 not-read-requires-3 : tie.Need-not-read-requires-3
 not-read-requires-3 c κs = search needs
@@ -77,35 +116,42 @@ enum-known-arcs : tie.Need-enum-known-arcs
 enum-known-arcs c = search needs
 
 fill-wanted-requires : tie.Need-fill-wanted-requires
-fill-wanted-requires c κs =
-    let h = c .before .before .before .before .before .before in
-    (headed h, room (h .before .before .before) .wanted-room)
+fill-wanted-requires c κs = let h = behind (c .before .before) in (headed h, room (fitting h) .wanted-room)
 
 fill-records-requires : tie.Need-fill-records-requires
 fill-records-requires c κs =
-    let a = c .before .before .before .before .before .before .before .before in
-    let h = a .before .before .before .before in
-    let e = h .before .before .before in
+    let w = c .before .before .before .before .before in
+    let a = w .before .before .before in
+    let h = behind a in
+    let e = room (fitting h) in
     record {
       inside = headed h .inside;
       short = headed h .short;
       good = tally-accepted _ (counted a);
-      tails-room = room e .tails-room;
-      heads-room = room e .heads-room;
-      lengths-room = room e .lengths-room;
+      tails-room = e .tails-room;
+      heads-room = e .heads-room;
+      lengths-room = e .lengths-room;
     }
 
+all-read-requires : tie.Need-all-read-requires
+all-read-requires c κs =
+    let a = good (c .before .before .before .before .before .before) in
+    let g = headed (behind a) in
+    (g .nodes, (g .few, tally-few _ _ (counted a)))
+
 returns-2 : tie.Need-returns-2
-unfolding Header-says
 returns-2 c =
-    let e = c .before .before .before .before .before in
-    none-read (file e) (all e ∙ header-refuses (file e) (rw (c .before .before .number .given .1) at (c .before .before .before .before .read-header .ensures))) (c .not-read2 .ensures)
+    let r = c .before .before in
+    let e = r .before .before .before in
+    none-read (file (start e)) (all e ∙ header-refuses _ (header-as-refused _ (r .refusal .given .1) (r .before .before .read-header .ensures))) (c .not-read2 .ensures)
 
 returns-3 : tie.Need-returns-3
 returns-3 c =
-    let h = c .before .before .before .before .before .before in
-    let e = h .before .before .before in
-    none-read (file e) (all e ∙ records-refuse (file e) _ (headed h) (sym (c .before .before .before .before .count-records .ensures) ∙ c .before .before .number2 .given .1)) (c .not-read3 .ensures)
+    let r = c .before .before in
+    let k = r .before .before in
+    let h = k .before .before in
+    let e = fitting h in
+    none-read (file (start e)) (all e ∙ records-refuse _ _ (headed h) (sym (k .count-records .ensures) ∙ r .refusal2 .given .1)) (c .not-read3 .ensures)
 
 same-length : tie.Need-same-length
 same-length c = search needs
@@ -121,29 +167,32 @@ same-length-4 c = search needs
 
 returns-4 : tie.Need-returns-4
 returns-4 c =
-    let a = c .before .before .before .before .before .before .before .before .before .before .before .before .before .before .before in
-    let h = a .before .before .before .before in
-    let e = h .before .before .before in
-    all-read (file e) _ (headed h) (all e) (room e) (counted a) (c .before .before .before .before .before .before .fill-records .ensures)
-    (c .before .before .before .before .before .before .before .before .before .before .before .before .fill-wanted .ensures)
+    let f = c .before .before .before .before .before .before .before in
+    let a = good f in
+    let h = behind a in
+    let e = fitting h in
+    let filled = f .fill-records .ensures in
+    read-whole (file (start e)) _ (headed h) (all e) (room e) (counted a) (filled .0) (filled .1 .0) (filled .1 .1) (wanted-filled f .fill-wanted .ensures) (c .all-read .ensures)
 
 pub read-link-file-spec : {M : Type 1} → statement M
 read-link-file-spec =
     tie.close
     (tie.spec
     short-requires
+    refuse-requires
     not-read-requires
     returns
     read-header-requires
-    enum-known-number
+    enum-known-refusal
     not-read-requires-2
     enum-known-header
     count-records-requires
-    enum-known-number-2
+    enum-known-refusal-2
     not-read-requires-3
     enum-known-arcs
     fill-wanted-requires
     fill-records-requires
+    all-read-requires
     returns-2
     returns-3
     same-length

@@ -2,22 +2,30 @@
 use borrow.Author.Needs.{needs}
 use mathlib.Core.Bool.{false}
 use mathlib.Core.List.{List}
+use mathlib.Core.Option.{none}
 use mathlib.Core.Path.{_≡_, refl, sym, _∙_}
-use Prim.Native.Nat.{ℕ, _+_, _≤_}
-use native.Mathlib.Omega.{arith}
+use Prim.Native.Nat.{ℕ, _+_}
+use native.Mathlib.Omega.{none, arith}
 use denote.Ref.{now}
 use lib.ListN.{length}
 use Rattle.table.specs.Refusals.{count-bad, columns-bad}
-use Rattle.table.specs.Table.{most-nodes}
+use Rattle.table.specs.Table.{arcs-of, most-wanted}
 use Rattle.link_format.specs.Buffers.{file-of}
-use Rattle.link_format.proofs.Counts.{few-nodes, equal-columns}
-use Rattle.link_file.proofs.Pieces.{put-kept}
-use Rattle.link_file.proofs.WriteWays.{file-size, none-written, refuses-count, refuses-columns, refuses-wanted, refuses-room, all-written}
+use Rattle.link_format.proofs.Counts.{equal-columns}
+use Rattle.link_file.proofs.WriterWays.{file-size, none-written, refuses-count, refuses-columns, refuses-wanted, refuses-room, all-written}
+use Rattle.link_file.proofs.writer.Pieces.{put-kept}
+use Rattle.link_format.specs.Format.{records-bytes, header-bytes}
 use Rattle.link_file.proofs.write_link_file.Statement.{statement}
 use Rattle.link_file.proofs.write_link_file.Tie as tie
 
--- the arguments
+-- the arguments, and the file that they make
 module _ (s : tie.Start) where
+  abbrev n : ℕ
+  n = s .args .n
+
+  abbrev o : ℕ
+  o = s .args .origin
+
   abbrev ts : List ℕ
   ts = now (s .args .tails)
 
@@ -33,67 +41,106 @@ module _ (s : tie.Start) where
   abbrev out : List ℕ
   out = now (s .args .output)
 
--- what is known after each test
-fine : (c : tie.Else1) → let n = c .before .before .before .before .before .before .before .args .n in count-bad n ≡ false
-fine c = sym (c .before .bad-count .ensures) ∙ c .if1 .left
+  -- its size is that of its two parts
+  sized : length (file-of n o ts hs ls ws) ≡ length (header-bytes n o ws) + length (records-bytes none (arcs-of ts hs ls))
+  sized = file-size n o ts hs ls ws out
 
-low : (c : tie.Else1) → c .before .before .before .before .before .before .before .args .n ≤ most-nodes
-low c = few-nodes (fine c)
+-- where the node count was found good
+module _ (c : tie.Else1) where
+  abbrev start : tie.Start
+  start = c .before .before .before .before .before .before .before
 
-equal : (c : tie.Else2) → let s = c .before .before .before .before .before .before .before .before .before in columns-bad (length (ts s)) (length (hs s)) (length (ls s)) ≡ false
-unfolding columns-bad
-equal c = sym (c .before .bad-columns .ensures) ∙ c .if2 .left
+  fine : count-bad (n start) ≡ false
+  fine = sym (c .before .bad-count .ensures) ∙ c .if1 .left
 
--- the size is the file's
-size-is : (c : tie.After-records-size) → let k = c .before .before .before .before in let s = k .before .before .before .before .before .before .before .before .before in
-    c .before .header-size .result + c .records-size .result ≡ length (file-of (s .args .n) (s .args .origin) (ts s) (hs s) (ls s) (ws s))
-size-is c =
-    let k = c .before .before .before .before in
-    let s = k .before .before .before .before .before .before .before .before .before in
-    omega (
-      arith,
-      file-size (s .args .n) (s .args .origin) (ts s) (hs s) (ls s) (ws s) (out s),
-      c .records-size .ensures .0,
-      c .before .header-size .ensures .is (s .args .n) (s .args .origin) (ws s) refl (c .before .before .header-bits .ensures),
-    )
+-- where the columns were
+module _ (c : tie.Else2) where
+  abbrev counted : tie.Else1
+  counted = c .before .before
+
+  equal : let s = start counted in columns-bad (length (ts s)) (length (hs s)) (length (ls s)) ≡ false
+  equal = sym (c .before .bad-columns .ensures) ∙ c .if2 .left
+
+-- where the size is known: it is the file's
+module _ (c : tie.After-records-size) where
+  abbrev few : tie.Else3
+  few = c .before .before .before
+
+  abbrev columns : tie.Else2
+  columns = few .before
+
+  abbrev args : tie.Start
+  args = start (counted columns)
+
+  abbrev size : ℕ
+  size = c .before .header-size .result + c .records-size .result
+
+  size-is : size ≡ length (file-of (n args) (o args) (ts args) (hs args) (ls args) (ws args))
+  size-is =
+      omega (
+        arith,
+        sized args,
+        c .records-size .ensures .0,
+        c .before .header-size .ensures .is (n args) (o args) (ws args) refl (c .before .before .header-bits .ensures),
+      )
+
+-- where the header was put
+module _ (c : tie.After-write-header) where
+  abbrev roomy : tie.Else4
+  roomy = c .before .before
+
+  abbrev measured : tie.After-records-size
+  measured = roomy .before
 
 bad-count-requires : tie.Need-bad-count-requires
 bad-count-requires c κs = search needs
+
+refuse-requires : tie.Need-refuse-requires
+refuse-requires c κs = omega arith
 
 not-written-requires : tie.Need-not-written-requires
 not-written-requires c κs = search needs
 
 returns : tie.Need-returns
 returns c =
-    let o = out (c .before .before .before .before .before .before .before .before) in
-    none-written _ _ _ _ _ _ o 1 0 refl (refuses-count _ _ _ _ _ _ o (sym (c .before .before .bad-count .ensures) ∙ c .before .if1 .taken)) (c .not-written .ensures)
+    let t = c .before .before in
+    let s = t .before .before .before .before .before .before .before in
+    none-written _ _ _ _ _ _ (out s) 1 0 (omega arith) (c .before .refuse .ensures)
+    (refuses-count _ _ _ _ _ _ (out s) (sym (t .before .bad-count .ensures) ∙ t .if1 .taken)) (c .not-written .ensures)
 
 bad-columns-requires : tie.Need-bad-columns-requires
 bad-columns-requires c κs = search needs
+
+refuse-requires-2 : tie.Need-refuse-requires-2
+refuse-requires-2 c κs = omega arith
 
 not-written-requires-2 : tie.Need-not-written-requires-2
 not-written-requires-2 c κs = search needs
 
 returns-2 : tie.Need-returns-2
-unfolding columns-bad
 returns-2 c =
-    let e = c .before .before .before in
-    let o = out (e .before .before .before .before .before .before .before) in
-    none-written _ _ _ _ _ _ o 2 0 refl
-    (refuses-columns _ _ _ _ _ _ o (fine e) (sym (c .before .before .bad-columns .ensures) ∙ c .before .if2 .taken)) (c .not-written2 .ensures)
+    let t = c .before .before in
+    let e = t .before .before in
+    let s = start e in
+    none-written _ _ _ _ _ _ (out s) 2 0 (omega arith) (c .before .refuse2 .ensures)
+    (refuses-columns _ _ _ _ _ _ (out s) (fine e) (sym (t .before .bad-columns .ensures) ∙ t .if2 .taken)) (c .not-written2 .ensures)
+
+refuse-requires-3 : tie.Need-refuse-requires-3
+refuse-requires-3 c κs = omega arith
 
 not-written-requires-3 : tie.Need-not-written-requires-3
 not-written-requires-3 c κs = search needs
 
 returns-3 : tie.Need-returns-3
 returns-3 c =
-    let k = c .before .before in
-    let e = k .before .before in
-    let o = out (e .before .before .before .before .before .before .before) in
-    none-written _ _ _ _ _ _ o 5 1024 refl (refuses-wanted _ _ _ _ _ _ o (fine e) (equal k) (c .before .if3 .taken)) (c .not-written3 .ensures)
+    let t = c .before .before in
+    let k = t .before in
+    let s = start (counted k) in
+    none-written _ _ _ _ _ _ (out s) 5 most-wanted (omega arith) (c .before .refuse3 .ensures)
+    (refuses-wanted _ _ _ _ _ _ (out s) (fine (counted k)) (equal k) (t .if3 .taken)) (c .not-written3 .ensures)
 
 header-bits-requires : tie.Need-header-bits-requires
-header-bits-requires c κs = low (c .before .before .before)
+header-bits-requires c κs = search needs
 
 header-size-requires : tie.Need-header-size-requires
 header-size-requires c κs = search needs
@@ -104,80 +151,77 @@ records-size-requires c κs = equal-columns _ _ _ (equal (c .before .before .bef
 add-size : tie.Need-add-size
 add-size c = search needs
 
+refuse-requires-4 : tie.Need-refuse-requires-4
+refuse-requires-4 c κs = omega arith
+
 not-written-requires-4 : tie.Need-not-written-requires-4
 not-written-requires-4 c κs = search needs
 
 returns-4 : tie.Need-returns-4
 returns-4 c =
-    let r = c .before .before in
-    let k = r .before .before .before .before in
-    let e = k .before .before in
-    let o = out (e .before .before .before .before .before .before .before) in
-    none-written _ _ _ _ _ _ o 13 0 refl
-    (refuses-room _ _ _ _ _ _ o (fine e) (equal k) (r .before .before .before .if3 .left) (omega (arith, size-is r, c .before .if4 .taken))) (c .not-written4 .ensures)
+    let t = c .before .before in
+    let r = t .before in
+    let k = columns r in
+    none-written _ _ _ _ _ _ (out (args r)) 13 0 (omega arith) (c .before .refuse4 .ensures)
+    (refuses-room _ _ _ _ _ _ (out (args r)) (fine (counted k)) (equal k) (few r .if3 .left) (omega (arith, size-is r, t .if4 .taken))) (c .not-written4 .ensures)
 
 write-header-requires : tie.Need-write-header-requires
 write-header-requires c κs =
     let r = c .before .before in
-    let e = r .before .before .before in
-    let s = e .before .before .before .before .before .before .before .before .before .before in
     record {
       canonical = r .before .before .header-bits .ensures;
-      room = omega (arith, size-is r, c .before .if4 .left, file-size (s .args .n) (s .args .origin) (ts s) (hs s) (ls s) (ws s) (out s));
-      few = e .if3 .left;
+      room = omega (arith, size-is r, c .before .if4 .left, sized (args r));
+      few = few r .if3 .left;
     }
 
 write-records-requires : tie.Need-write-records-requires
 write-records-requires c κs =
     let h = c .before .before .before in
-    let r = h .before .before .before in
-    let k = r .before .before .before .before in
-    let s = k .before .before .before .before .before .before .before .before .before in (
-      equal-columns _ _ _ (equal k),
-      omega (
-        arith,
-        size-is r,
-        h .before .before .if4 .left,
-        h .write-header .ensures .on,
-        put-kept (h .write-header .ensures),
-        file-size (s .args .n) (s .args .origin) (ts s) (hs s) (ls s) (ws s) (out s),
-      ),
-    )
+    let r = measured h in
+    let put = h .write-header .ensures in
+    (equal-columns _ _ _ (equal (columns r)), omega (arith, size-is r, roomy h .if4 .left, put .on, put-kept put, sized (args r)))
 
-cast-length : tie.Need-cast-length
-cast-length c = search needs
+narrow-requires : tie.Need-narrow-requires
+narrow-requires c κs =
+    let r = measured (c .before .before .before .before .before .before) in
+    omega (arith, r .records-size .ensures .1, r .before .header-size .ensures .near)
 
 same-length : tie.Need-same-length
 same-length c = search needs
 
 returns-5 : tie.Need-returns-5
 returns-5 c =
-    let h = c .before .before .before .before .before .before in
-    let r = h .before .before .before in
-    let k = r .before .before .before .before in
-    all-written _ _ _ _ _ _ _ (fine (k .before .before)) (equal k) (r .before .before .before .if3 .left) (size-is r) (omega (arith, size-is r, h .before .before .if4 .left))
-    (h .write-header .ensures) (c .before .before .write-records .ensures)
+    let w = c .before .before .before in
+    let h = w .before .before .before .before in
+    let r = measured h in
+    let k = columns r in
+    all-written _ _ _ _ _ _ _ (fine (counted k)) (equal k) (few r .if3 .left) (size-is r) (omega (arith, size-is r, roomy h .if4 .left))
+    (h .write-header .ensures) (w .write-records .ensures) (rw (c .narrow .ensures))
 
 pub write-link-file-spec : {M : Type 1} → statement M
 write-link-file-spec =
     tie.close
     (tie.spec
     bad-count-requires
+    refuse-requires
     not-written-requires
     returns
     bad-columns-requires
+    refuse-requires-2
     not-written-requires-2
     returns-2
+    refuse-requires-3
     not-written-requires-3
     returns-3
     header-bits-requires
     header-size-requires
     records-size-requires
     add-size
+    refuse-requires-4
     not-written-requires-4
     returns-4
     write-header-requires
     write-records-requires
-    cast-length
+    narrow-requires
     same-length
     returns-5)

@@ -1,7 +1,7 @@
 -- `arcs::forbidden` meets its contract: by cases on the record before and on the range of the bit map. Assumes nothing.
 use borrow.Author.Needs.{needs}
 use mathlib.Core.Path.{_∙_, sym}
-use Rattle.link_file.proofs.BitMaps.{forbidden-full, forbidden-low, forbidden-high}
+use Rattle.link_file.proofs.arcs.BitMaps.{forbidden-full, forbidden-low, forbidden-high}
 use Rattle.link_file.proofs.arcs.forbidden.Statement.{statement}
 use Rattle.link_file.proofs.arcs.forbidden.Tie as tie
 

@@ -36,9 +36,11 @@ returns c = c .bits-of .ensures ∙ rw (c .before .enum-told .given .1)
 returns-2 : tie.Need-returns-2
 unfolding record-bits arc-before arc-of arc
 returns-2 c =
-    let s = c .before .before .before .before .before .before .before .before in
-    let e : s .before .before .args .previous ≡ Record (s .previous .given .0 .0) = s .previous .given .1 in
-    c .bits-of2 .ensures ∙ rw (e, c .before .before .before .before .before .before .wide .ensures .0, c .before .before .before .before .before .wide2 .ensures .0)
+    let second = c .before .before .before .before .before in
+    let first = second .before in
+    let p = first .before .before in
+    let e : p .before .before .args .previous ≡ Record (p .previous .given .0 .0) = p .previous .given .1 in
+    c .bits-of2 .ensures ∙ rw (e, first .wide .ensures .0, second .wide2 .ensures .0)
 
 pub record-bits-spec : {M : Type 1} → statement M
 record-bits-spec =

@@ -2,7 +2,7 @@
 use Prim.Native.Nat.{_-_}
 use native.Mathlib.Omega.{arith}
 use Rattle.link_format.proofs.Numbers.{length-bytes}
-use Rattle.link_file.proofs.Putting.{Putting, putting-begins, putting-next, putting-done}
+use Rattle.link_file.proofs.fields.Putting.{Putting, putting-begins, putting-next, putting-done}
 use Rattle.link_file.proofs.fields.put_field.Statement.{statement}
 use Rattle.link_file.proofs.fields.put_field.Tie as tie
 

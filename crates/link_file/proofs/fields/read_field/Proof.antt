@@ -4,7 +4,7 @@ use native.Mathlib.Omega.{arith}
 use borrow.Author.Needs.{needs}
 use denote.Ref.{now}
 use Rattle.link_file.specs.Says.{Field-says}
-use Rattle.link_file.proofs.Parts.{column-below, Passed, passed-none, passed-next, passed-small, passed-all, field-got, field-ends}
+use Rattle.link_file.proofs.fields.Parts.{column-below, Passed, passed-none, passed-next, passed-small, passed-all, field-got, field-cut}
 use mir.Syntax.{w8}
 use Rattle.link_file.proofs.fields.read_field.Statement.{statement}
 use Rattle.link_file.proofs.fields.read_field.Tie as tie
@@ -20,7 +20,7 @@ sub-if1 c = search needs
 
 returns : tie.Need-returns Inv-loop μ-loop
 unfolding Field-says
-returns c = let a = c .before .before .args in field-ends (now (a .part)) (a .from) (a .width) (omega arith) (c .if1 .taken)
+returns c = let a = c .before .before .args in field-cut (now (a .part)) (a .from) (a .width) (omega arith) (c .if1 .taken)
 
 loop-holds : tie.Need-loop-holds Inv-loop μ-loop
 loop-holds c = passed-none _ _ _
@@ -33,23 +33,25 @@ mul-value c =
     let s = c .before .before .before in
     omega (arith, passed-small (c .before .loop .inv) (c .loop-test .taken) (s .before .pre .1) (column-below w8 _ (s .shared-slice-known .given)))
 
-add-wide : tie.Need-add-wide Inv-loop μ-loop
-add-wide c = omega arith
+add-value-of : tie.Need-add-value-of Inv-loop μ-loop
+add-value-of c = omega arith
 
-shared-slice-read-wide : tie.Need-shared-slice-read-wide Inv-loop μ-loop
-shared-slice-read-wide c = omega arith
+shared-slice-read-value-of : tie.Need-shared-slice-read-value-of Inv-loop μ-loop
+shared-slice-read-value-of c = omega arith
 
-wide-requires : tie.Need-wide-requires Inv-loop μ-loop
-wide-requires c κs = search needs
+value-of-requires : tie.Need-value-of-requires Inv-loop μ-loop
+value-of-requires c κs = search needs
 
 add-value : tie.Need-add-value Inv-loop μ-loop
 add-value c =
-    let s = c .before .before .before .before .before in
+    let t = c .before .before in
+    let l = t .before in
+    let s = l .before .before in
     omega (
       arith,
-      c .wide .ensures,
-      c .before .shared-slice-known2 .given (s .before .args .from + (c .before .before .before .loop .left - 1)),
-      passed-small (c .before .before .before .loop .inv) (c .before .before .loop-test .taken) (s .before .pre .1) (column-below w8 _ (s .shared-slice-known .given)),
+      c .value-of .ensures,
+      c .before .shared-slice-known2 .given (s .before .args .from + (l .loop .left - 1)),
+      passed-small (l .loop .inv) (t .loop-test .taken) (s .before .pre .1) (column-below w8 _ (s .shared-slice-known .given)),
     )
 
 loop-less : tie.Need-loop-less Inv-loop μ-loop
@@ -57,9 +59,9 @@ loop-less c = omega arith
 
 loop-again : tie.Need-loop-again Inv-loop μ-loop
 loop-again c =
-    let l = c .before .before .before .loop in
-    let s = c .before .before .before .before .before .before in
-    rw (c .wide .ensures) (passed-next (l .inv) (c .before .before .loop-test .taken) (s .pre .0) (omega arith))
+    let t = c .before .before in
+    let l = t .before in
+    rw (c .value-of .ensures) (passed-next (l .loop .inv) (t .loop-test .taken) (l .before .before .before .pre .0) (omega arith))
 
 add-t6 : tie.Need-add-t6 Inv-loop μ-loop
 add-t6 c = search needs
@@ -83,9 +85,9 @@ read-field-spec =
     loop-holds
     sub-left
     mul-value
-    add-wide
-    shared-slice-read-wide
-    wide-requires
+    add-value-of
+    shared-slice-read-value-of
+    value-of-requires
     add-value
     loop-less
     loop-again

@@ -3,8 +3,8 @@ use borrow.Author.Needs.{needs}
 use Prim.Native.Nat.{ℕ, _^_, _≤_, _<_}
 use denote.Ref.{now}
 use Rattle.link_format.specs.Reading.{field, optional}
-use Rattle.link_file.specs.Says.{Field-says}
-use Rattle.link_file.proofs.Parts.{field-wider, absent-got}
+use Rattle.link_file.specs.Says.{Field-says, Optional-says}
+use Rattle.link_file.proofs.fields.Parts.{field-wider, absent-got}
 use Rattle.link_file.proofs.fields.read_optional.Statement.{statement}
 use Rattle.link_file.proofs.fields.read_optional.Tie as tie
 
@@ -12,7 +12,7 @@ read-field-requires : tie.Need-read-field-requires
 read-field-requires c κs = search needs
 
 returns : tie.Need-returns
-unfolding optional
+unfolding Optional-says optional
 returns c =
     let s = c .before .before .before in
     let a = s .args in
@@ -20,7 +20,7 @@ returns c =
     field-wider (c .read-field .result) (field (a .width)) (now (a .part)) (a .from) (a .width) (256 ^ a .width) bound h (c .read-field .ensures)
 
 returns-2 : tie.Need-returns-2
-unfolding Field-says
+unfolding Optional-says Field-says
 returns-2 c =
     let a = c .before .before .args in
     rw (c .if1 .left) λ (bound : ℕ) (h : 256 ^ a .width ≤ bound) (k : a .absent < bound).

@@ -4,8 +4,8 @@ use native.Mathlib.Omega.{arith}
 use borrow.Author.Needs.{needs}
 use Rattle.link_format.specs.Reading.{field}
 use Rattle.link_file.specs.Says.{Nodes-says, Got}
-use Rattle.link_file.proofs.Nodes.{Checking, checking-begins, checking-next, checking-done}
-use Rattle.link_file.proofs.Parts.{field-value, as-got, as-ends}
+use Rattle.link_file.proofs.fields.Parts.{field-value, as-got, as-cut}
+use Rattle.link_file.proofs.header.Nodes.{Checking, checking-begins, checking-next, checking-done}
 use Rattle.link_file.proofs.header.check_nodes.Statement.{statement}
 use Rattle.link_file.proofs.header.check_nodes.Tie as tie
 
@@ -15,10 +15,21 @@ Inv-loop file from count at₀ ascending₀ i₀ at ascending i = Checking file 
 abbrev μ-loop : tie.MeasureT-loop
 μ-loop file from count at₀ ascending₀ i₀ at ascending i = count - i
 
--- the node that was read
-node : (c : tie.After-node Inv-loop μ-loop) → let l = c .before .before .before .before in
-    Got (field 2) (l .before .before .args .file .now) (l .loop .at) 2 65536 (c .node .given .0 .0) (c .node .given .0 .1 .0)
-node c = as-got (c .node .given .1) (c .before .before .read-field .ensures)
+-- what reading a node says
+module _ (c : tie.After-read-field Inv-loop μ-loop) where
+  abbrev turn : tie.In-loop Inv-loop μ-loop
+  turn = c .before
+
+  abbrev loop : tie.At-loop Inv-loop μ-loop
+  loop = turn .before
+
+-- where it was read
+module _ (c : tie.After-node Inv-loop μ-loop) where
+  abbrev reading : tie.After-read-field Inv-loop μ-loop
+  reading = c .before .before
+
+  node : let l = loop reading in Got (field 2) (l .before .before .args .file .now) (l .loop .at) 2 65536 (c .node .given .0 .0) (c .node .given .0 .1 .0)
+  node = as-got (c .node .given .1) (reading .read-field .ensures)
 
 loop-holds : tie.Need-loop-holds Inv-loop μ-loop
 loop-holds c = checking-begins _ _ _ (c .before .pre .0)
@@ -35,8 +46,8 @@ enum-told c = search needs
 returns : tie.Need-returns Inv-loop μ-loop
 unfolding Nodes-says
 returns c =
-    let l = c .before .before .before .before in
-    omega (arith, as-ends 65536 (c .enum-told .given .1) (c .before .before .read-field .ensures) .near, l .loop .inv .along .here, c .before .before .before .loop-test .taken)
+    let r = c .before .before in
+    omega (arith, as-cut 65536 (c .enum-told .given .1) (r .read-field .ensures) .near, loop r .loop .inv .along .here, turn r .loop-test .taken)
 
 both-requires : tie.Need-both-requires Inv-loop μ-loop
 both-requires c κs = search needs
@@ -49,10 +60,11 @@ loop-less c = omega arith
 
 loop-again : tie.Need-loop-again Inv-loop μ-loop
 loop-again c =
-    let l = c .before .before .before .before .before .before in
-    let g = node (c .before .before) in
+    let n = c .before .before in
+    let r = reading n in
+    let g = node n in
     let v = field-value g in
-    rw (c .both .ensures, v .0) (checking-next (l .loop .inv) (c .before .before .before .before .before .loop-test .taken) (v .1) (g .inside))
+    rw (c .both .ensures, v .0) (checking-next (loop r .loop .inv) (turn r .loop-test .taken) (v .1) (g .inside))
 
 returns-2 : tie.Need-returns-2 Inv-loop μ-loop
 unfolding Nodes-says

@@ -1,7 +1,7 @@
 -- `header::fill_all` meets its contract: the loop's invariant is `Filling-all`. Assumes nothing.
 use Prim.Native.Nat.{_-_}
 use native.Mathlib.Omega.{arith}
-use Rattle.link_file.proofs.Nodes.{Filling-all, all-begin, all-next, all-done}
+use Rattle.link_file.proofs.header.Nodes.{Filling-all, all-begin, all-next, all-done}
 use Rattle.link_file.proofs.header.fill_all.Statement.{statement}
 use Rattle.link_file.proofs.header.fill_all.Tie as tie
 
@@ -16,9 +16,6 @@ loop-holds c = all-begin _ _
 
 cast-wanted : tie.Need-cast-wanted Inv-loop μ-loop
 cast-wanted c = omega arith
-
-cast-wanted-2 : tie.Need-cast-wanted-2 Inv-loop μ-loop
-cast-wanted-2 c = omega arith
 
 mul-wanted : tie.Need-mul-wanted Inv-loop μ-loop
 mul-wanted c = omega arith
@@ -49,7 +46,6 @@ fill-all-spec =
     μ-loop
     loop-holds
     cast-wanted
-    cast-wanted-2
     mul-wanted
     slice-write-wanted
     add-i

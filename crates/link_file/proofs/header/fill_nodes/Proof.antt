@@ -4,8 +4,8 @@ use native.Mathlib.Omega.{arith}
 use borrow.Author.Needs.{needs}
 use Rattle.link_format.specs.Reading.{field}
 use Rattle.link_file.specs.Says.{Got}
-use Rattle.link_file.proofs.Nodes.{Filling-nodes, nodes-begin, nodes-next, nodes-done}
-use Rattle.link_file.proofs.Parts.{field-value, as-got, as-ends}
+use Rattle.link_file.proofs.header.Nodes.{nodes-begin, nodes-next, Filling-nodes, nodes-done}
+use Rattle.link_file.proofs.fields.Parts.{field-value, as-got, as-cut}
 use Rattle.link_file.proofs.header.fill_nodes.Statement.{statement}
 use Rattle.link_file.proofs.header.fill_nodes.Tie as tie
 
@@ -15,10 +15,24 @@ Inv-loop file from count wanted₀ at₀ i₀ wanted at i = Filling-nodes file f
 abbrev μ-loop : tie.MeasureT-loop
 μ-loop file from count wanted₀ at₀ i₀ wanted at i = count - i
 
--- the node that was read
-node : (c : tie.After-node Inv-loop μ-loop) → let l = c .before .before .before .before in
-    Got (field 2) (l .before .before .before .args .file .now) (l .loop .at) 2 65536 (c .node .given .0 .0) (c .node .given .0 .1 .0)
-node c = as-got (c .node .given .1) (c .before .before .read-field .ensures)
+-- what reading a node says
+module _ (c : tie.After-read-field Inv-loop μ-loop) where
+  abbrev turn : tie.In-loop Inv-loop μ-loop
+  turn = c .before
+
+  abbrev loop : tie.At-loop Inv-loop μ-loop
+  loop = turn .before
+
+  abbrev start : tie.Start Inv-loop μ-loop
+  start = loop .before .before .before
+
+-- where it was read
+module _ (c : tie.After-node Inv-loop μ-loop) where
+  abbrev reading : tie.After-read-field Inv-loop μ-loop
+  reading = c .before .before
+
+  node : Got (field 2) (start reading .args .file .now) (loop reading .loop .at) 2 65536 (c .node .given .0 .0) (c .node .given .0 .1 .0)
+  node = as-got (c .node .given .1) (reading .read-field .ensures)
 
 loop-holds : tie.Need-loop-holds Inv-loop μ-loop
 loop-holds c = nodes-begin _ _ _ _ (omega arith)
@@ -33,30 +47,27 @@ enum-told : tie.Need-enum-told Inv-loop μ-loop
 enum-told c = search needs
 
 same-length : tie.Need-same-length Inv-loop μ-loop
-same-length c = c .before .before .before .before .loop .inv .column .kept
+same-length c = loop (c .before .before) .loop .inv .column .kept
 
 returns : tie.Need-returns Inv-loop μ-loop
 returns c =
-    let l = c .before .before .before .before in
+    let r = c .before .before in
     absurd (omega (
       arith,
-      as-ends 65536 (c .enum-told .given .1) (c .before .before .read-field .ensures) .near,
-      l .loop .inv .along .here,
-      c .before .before .before .loop-test .taken,
-      l .before .before .before .pre .0,
+      as-cut 65536 (c .enum-told .given .1) (r .read-field .ensures) .near,
+      loop r .loop .inv .along .here,
+      turn r .loop-test .taken,
+      start r .pre .0,
     ))
 
 cast-wanted : tie.Need-cast-wanted Inv-loop μ-loop
 cast-wanted c = record { fits = node (c .before) .small }
 
-cast-wanted-2 : tie.Need-cast-wanted-2 Inv-loop μ-loop
-cast-wanted-2 c = omega arith
-
 mul-wanted : tie.Need-mul-wanted Inv-loop μ-loop
 mul-wanted c = omega arith
 
 slice-write-wanted : tie.Need-slice-write-wanted Inv-loop μ-loop
-slice-write-wanted c = omega (arith, c .before .before .before .before .before .loop .inv .column .kept, c .before .before .before .before .before .before .before .before .pre)
+slice-write-wanted c = let r = reading (c .before) in omega (arith, loop r .loop .inv .column .kept, start r .pre .1, turn r .loop-test .taken)
 
 add-i : tie.Need-add-i Inv-loop μ-loop
 add-i c = omega arith
@@ -66,10 +77,10 @@ loop-less c = omega arith
 
 loop-again : tie.Need-loop-again Inv-loop μ-loop
 loop-again c =
-    let l = c .before .before .before .before .before in
+    let r = reading (c .before) in
     let g = node (c .before) in
     let v = field-value g in
-    rw (v .0) (nodes-next (l .loop .inv) (c .before .before .before .before .loop-test .taken) (v .1) (g .inside))
+    rw (v .0) (nodes-next (loop r .loop .inv) (turn r .loop-test .taken) (v .1) (g .inside))
 
 same-length-2 : tie.Need-same-length-2 Inv-loop μ-loop
 same-length-2 c = c .before .loop .inv .column .kept
@@ -90,7 +101,6 @@ fill-nodes-spec =
     same-length
     returns
     cast-wanted
-    cast-wanted-2
     mul-wanted
     slice-write-wanted
     add-i

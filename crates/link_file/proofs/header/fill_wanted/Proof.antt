@@ -6,26 +6,33 @@ use Rattle.link_file.specs.Says.{wanted-in}
 use Rattle.link_file.proofs.header.fill_wanted.Statement.{statement}
 use Rattle.link_file.proofs.header.fill_wanted.Tie as tie
 
-cast-from : tie.Need-cast-from
-cast-from c = search needs
-
 mul-from : tie.Need-mul-from
 mul-from c = search needs
 
 sub-from : tie.Need-sub-from
 sub-from c = c .before .before .before .before .pre .0 .room (c .before .if1 .taken)
 
+-- where the nodes stand in the file
+module _ (c : tie.After-fill-nodes-arg) where
+  abbrev listed : tie.Then1
+  listed = c .before .before
+
+  abbrev start : tie.Start
+  start = listed .before .before .before
+
 fill-nodes-requires : tie.Need-fill-nodes-requires
 fill-nodes-requires c κs =
-    let s = c .before .before .before .before .before in
-    (omega (arith, s .pre .0 .room (c .before .before .if1 .taken), s .pre .0 .inside), (s .pre .0 .few, s .pre .1))
+    let g = start c .pre .0 in
+    (omega (arith, g .room (listed c .if1 .taken), g .inside), (g .few, start c .pre .1))
 
 same-length : tie.Need-same-length
 same-length c = search needs
 
 returns : tie.Need-returns
 unfolding wanted-in
-returns c = c .before .before .fill-nodes .ensures ∙ rw (c .before .before .before .before .before .if1 .taken)
+returns c =
+    let f = c .before .before in
+    f .fill-nodes .ensures ∙ rw (listed (f .before) .if1 .taken)
 
 fill-all-requires : tie.Need-fill-all-requires
 fill-all-requires c κs = search needs
@@ -35,13 +42,14 @@ same-length-2 c = search needs
 
 returns-2 : tie.Need-returns-2
 unfolding wanted-in
-returns-2 c = c .before .before .fill-all .ensures ∙ rw (c .before .before .before .before .if1 .left)
+returns-2 c =
+    let f = c .before .before in
+    f .fill-all .ensures ∙ rw (f .before .before .if1 .left)
 
 pub fill-wanted-spec : {M : Type 1} → statement M
 fill-wanted-spec =
     tie.close
     (tie.spec
-    cast-from
     mul-from
     sub-from
     fill-nodes-requires

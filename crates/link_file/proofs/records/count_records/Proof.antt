@@ -10,8 +10,9 @@ use lib.ListN.{length, drop, length-drop}
 use Rattle.table.specs.Table.{Arc, most-arcs}
 use Rattle.link_format.specs.Reading.{read-records}
 use Rattle.link_file.specs.Says.{tally, arc-before, arc-of, Record-got}
-use Rattle.link_file.proofs.Runs.{remaining, Standing, standing-next, run-none, run-full, run-refused, run-more, tally-more, part-is, answer-record, answer-refused}
-use Rattle.link_file.specs.declared.records.Counted.the-variants.{Arcs}
+use Rattle.link_file.proofs.records.Runs.{remaining, Standing, standing-next, run-none, run-full, run-refused, run-more, tally-more, part-is, answer-record, answer-refused}
+use Rattle.link_file.specs.declared.records.Counted.the-variants.{Arcs, Refused}
+use Rattle.table.specs.Refusals.{refusal}
 use Rattle.link_file.proofs.records.count_records.Statement.{statement}
 use Rattle.link_file.proofs.records.count_records.Tie as tie
 
@@ -26,15 +27,50 @@ Inv-loop file start at₀ count₀ previous₀ at count previous = Counting file
 abbrev μ-loop : tie.MeasureT-loop
 μ-loop file start at₀ count₀ previous₀ at count previous = length file - at
 
+-- the loop, and a turn of it
+module _ (c : tie.At-loop Inv-loop μ-loop) where
+  abbrev file : List ℕ
+  file = c .before .before .args .file .now
+
+  abbrev before : Option Arc
+  before = arc-before (c .loop .previous)
+
+module _ (c : tie.Else1 Inv-loop μ-loop) where
+  abbrev loop : tie.At-loop Inv-loop μ-loop
+  loop = c .before .before
+
+  more : loop .loop .at < length (file loop)
+  more = c .before .loop-test .taken
+
+  few : loop .loop .count < most-arcs
+  few = omega (arith, loop .loop .inv .stands .few, c .if1 .left)
+
+-- what reading the record says
+module _ (c : tie.After-read-record Inv-loop μ-loop) where
+  abbrev turn : tie.Else1 Inv-loop μ-loop
+  turn = c .before .before
+
+-- where it was read
+module _ (c : tie.After-arc Inv-loop μ-loop) where
+  abbrev read-turn : tie.Else1 Inv-loop μ-loop
+  read-turn = turn (c .before .before)
+
+  read : let l = loop read-turn in Record-got (before l) (drop (l .loop .at) (file l)) (l .loop .at) (arc-of (c .arc .given .0 .0)) (c .arc .given .0 .1 .0)
+  read = answer-record _ _ _ (c .before .before .read-record .result) (c .before .before .read-record .ensures) (c .arc .given .1)
+
 loop-holds : tie.Need-loop-holds Inv-loop μ-loop
 unfolding arc-before
 loop-holds c = record { stands = record { inside = c .before .pre .0; few = omega arith; short = omega arith }; same = refl }
 
+refuse-requires : tie.Need-refuse-requires Inv-loop μ-loop
+refuse-requires c κs = omega arith
+
 returns : tie.Need-returns Inv-loop μ-loop
 unfolding tally
 returns c =
-    let l = c .before .before in
-    sym (ap (tally (l .loop .count)) (run-full _ _ _ _ (c .before .loop-test .taken) (c .if1 .taken))) ∙ l .loop .inv .same
+    let t = c .before in
+    let l = t .before .before in
+    ap Refused (c .refuse .ensures) ∙ sym (ap (tally (l .loop .count)) (run-full _ _ _ _ (t .before .loop-test .taken) (t .if1 .taken))) ∙ l .loop .inv .same
 
 sub-read-record : tie.Need-sub-read-record Inv-loop μ-loop
 sub-read-record c = omega arith
@@ -47,8 +83,8 @@ part-read-record-end c = omega arith
 
 read-record-requires : tie.Need-read-record-requires Inv-loop μ-loop
 read-record-requires c κs =
-    let l = c .before .before .before in
-    (rw (part-is (l .before .before .args .file .now) (l .loop .at)) (omega (arith, length-drop (l .loop .at) (l .before .before .args .file .now))), omega arith)
+    let l = loop (c .before) in
+    (rw (part-is (file l) (l .loop .at)) (omega (arith, length-drop (l .loop .at) (file l), more (c .before))), omega (arith, l .loop .inv .stands .short, few (c .before)))
 
 enum-known-arc : tie.Need-enum-known-arc Inv-loop μ-loop
 enum-known-arc c = search needs
@@ -56,37 +92,31 @@ enum-known-arc c = search needs
 add-count : tie.Need-add-count Inv-loop μ-loop
 add-count c = omega arith
 
--- the record that was read
-read : (c : tie.After-arc Inv-loop μ-loop) → let l = c .before .before .before .before .before .before in
-    Record-got (arc-before (l .loop .previous)) (drop (l .loop .at) (l .before .before .args .file .now)) (l .loop .at) (arc-of (c .arc .given .0 .0)) (c .arc .given .0 .1 .0)
-read c = answer-record _ _ _ (c .before .before .read-record .result) (c .before .before .read-record .ensures) (c .arc .given .1)
-
 loop-less : tie.Need-loop-less Inv-loop μ-loop
-loop-less c =
-    let r = read (c .before) in
-    omega (arith, r .on, r .inside, c .before .before .before .before .before .before .loop-test .taken)
+loop-less c = let r = read (c .before) in omega (arith, r .on, r .inside, more (read-turn (c .before)))
 
 loop-again : tie.Need-loop-again Inv-loop μ-loop
 unfolding arc-before
 loop-again c =
-    let l = c .before .before .before .before .before .before .before in
+    let t = read-turn (c .before) in
+    let l = loop t in
     let r = read (c .before) in
-    let few : l .loop .count < most-arcs = omega arith in
     record {
-      stands = standing-next (l .loop .inv .stands) _ _ _ few r;
-      same = sym (tally-more _ _ _) ∙ ap (tally (l .loop .count)) (sym (run-more _ _ _ _ (c .before .before .before .before .before .before .loop-test .taken) few r)) ∙ l .loop .inv .same;
+      stands = standing-next (l .loop .inv .stands) _ _ _ (few t) r;
+      same = sym (tally-more _ _ _) ∙ ap (tally (l .loop .count)) (sym (run-more _ _ _ _ (more t) (few t) r)) ∙ l .loop .inv .same;
     }
 
-enum-known-number : tie.Need-enum-known-number Inv-loop μ-loop
-enum-known-number c = search needs
+enum-known-refusal : tie.Need-enum-known-refusal Inv-loop μ-loop
+enum-known-refusal c = search needs
 
 returns-2 : tie.Need-returns-2 Inv-loop μ-loop
-unfolding tally
+unfolding tally refusal
 returns-2 c =
-    let l = c .before .before .before .before .before .before .before in
-    let few : l .loop .count < most-arcs = omega arith in
-    let r = answer-refused _ _ _ (c .before .before .before .read-record .result) (c .before .before .before .read-record .ensures) (c .before .number .given .1) in
-    sym (ap (tally (l .loop .count)) (run-refused _ _ _ _ (c .before .before .before .before .before .before .loop-test .taken) few r)) ∙ l .loop .inv .same
+    let a = c .before .before .before in
+    let t = turn a in
+    let l = loop t in
+    let r = answer-refused _ _ _ (a .read-record .result) (a .read-record .ensures) (c .before .refusal .given .1) in
+    sym (ap (tally (l .loop .count)) (run-refused _ _ _ _ (more t) (few t) r)) ∙ l .loop .inv .same
 
 returns-3 : tie.Need-returns-3 Inv-loop μ-loop
 unfolding tally
@@ -101,6 +131,7 @@ count-records-spec =
     Inv-loop
     μ-loop
     loop-holds
+    refuse-requires
     returns
     sub-read-record
     part-read-record-start
@@ -110,6 +141,6 @@ count-records-spec =
     add-count
     loop-less
     loop-again
-    enum-known-number
+    enum-known-refusal
     returns-2
     returns-3)

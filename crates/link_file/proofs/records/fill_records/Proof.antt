@@ -1,13 +1,15 @@
 -- `records::fill_records` meets its contract: an accepted file has no refused record, and each record's arc goes to the columns' next
 -- element. Assumes nothing.
-use Prim.Native.Nat.{_-_, _<_}
+use Prim.Native.Nat.{ℕ, _-_, _<_}
 use native.Mathlib.Omega.{arith}
 use borrow.Author.Needs.{needs}
 use lib.ListN.{length, drop, length-drop}
-use Rattle.table.specs.Table.{arc, most-arcs}
+use Rattle.table.specs.Table.{Arc, arc, most-arcs}
 use Rattle.link_file.specs.Says.{arc-before, arc-of, Record-got}
-use Rattle.link_file.proofs.Filling.{Filling, filling-begins, filling-next, filling-done, still-few, no-refusal-here}
-use Rattle.link_file.proofs.Runs.{part-is, answer-record, answer-refused}
+use Rattle.link_file.proofs.records.Filling.{Filling, filling-begins, filling-next, tails-done, heads-done, lengths-done, still-few, no-refusal-here}
+use Rattle.link_file.proofs.records.Runs.{part-is, answer-record, answer-refused}
+use mathlib.Core.List.{List}
+use mathlib.Core.Option.{Option}
 use Rattle.link_file.proofs.records.fill_records.Statement.{statement}
 use Rattle.link_file.proofs.records.fill_records.Tie as tie
 
@@ -17,15 +19,36 @@ Inv-loop file start tails₀ heads₀ lengths₀ at₀ i₀ previous₀ tails he
 abbrev μ-loop : tie.MeasureT-loop
 μ-loop file start tails₀ heads₀ lengths₀ at₀ i₀ previous₀ tails heads lengths at i previous = length file - at
 
--- inside the loop there is room for one more
-few : (c : tie.In-loop Inv-loop μ-loop) → c .before .loop .i < most-arcs
-few c = let f = c .before .loop .inv in still-few _ _ _ _ (c .loop-test .taken) (f .good) (f .stands .few)
+-- the loop, and a turn of it: there is a record more, and room for it
+module _ (c : tie.At-loop Inv-loop μ-loop) where
+  abbrev start : tie.Start Inv-loop μ-loop
+  start = c .before .before .before .before .before
 
--- the record that was read
-read : (c : tie.After-arc Inv-loop μ-loop) → let l = c .before .before .before .before .before in
-    Record-got (arc-before (l .loop .previous)) (drop (l .loop .at) (l .before .before .before .before .before .args .file .now)) (l .loop .at)
-    (arc-of (c .arc .given .0 .0)) (c .arc .given .0 .1 .0)
-read c = answer-record _ _ _ (c .before .before .read-record .result) (c .before .before .read-record .ensures) (c .arc .given .1)
+  abbrev file : List ℕ
+  file = start .args .file .now
+
+  abbrev before : Option Arc
+  before = arc-before (c .loop .previous)
+
+module _ (c : tie.In-loop Inv-loop μ-loop) where
+  abbrev loop : tie.At-loop Inv-loop μ-loop
+  loop = c .before
+
+  few : loop .loop .i < most-arcs
+  few = let f = loop .loop .inv in still-few _ _ _ _ (c .loop-test .taken) (f .good) (f .stands .few)
+
+-- what reading the record says
+module _ (c : tie.After-read-record Inv-loop μ-loop) where
+  abbrev turn : tie.In-loop Inv-loop μ-loop
+  turn = c .before .before
+
+-- where it was read
+module _ (c : tie.After-arc Inv-loop μ-loop) where
+  abbrev read-turn : tie.In-loop Inv-loop μ-loop
+  read-turn = turn (c .before .before)
+
+  read : let l = loop read-turn in Record-got (before l) (drop (l .loop .at) (file l)) (l .loop .at) (arc-of (c .arc .given .0 .0)) (c .arc .given .0 .1 .0)
+  read = answer-record _ _ _ (c .before .before .read-record .result) (c .before .before .read-record .ensures) (c .arc .given .1)
 
 loop-holds : tie.Need-loop-holds Inv-loop μ-loop
 unfolding arc-before
@@ -42,9 +65,8 @@ part-read-record-end c = omega arith
 
 read-record-requires : tie.Need-read-record-requires Inv-loop μ-loop
 read-record-requires c κs =
-    let l = c .before .before in
-    let file = l .before .before .before .before .before .args .file .now in
-    (rw (part-is file (l .loop .at)) (omega (arith, length-drop (l .loop .at) file, c .before .loop-test .taken)), omega (arith, l .loop .inv .stands .short, l .loop .inv .stands .few))
+    let l = loop (c .before) in
+    (rw (part-is (file l) (l .loop .at)) (omega (arith, length-drop (l .loop .at) (file l), c .before .loop-test .taken)), omega (arith, l .loop .inv .stands .short, few (c .before)))
 
 enum-known-arc : tie.Need-enum-known-arc Inv-loop μ-loop
 enum-known-arc c = search needs
@@ -53,55 +75,56 @@ enum-told : tie.Need-enum-told Inv-loop μ-loop
 enum-told c = search needs
 
 same-length : tie.Need-same-length Inv-loop μ-loop
-same-length c = c .before .before .before .before .before .loop .inv .tails-left .kept
+same-length c = loop (turn (c .before .before)) .loop .inv .tails-left .kept
 
 same-length-2 : tie.Need-same-length-2 Inv-loop μ-loop
-same-length-2 c = c .before .before .before .before .before .loop .inv .heads-left .kept
+same-length-2 c = loop (turn (c .before .before)) .loop .inv .heads-left .kept
 
 same-length-3 : tie.Need-same-length-3 Inv-loop μ-loop
-same-length-3 c = c .before .before .before .before .before .loop .inv .lengths-left .kept
+same-length-3 c = loop (turn (c .before .before)) .loop .inv .lengths-left .kept
 
 returns : tie.Need-returns Inv-loop μ-loop
 returns c =
-    let l = c .before .before .before .before .before in
-    absurd (no-refusal-here _ _ _ _ (c .before .before .before .before .loop-test .taken) (l .loop .inv .good) (few (c .before .before .before .before)) _ _
-    (answer-refused _ _ _ (c .before .before .read-record .result) (c .before .before .read-record .ensures) (c .enum-told .given .1)))
+    let a = c .before .before in
+    let t = turn a in
+    absurd (no-refusal-here _ _ _ _ (t .loop-test .taken) (loop t .loop .inv .good) (few t) _ _
+    (answer-refused _ _ _ (a .read-record .result) (a .read-record .ensures) (c .enum-told .given .1)))
 
 mul-tails : tie.Need-mul-tails Inv-loop μ-loop
-mul-tails c = omega (arith, few (c .before .before .before .before .before))
+mul-tails c = omega (arith, few (read-turn (c .before)))
 
 slice-write-tails : tie.Need-slice-write-tails Inv-loop μ-loop
 slice-write-tails c =
-    let l = c .before .before .before .before .before .before in
-    omega (arith, few (c .before .before .before .before .before), l .loop .inv .tails-left .kept, l .before .before .before .before .before .pre .tails-room)
+    let t = read-turn (c .before) in
+    omega (arith, few t, loop t .loop .inv .tails-left .kept, start (loop t) .pre .tails-room)
 
 mul-heads : tie.Need-mul-heads Inv-loop μ-loop
-mul-heads c = omega (arith, few (c .before .before .before .before .before))
+mul-heads c = omega (arith, few (read-turn (c .before)))
 
 slice-write-heads : tie.Need-slice-write-heads Inv-loop μ-loop
 slice-write-heads c =
-    let l = c .before .before .before .before .before .before in
-    omega (arith, few (c .before .before .before .before .before), l .loop .inv .heads-left .kept, l .before .before .before .before .before .pre .heads-room)
+    let t = read-turn (c .before) in
+    omega (arith, few t, loop t .loop .inv .heads-left .kept, start (loop t) .pre .heads-room)
 
 mul-lengths : tie.Need-mul-lengths Inv-loop μ-loop
-mul-lengths c = omega (arith, few (c .before .before .before .before .before))
+mul-lengths c = omega (arith, few (read-turn (c .before)))
 
 slice-write-lengths : tie.Need-slice-write-lengths Inv-loop μ-loop
 slice-write-lengths c =
-    let l = c .before .before .before .before .before .before in
-    omega (arith, few (c .before .before .before .before .before), l .loop .inv .lengths-left .kept, l .before .before .before .before .before .pre .lengths-room)
+    let t = read-turn (c .before) in
+    omega (arith, few t, loop t .loop .inv .lengths-left .kept, start (loop t) .pre .lengths-room)
 
 add-i : tie.Need-add-i Inv-loop μ-loop
-add-i c = omega arith
+add-i c = omega (arith, few (read-turn (c .before)))
 
 loop-less : tie.Need-loop-less Inv-loop μ-loop
-loop-less c =
-    let r = read (c .before) in
-    omega (arith, r .on, r .inside, c .before .before .before .before .before .loop-test .taken)
+loop-less c = let r = read (c .before) in omega (arith, r .on, r .inside, read-turn (c .before) .loop-test .taken)
 
 loop-again : tie.Need-loop-again Inv-loop μ-loop
 unfolding arc-before arc-of arc
-loop-again c = filling-next (c .before .before .before .before .before .before .loop .inv) (c .before .before .before .before .before .loop-test .taken) (read (c .before))
+loop-again c =
+    let t = read-turn (c .before) in
+    filling-next (loop t .loop .inv) (t .loop-test .taken) (read (c .before))
 
 same-length-4 : tie.Need-same-length-4 Inv-loop μ-loop
 same-length-4 c = c .before .loop .inv .tails-left .kept
@@ -113,7 +136,10 @@ same-length-6 : tie.Need-same-length-6 Inv-loop μ-loop
 same-length-6 c = c .before .loop .inv .lengths-left .kept
 
 returns-2 : tie.Need-returns-2 Inv-loop μ-loop
-returns-2 c = filling-done (c .before .loop .inv) (c .loop-test .left)
+returns-2 c =
+    let f = c .before .loop .inv in
+    let end = c .loop-test .left in
+    (tails-done f end, (heads-done f end, lengths-done f end))
 
 pub fill-records-spec : {M : Type 1} → statement M
 fill-records-spec =

@@ -3,7 +3,7 @@ use borrow.Author.Needs.{needs}
 use mathlib.Core.Bool.{Bool, cond}
 use mathlib.Core.Path.{ap, _∙_}
 use Prim.Native.Nat.{_+_, _*_}
-use Rattle.link_file.proofs.HeaderBytes.{header-sized}
+use Rattle.link_file.proofs.writer.HeaderBytes.{header-sized}
 use Rattle.link_file.proofs.writer.header_size.Statement.{statement}
 use Rattle.link_file.proofs.writer.header_size.Tie as tie
 
@@ -31,12 +31,17 @@ add-result c = search needs
 add-result-2 : tie.Need-add-result-2
 add-result-2 c = search needs
 
+add-result-3 : tie.Need-add-result-3
+add-result-3 c = search needs
+
 returns : tie.Need-returns
 returns c =
+    let o = c .before .before in
+    let s = o .before .before in
     header-sized _ _ _ _
-    (c .before .before .field-size .ensures .0 ∙ ap (λ (b : Bool). cond b 2 0) (c .before .before .before .stands .ensures)) (c .before .before .field-size .ensures .1)
-    (c .field-size2 .ensures .0 ∙ ap (λ (b : Bool). cond b (2 + 2 * c .before .before .before .before .args .wanted) 0) (c .before .stands2 .ensures)) (c .field-size2 .ensures .1)
-    (c .before .before .before .before .pre)
+    (o .field-size .ensures .0 ∙ ap (λ (b : Bool). cond b 2 0) (o .before .stands .ensures)) (o .field-size .ensures .1)
+    (c .field-size2 .ensures .0 ∙ ap (λ (b : Bool). cond b (2 + 2 * s .args .wanted) 0) (c .before .stands2 .ensures)) (c .field-size2 .ensures .1)
+    (s .pre)
 
 pub header-size-spec : {M : Type 1} → statement M
 header-size-spec =
@@ -50,4 +55,5 @@ header-size-spec =
     field-size-requires-2
     add-result
     add-result-2
+    add-result-3
     returns)

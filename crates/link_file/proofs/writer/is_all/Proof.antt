@@ -4,7 +4,7 @@ use mathlib.Core.Path.{_≡_, sym, _∙_}
 use native.Mathlib.Omega.{arith}
 use borrow.Author.Needs.{needs}
 use lib.ListN.{getD}
-use Rattle.link_file.proofs.HeaderBytes.{Comparing, comparing-begins, comparing-next, comparing-other, comparing-done, not-all}
+use Rattle.link_file.proofs.writer.HeaderBytes.{Comparing, comparing-begins, comparing-next, comparing-other, comparing-done, not-all}
 use Rattle.link_file.proofs.writer.is_all.Statement.{statement}
 use Rattle.link_file.proofs.writer.is_all.Tie as tie
 
@@ -19,9 +19,6 @@ returns c = sym (not-all _ _ (c .if1 .taken))
 
 loop-holds : tie.Need-loop-holds Inv-loop μ-loop
 loop-holds c = comparing-begins _ _
-
-cast-wide : tie.Need-cast-wide Inv-loop μ-loop
-cast-wide c = omega arith
 
 mul-wide : tie.Need-mul-wide Inv-loop μ-loop
 mul-wide c = omega arith
@@ -60,7 +57,6 @@ is-all-spec =
     μ-loop
     returns
     loop-holds
-    cast-wide
     mul-wide
     shared-slice-read-wide
     wide-requires

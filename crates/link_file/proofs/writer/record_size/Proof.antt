@@ -3,7 +3,7 @@ use borrow.Author.Needs.{needs}
 use mathlib.Core.Bool.{Bool, cond}
 use mathlib.Core.Path.{ap, _∙_}
 use native.Mathlib.Omega.{arith}
-use Rattle.link_file.proofs.Sizes.{sized}
+use Rattle.link_file.proofs.writer.Sizes.{sized}
 use Rattle.link_file.proofs.writer.record_size.Statement.{statement}
 use Rattle.link_file.proofs.writer.record_size.Tie as tie
 
@@ -26,19 +26,27 @@ field-size-requires-3 : tie.Need-field-size-requires-3
 field-size-requires-3 c κs = search needs
 
 add-result : tie.Need-add-result
-add-result c = omega (arith, c .field-size3 .ensures .1, c .before .before .field-size2 .ensures .1)
+add-result c = let h = c .before .before in omega (arith, c .field-size3 .ensures .1, h .field-size2 .ensures .1)
 
 add-result-2 : tie.Need-add-result-2
-add-result-2 c = omega (arith, c .field-size3 .ensures .1, c .before .before .field-size2 .ensures .1, c .before .before .before .before .field-size .ensures .1)
+add-result-2 c =
+    let h = c .before .before in
+    let t = h .before .before in
+    omega (arith, c .field-size3 .ensures .1, h .field-size2 .ensures .1, t .field-size .ensures .1)
 
 add-result-3 : tie.Need-add-result-3
-add-result-3 c = omega (arith, c .field-size3 .ensures .1, c .before .before .field-size2 .ensures .1, c .before .before .before .before .field-size .ensures .1)
+add-result-3 c =
+    let h = c .before .before in
+    let t = h .before .before in
+    omega (arith, c .field-size3 .ensures .1, h .field-size2 .ensures .1, t .field-size .ensures .1)
 
 returns : tie.Need-returns
 returns c =
+    let h = c .before .before in
+    let t = h .before .before in
     sized _ _ _ _
-    (c .before .before .before .before .field-size .ensures .0 ∙ ap (λ (b : Bool). cond b 2 0) (c .before .before .before .before .before .stands .ensures))
-    (c .before .before .field-size2 .ensures .0 ∙ ap (λ (b : Bool). cond b 2 0) (c .before .before .before .stands2 .ensures))
+    (t .field-size .ensures .0 ∙ ap (λ (b : Bool). cond b 2 0) (t .before .stands .ensures))
+    (h .field-size2 .ensures .0 ∙ ap (λ (b : Bool). cond b 2 0) (h .before .stands2 .ensures))
     (c .field-size3 .ensures .0 ∙ ap (λ (b : Bool). cond b 4 0) (c .before .stands3 .ensures))
 
 pub record-size-spec : {M : Type 1} → statement M

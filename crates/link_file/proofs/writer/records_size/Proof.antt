@@ -4,7 +4,7 @@ use native.Mathlib.Omega.{arith}
 use borrow.Author.Needs.{needs}
 use lib.ListN.{length}
 use Rattle.link_file.specs.Says.{arc-before}
-use Rattle.link_file.proofs.Sizes.{Sizing, sizing-begins, sizing-next, sizing-done}
+use Rattle.link_file.proofs.writer.Sizes.{Sizing, sizing-begins, sizing-next, sizing-done}
 use Rattle.link_file.proofs.writer.records_size.Statement.{statement}
 use Rattle.link_file.proofs.writer.records_size.Tie as tie
 

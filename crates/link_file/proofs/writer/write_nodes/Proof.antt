@@ -3,7 +3,7 @@ use Prim.Native.Nat.{_-_}
 use native.Mathlib.Omega.{arith}
 use borrow.Author.Needs.{needs}
 use lib.ListN.{length}
-use Rattle.link_file.proofs.HeaderBytes.{Writing-nodes, nodes-begin, node-room, nodes-next, nodes-put}
+use Rattle.link_file.proofs.writer.HeaderBytes.{nodes-begin, nodes-next, Writing-nodes, node-room, nodes-put}
 use Rattle.link_file.proofs.writer.write_nodes.Statement.{statement}
 use Rattle.link_file.proofs.writer.write_nodes.Tie as tie
 
@@ -27,8 +27,9 @@ wide-requires c κs = search needs
 
 put-field-requires : tie.Need-put-field-requires Inv-loop μ-loop
 put-field-requires c κs =
-    let l = c .before .before .before .before in
-    node-room (l .loop .inv) (c .before .before .before .loop-test .taken) (l .before .before .before .pre)
+    let t = c .before .before .before in
+    let l = t .before in
+    node-room (l .loop .inv) (t .loop-test .taken) (l .before .before .before .pre)
 
 add-i : tie.Need-add-i Inv-loop μ-loop
 add-i c = omega arith
@@ -38,8 +39,9 @@ loop-less c = omega arith
 
 loop-again : tie.Need-loop-again Inv-loop μ-loop
 loop-again c =
-    let l = c .before .before .before .before .before .before .before in
-    nodes-next (l .loop .inv) (c .before .before .before .before .before .before .loop-test .taken) (rw (c .before .before .before .wide .ensures .0) at (c .before .before .put-field .ensures))
+    let p = c .before .before in
+    let t = p .before .before .before .before in
+    nodes-next (t .before .loop .inv) (t .loop-test .taken) (rw (p .before .wide .ensures .0) at (p .put-field .ensures))
 
 same-length : tie.Need-same-length Inv-loop μ-loop
 same-length c = c .before .loop .inv .column .kept

@@ -9,37 +9,64 @@ use lib.ListN.{length, set}
 use Rattle.table.specs.Table.{Arc, arc}
 use Rattle.link_format.specs.Format.{has, field-bytes, fields-bytes, record-bytes}
 use Rattle.link_file.specs.Says.{Put, arc-of, arc-before}
-use Rattle.link_file.proofs.Pieces.{put-renamed, piece-room, put-kept, room-by-bits, put-by-bits, room-tail, room-head, room-length, put-record}
+use Rattle.link_file.proofs.writer.Pieces.{put-renamed, piece-room, put-kept, room-by-bits, put-by-bits, room-tail, room-head, room-length, put-record}
 use Rattle.link_file.proofs.writer.write_record.Statement.{statement}
 use Rattle.link_file.proofs.writer.write_record.Tie as tie
 
--- the room for the record, by the bit map that the code has
+-- after the bit map: the arguments, and the room for the record by the bit map that the code has
 module _ (c : tie.After-record-bits) where
+  abbrev start : tie.Start
+  start = c .before .before
+
   abbrev bits : ℕ
   bits = c .record-bits .result
 
   abbrev output : List ℕ
-  output = now (c .before .before .args .output)
+  output = now (start .args .output)
 
   abbrev at : ℕ
-  at = c .before .before .args .at
+  at = start .args .at
 
   abbrev this : Arc
-  this = arc-of (c .before .before .args .arc)
+  this = arc-of (start .args .arc)
 
   room : at + length (bits ∷ fields-bytes bits this) ≤ length output
-  room = room-by-bits _ this (c .record-bits .ensures) _ at (c .before .before .pre)
+  room = room-by-bits _ this (c .record-bits .ensures) _ at (start .pre)
 
--- the tail and the head, put
-tail-put : (c : tie.After-put-optional) → let k = c .before .before .before .before in
-    Put (set (output k) (at k) (bits k)) (at k + 1) (field-bytes (has 1 (bits k)) 2 (this k .tail)) (c .put-optional .result) (c .put-optional .last .0)
-unfolding arc-of arc
-tail-put c = put-renamed 2 (c .before .before .before .stands .ensures) (c .before .wide .ensures .0) (c .put-optional .ensures)
+-- after the tail
+module _ (c : tie.After-put-optional) where
+  abbrev mapped : tie.After-record-bits
+  mapped = c .before .before .before .before
 
-head-put : (c : tie.After-put-optional2) → let t = c .before .before .before .before .before .before in let k = t .before .before .before .before in
-    Put (t .put-optional .last .0) (t .put-optional .result) (field-bytes (has 2 (bits k)) 2 (this k .head)) (c .put-optional2 .result) (c .put-optional2 .last .0)
-unfolding arc-of arc
-head-put c = put-renamed 2 (c .before .before .before .stands2 .ensures) (c .before .wide2 .ensures .0) (c .put-optional2 .ensures)
+  tail-put : Put (set (output mapped) (at mapped) (bits mapped)) (at mapped + 1) (field-bytes (has 1 (bits mapped)) 2 (this mapped .tail))
+      (c .put-optional .result) (c .put-optional .last .0)
+  unfolding arc-of arc
+  tail-put = put-renamed 2 (c .before .before .before .stands .ensures) (c .before .wide .ensures .0) (c .put-optional .ensures)
+
+-- after the head
+module _ (c : tie.After-put-optional2) where
+  abbrev tailed : tie.After-put-optional
+  tailed = c .before .before .before .before .before .before
+
+  head-put : Put (tailed .put-optional .last .0) (tailed .put-optional .result) (field-bytes (has 2 (bits (mapped tailed))) 2 (this (mapped tailed) .head))
+      (c .put-optional2 .result) (c .put-optional2 .last .0)
+  unfolding arc-of arc
+  head-put = put-renamed 2 (c .before .before .before .stands2 .ensures) (c .before .wide2 .ensures .0) (c .put-optional2 .ensures)
+
+-- after the length: the whole record
+module _ (c : tie.After-put-optional3) where
+  abbrev headed : tie.After-put-optional2
+  headed = c .before .before .before .before .before .before
+
+  recorded : let s = start (mapped (tailed headed)) in
+      Put (now (s .args .output)) (s .args .at) (record-bytes (arc-before (s .args .previous)) (arc-of (s .args .arc))) (c .put-optional3 .result) (c .put-optional3 .last .0)
+  unfolding arc-of arc
+  recorded =
+      let t = tailed headed in
+      let k = mapped t in
+      put-by-bits _ (this k) (k .record-bits .ensures)
+      (put-record (output k) (at k) (bits k) (this k) (room k) (tail-put t) (head-put headed)
+      (put-renamed 4 (c .before .before .before .stands3 .ensures) refl (c .put-optional3 .ensures)))
 
 record-bits-requires : tie.Need-record-bits-requires
 record-bits-requires c κs = search needs
@@ -72,37 +99,28 @@ put-optional-requires-2 : tie.Need-put-optional-requires-2
 unfolding arc-of arc
 put-optional-requires-2 c κs =
     let t = c .before .before .before .before .before in
-    let k = t .before .before .before .before in
+    let k = mapped t in
     piece-room 2 _ (c .before .before .stands2 .ensures) (c .wide2 .ensures .0) (room-head (output k) (at k) (bits k) (this k) (room k) (tail-put t))
 
 stands-requires-3 : tie.Need-stands-requires-3
 stands-requires-3 c κs = search needs
 
+cast-length : tie.Need-cast-length
+cast-length c = search needs
+
 put-optional-requires-3 : tie.Need-put-optional-requires-3
 unfolding arc-of arc
 put-optional-requires-3 c κs =
-    let h = c .before .before .before .before in
-    let t = h .before .before .before .before .before .before in
-    let k = t .before .before .before .before in
-    piece-room 4 _ (c .before .stands3 .ensures) refl (room-length (output k) (at k) (bits k) (this k) (room k) (tail-put t) (head-put h))
-
--- the whole record, put
-recorded : (c : tie.After-slice-known4) → let s = c .before .before .before .before .before .before .before .before .before .before .before .before .before .before .before .before .before .before .before in
-    Put (now (s .args .output)) (s .args .at) (record-bytes (arc-before (s .args .previous)) (arc-of (s .args .arc))) (c .before .before .put-optional3 .result) (c .before .before .put-optional3 .last .0)
-unfolding arc-of arc
-recorded c =
-    let h = c .before .before .before .before .before .before .before in
-    let t = h .before .before .before .before .before .before in
-    let k = t .before .before .before .before in
-    put-by-bits _ (this k) (k .record-bits .ensures)
-    (put-record (output k) (at k) (bits k) (this k) (room k) (tail-put t) (head-put h)
-    (put-renamed 4 (c .before .before .before .before .stands3 .ensures) refl (c .before .before .put-optional3 .ensures)))
+    let h = c .before .before .before .before .before in
+    let t = tailed h in
+    let k = mapped t in
+    piece-room 4 _ (c .before .before .stands3 .ensures) refl (room-length (output k) (at k) (bits k) (this k) (room k) (tail-put t) (head-put h))
 
 same-length : tie.Need-same-length
-same-length c = put-kept (recorded c)
+same-length c = put-kept (recorded (c .before .before))
 
 returns : tie.Need-returns
-returns c = recorded c
+returns c = recorded (c .before .before)
 
 pub write-record-spec : {M : Type 1} → statement M
 write-record-spec =
@@ -118,6 +136,7 @@ write-record-spec =
     wide-requires-2
     put-optional-requires-2
     stands-requires-3
+    cast-length
     put-optional-requires-3
     same-length
     returns)

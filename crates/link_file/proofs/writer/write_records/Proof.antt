@@ -3,7 +3,7 @@ use Prim.Native.Nat.{_-_}
 use native.Mathlib.Omega.{arith}
 use lib.ListN.{length}
 use Rattle.link_file.specs.Says.{arc-before}
-use Rattle.link_file.proofs.Sizes.{Writing, writing-begins, writing-next, record-room, writing-done}
+use Rattle.link_file.proofs.writer.Sizes.{Writing, writing-begins, writing-next, record-room, writing-done}
 use Rattle.link_file.proofs.writer.write_records.Statement.{statement}
 use Rattle.link_file.proofs.writer.write_records.Tie as tie
 
@@ -12,6 +12,17 @@ Inv-loop tails heads lengths start output₀ at₀ previous₀ i₀ output at pr
 
 abbrev μ-loop : tie.MeasureT-loop
 μ-loop tails heads lengths start output₀ at₀ previous₀ i₀ output at previous i = length tails - i
+
+-- a turn of the loop
+module _ (c : tie.After-arc-at Inv-loop μ-loop) where
+  abbrev turn : tie.In-loop Inv-loop μ-loop
+  turn = c .before
+
+  abbrev loop : tie.At-loop Inv-loop μ-loop
+  loop = turn .before
+
+  abbrev start : tie.Start Inv-loop μ-loop
+  start = loop .before .before .before .before .before
 
 loop-holds : tie.Need-loop-holds Inv-loop μ-loop
 unfolding arc-before
@@ -22,8 +33,8 @@ arc-at-requires c κs = omega arith
 
 write-record-requires : tie.Need-write-record-requires Inv-loop μ-loop
 write-record-requires c κs =
-    let l = c .before .before .before in
-    record-room (l .loop .inv) (l .before .before .before .before .before .pre .0) (c .before .before .loop-test .taken) _ (c .before .arc-at .ensures)
+    let a = c .before in
+    record-room (loop a .loop .inv) (start a .pre .0) (turn a .loop-test .taken) _ (a .arc-at .ensures)
 
 add-i : tie.Need-add-i Inv-loop μ-loop
 add-i c = omega arith
@@ -34,9 +45,9 @@ loop-less c = omega arith
 loop-again : tie.Need-loop-again Inv-loop μ-loop
 unfolding arc-before
 loop-again c =
-    let l = c .before .before .before .before .before .before in
-    writing-next (l .loop .inv) (l .before .before .before .before .before .pre .0) (c .before .before .before .before .before .loop-test .taken) _
-    (c .before .before .before .before .arc-at .ensures) (c .before .before .write-record .ensures)
+    let w = c .before .before in
+    let a = w .before .before in
+    writing-next (loop a .loop .inv) (start a .pre .0) (turn a .loop-test .taken) _ (a .arc-at .ensures) (w .write-record .ensures)
 
 same-length : tie.Need-same-length Inv-loop μ-loop
 same-length c = c .before .loop .inv .column .kept

@@ -11,7 +11,7 @@ use borrow.Author.Tests.{lt-ltb, le-ltb, eq-eqb, ne-eqb}
 use Rattle.table.specs.Table.{Arc, arc}
 use Rattle.link_format.specs.Format.{has, record-bits}
 use Rattle.link_format.specs.Reading.{_>>_, _>>=_, got, refused, and-then, give, here, refuse-if, field, optional, implied, forbidden, read-record}
-use Rattle.link_file.specs.Says.{Got, Ends, Record-got}
+use Rattle.link_file.specs.Says.{Got, Cut-inside, Record-got}
 
 module _ (before : Option Arc) (part : List ℕ) (at : ℕ) (bits : ℕ) (one : field 1 at part ≡ got bits (at + 1) (drop 1 part)) where
   pub refused-bits : forbidden before bits ≡ true → read-record before at part ≡ refused 10 at
@@ -19,17 +19,17 @@ module _ (before : Option Arc) (part : List ℕ) (at : ℕ) (bits : ℕ) (one : 
   refused-bits bad = rw (one, bad)
 
   module _ (good : forbidden before bits ≡ false) where
-    pub cut-tail : Ends (optional (has 1 bits) 2 (implied before .tail)) part 1 2 → read-record before at part ≡ refused 9 (at + length part)
+    pub cut-tail : Cut-inside (optional (has 1 bits) 2 (implied before .tail)) part 1 2 → read-record before at part ≡ refused 9 (at + length part)
     unfolding read-record _>>=_ _>>_ and-then here refuse-if
     cut-tail cut = rw (one, good, cut .is at)
 
     module _ {b t f : ℕ} (tail : Got (optional (has 1 bits) 2 (implied before .tail)) part 1 2 b t f) where
-      pub cut-head : Ends (optional (has 2 bits) 2 (implied before .head)) part f 2 → read-record before at part ≡ refused 9 (at + length part)
+      pub cut-head : Cut-inside (optional (has 2 bits) 2 (implied before .head)) part f 2 → read-record before at part ≡ refused 9 (at + length part)
       unfolding read-record _>>=_ _>>_ and-then here refuse-if
       cut-head cut = rw (one, good, tail .is at, cut .is at)
 
       module _ {b₂ h f₂ : ℕ} (head : Got (optional (has 2 bits) 2 (implied before .head)) part f 2 b₂ h f₂) where
-        pub cut-length : Ends (optional (has 4 bits) 4 (implied before .arc-length)) part f₂ 4 → read-record before at part ≡ refused 9 (at + length part)
+        pub cut-length : Cut-inside (optional (has 4 bits) 4 (implied before .arc-length)) part f₂ 4 → read-record before at part ≡ refused 9 (at + length part)
         unfolding read-record _>>=_ _>>_ and-then here refuse-if
         cut-length cut = rw (one, good, tail .is at, head .is at, cut .is at)
 

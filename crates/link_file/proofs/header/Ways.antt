@@ -1,21 +1,27 @@
 -- The ways out of reading a header and its wanted list, one law for each `return` of the code, in the code's order. Assumes nothing.
-use mathlib.Core.Bool.{Bool, true, false, not, _&&_, _||_}
+use mathlib.Core.Bool.{Bool, true, false, _&&_}
 use mathlib.Core.List.{List, [], _∷_}
 use mathlib.Core.Path.{_≡_, refl, sym}
 use Prim.Native.Nat.{ℕ, _+_, _-_, _*_, _≤_, _<_}
 use native.Mathlib.Nat.{zero-add}
 use native.Mathlib.Omega.{arith}
-use lib.Dec.{eqb, ltb}
+use lib.Dec.{eqb}
 use lib.ListN.{length, drop, length-drop}
 use lib.Seq.{drop-drop}
 use borrow.Author.Tests.{lt-ltb, le-ltb, eq-eqb, ne-eqb}
 use Rattle.table.specs.Refusals.{count-bad}
+use Rattle.table.specs.declared.Refusal.{Refusal}
 use Rattle.table.specs.Table.{most-nodes, most-wanted}
 use Rattle.link_format.specs.Format.{has, all-nodes, header-bits}
-use Rattle.link_format.specs.Reading.{_>>_, _>>=_, got, refused, and-then, give, here, refuse-if, field, optional, read-wanted, read-header}
+use Rattle.link_format.specs.Reading.{forbidden-header, _>>_, _>>=_, got, refused, and-then, give, here, refuse-if, field, optional, read-wanted, read-header}
 use Rattle.link_format.proofs.AllNodes.{length-count-up, all-count-up}
-use Rattle.link_file.specs.Says.{Got, Ends, Nodes-got, Wanted-got, Header-got, wanted-in}
-use Rattle.link_file.proofs.Nodes.{nodes-read, nodes-cut, length-nodes-in}
+use Rattle.link_file.specs.declared.header.Header.{Header}
+use Rattle.link_file.specs.declared.header.HeaderRead.{HeaderRead}
+use Rattle.link_file.specs.declared.header.HeaderRead.the-variants as Headers
+use Rattle.link_file.specs.declared.header.WantedRead.{WantedRead}
+use Rattle.link_file.specs.declared.header.WantedRead.the-variants.{Read, Refused}
+use Rattle.link_file.specs.Says.{Header-says, Wanted-says, Got, Cut-inside, Nodes-got, Wanted-got, Header-got, wanted-in}
+use Rattle.link_file.proofs.header.Nodes.{nodes-read, nodes-cut, length-nodes-in}
 use Rattle.table.proofs.Basics.{not-both}
 
 -- no list: all nodes
@@ -33,7 +39,7 @@ wanted-absent file from n fits few =
     }
 
 module _ (file : List ℕ) (from n : ℕ) where
-  pub wanted-cut-count : Ends (field 2) file from 2 → read-wanted true n (0 + from) (drop from file) ≡ refused 9 (length file)
+  pub wanted-cut-count : Cut-inside (field 2) file from 2 → read-wanted true n (0 + from) (drop from file) ≡ refused 9 (length file)
   unfolding read-wanted _>>=_ and-then
   wanted-cut-count cut = rw (cut .is 0, zero-add (length file))
 
@@ -68,18 +74,29 @@ module _ (file : List ℕ) (from n : ℕ) where
             room = λ (e : true ≡ true). omega (arith, nodes .on);
           }
 
+-- the wanted list's answer by its case
+pub wanted-as-got : {r : WantedRead} {file : List ℕ} {from n count next : ℕ} {listed all : Bool} → r ≡ Read count next all
+    → Wanted-says r file from listed n → Wanted-got file from listed n count next all
+unfolding Wanted-says
+wanted-as-got e says = rw e at says
+
+pub wanted-as-refused : {r : WantedRead} {f : Refusal} (file : List ℕ) (from n : ℕ) (listed : Bool) → r ≡ Refused f
+    → Wanted-says r file from listed n → read-wanted listed n (0 + from) (drop from file) ≡ refused (f .number) (f .place)
+unfolding Wanted-says
+wanted-as-refused file from n listed e says = rw e at says
+
 pub header-empty : (file : List ℕ) → length file ≡ 0 → read-header 0 file ≡ refused 9 0
 unfolding read-header _>>=_ _>>_ and-then here field
 header-empty [] h = refl
 header-empty (b ∷ bs) h = absurd (omega arith)
 
 module _ (file : List ℕ) (bits : ℕ) (one : field 1 0 file ≡ got bits 1 (drop 1 file)) where
-  pub header-forbidden : (ltb 7 bits || not (has 1 bits)) ≡ true → read-header 0 file ≡ refused 10 0
+  pub header-forbidden : forbidden-header bits ≡ true → read-header 0 file ≡ refused 10 0
   unfolding read-header _>>=_ _>>_ and-then here refuse-if
   header-forbidden bad = rw (one, bad)
 
-  module _ (good : (ltb 7 bits || not (has 1 bits)) ≡ false) where
-    pub cut-n : Ends (field 2) file 1 2 → read-header 0 file ≡ refused 9 (length file)
+  module _ (good : forbidden-header bits ≡ false) where
+    pub cut-n : Cut-inside (field 2) file 1 2 → read-header 0 file ≡ refused 9 (length file)
     unfolding read-header _>>=_ _>>_ and-then here refuse-if
     cut-n cut = rw (one, good, cut .is 0, zero-add (length file))
 
@@ -89,7 +106,7 @@ module _ (file : List ℕ) (bits : ℕ) (one : field 1 0 file ≡ got bits 1 (dr
       bad-n bad = rw (one, good, nodes .is 0, bad)
 
       module _ (fine : count-bad n ≡ false) where
-        pub cut-origin : Ends (optional (has 2 bits) 2 0) file f 2 → read-header 0 file ≡ refused 9 (length file)
+        pub cut-origin : Cut-inside (optional (has 2 bits) 2 0) file f 2 → read-header 0 file ≡ refused 9 (length file)
         unfolding read-header _>>=_ _>>_ and-then here refuse-if
         cut-origin cut = rw (one, good, nodes .is 0, fine, cut .is 0, zero-add (length file))
 
@@ -121,3 +138,13 @@ module _ (file : List ℕ) (bits : ℕ) (one : field 1 0 file ≡ got bits 1 (dr
                   inside = wanted .inside;
                   room = wanted .room;
                 }
+
+-- the header's answer by its case
+pub header-as-got : {r : HeaderRead} {h : Header} {file : List ℕ} → r ≡ Headers.Read h → Header-says r file → Header-got file h
+unfolding Header-says
+header-as-got e says = rw e at says
+
+pub header-as-refused : {r : HeaderRead} {f : Refusal} (file : List ℕ) → r ≡ Headers.Refused f → Header-says r file
+    → read-header 0 file ≡ refused (f .number) (f .place)
+unfolding Header-says
+header-as-refused file e says = rw e at says

@@ -49,6 +49,7 @@ nodes-more k at file = rw (drop-drop 2 at file)
 
 -- Where a loop over a run of nodes stands.
 pub record Along (file : List ℕ) (from count at i : ℕ) : Type 0 where
+  -- so many nodes were passed, each of two bytes, inside the file
   pub low : i ≤ count
   pub here : at ≡ from + 2 * i
   pub inside : at ≤ length file

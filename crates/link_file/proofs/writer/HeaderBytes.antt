@@ -14,8 +14,8 @@ use Rattle.link_format.specs.Format.{bytes, has, field-bytes, counts-from, all-
 use Rattle.link_format.proofs.Numbers.{length-bytes}
 use Rattle.link_file.specs.Says.{Put, Header-sized}
 use Rattle.link_file.proofs.Columns.{Column, column-begins, column-piece}
-use Rattle.link_file.proofs.Pieces.{put-byte, put-then, room-first, room-rest}
-use Rattle.link_file.proofs.Sizes.{length-field}
+use Rattle.link_file.proofs.writer.Pieces.{put-byte, put-then, room-first, room-rest}
+use Rattle.link_file.proofs.writer.Sizes.{length-field}
 
 pub length-nodes : (ws : List ℕ) → length (nodes-bytes ws) ≡ 2 * length ws
 unfolding nodes-bytes bytes
@@ -50,6 +50,7 @@ header-sized bits wanted origin list eo lo el ll few =
 
 -- Comparing a wanted list with all nodes: those left count up from here where all do.
 pub record Comparing (n : ℕ) (ws : List ℕ) (i : ℕ) : Type 0 where
+  -- so many nodes were compared, all of them in their places
   pub low : i ≤ n
   pub same : counts-from i (drop i ws) ≡ counts-from 0 ws
 
@@ -81,6 +82,7 @@ not-all n ws other = rw (ne-eqb (length ws) n other)
 
 -- Writing the nodes: what is left has room, and gives the output with all of them.
 pub record Writing-nodes (ws output₀ : List ℕ) (start : ℕ) (output : List ℕ) (at i : ℕ) : Type 0 where
+  -- so many nodes were written, and the rest ends where all would
   pub low : i ≤ length ws
   pub on : at + length (nodes-bytes (drop i ws)) ≡ start + length (nodes-bytes ws)
   pub column : Column output₀ start (nodes-bytes ws) output at (nodes-bytes (drop i ws))

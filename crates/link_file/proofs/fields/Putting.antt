@@ -11,7 +11,9 @@ use Rattle.link_file.proofs.Columns.{Column, column-begins, column-next
 
 -- Where the loop stands: the bytes of what is left of the number are still to be stored.
 pub record Putting (output₀ : List ℕ) (at width value : ℕ) (output : List ℕ) (left i : ℕ) : Type 0 where
+  -- so many bytes were put
   pub low : i ≤ width
+  -- the others, put from here on, give the output with all of them
   pub column : Column output₀ at (bytes width value) output (at + i) (bytes (width - i) left)
 
 pub putting-begins : (output : List ℕ) (at width value : ℕ) → Putting output at width value output value 0

@@ -10,7 +10,7 @@ use lib.ListN.{length, drop, getD, length-append, drop-of-length-le}
 use lib.Seq.{sets, drop-cons}
 use Rattle.table.specs.Table.{Arc, arc, arcs-of}
 use Rattle.link_format.specs.Buffers.{Equal-columns}
-use Rattle.link_format.specs.Format.{has, field-bytes, fields-bytes, record-bits, record-bytes, records-bytes}
+use Rattle.link_format.specs.Format.{most-record, has, field-bytes, fields-bytes, record-bits, record-bytes, records-bytes}
 use Rattle.link_format.proofs.Numbers.{length-bytes}
 use Rattle.link_file.specs.Says.{Put, Record-sized}
 use Rattle.link_file.proofs.Columns.{Column, column-begins, column-piece}
@@ -68,8 +68,10 @@ length-record before a more = length-append (record-bytes before a) (records-byt
 
 -- Sizing the records: the size so far and that of what is left make the whole.
 pub record Sizing (ts hs ls : List ℕ) (size : ℕ) (before : Option Arc) (i : ℕ) : Type 0 where
+  -- so many arcs were sized, none longer than the longest record
   pub low : i ≤ length ts
-  pub near : size ≤ 9 * i
+  pub near : size ≤ most-record * i
+  -- with the rest they make the whole
   pub same : size + length (records-bytes before (arcs-left ts hs ls i)) ≡ length (records-bytes none (arcs-of ts hs ls))
 
 pub sizing-begins : (ts hs ls : List ℕ) → Sizing ts hs ls 0 none 0
@@ -94,6 +96,7 @@ module _ {ts hs ls : List ℕ} {size i : ℕ} {before : Option Arc} (s : Sizing 
 
 -- Writing the records: what is left has room, and gives the output with all of them.
 pub record Writing (ts hs ls output₀ : List ℕ) (start : ℕ) (output : List ℕ) (at : ℕ) (before : Option Arc) (i : ℕ) : Type 0 where
+  -- so many arcs were written, and there is room for the rest
   pub low : i ≤ length ts
   pub room : at + length (records-bytes before (arcs-left ts hs ls i)) ≤ length output₀
   pub column : Column output₀ start (records-bytes none (arcs-of ts hs ls)) output at (records-bytes before (arcs-left ts hs ls i))

@@ -11,10 +11,11 @@ use Rattle.table.specs.Table.{Arc, most-arcs}
 use Rattle.link_format.specs.Format.{tails-of, heads-of, lengths-of}
 use Rattle.link_format.specs.Reading.{Outcome, got, refused, accepted, list-got, and-then, give, read-record}
 use Rattle.link_format.proofs.Records.{in-front}
-use Rattle.link_file.specs.Says.{Record-got, Fillable, Filled, records-from}
+use Rattle.link_file.specs.Says.{Record-got, Fillable, arcs-from}
 use Rattle.link_file.proofs.Columns.{Column, column-begins, column-next}
-use Rattle.link_file.proofs.Runs.{remaining, Standing, standing-next, run-none, run-full, run-refused, run-more}
+use Rattle.link_file.proofs.records.Runs.{remaining, Standing, standing-next, run-none, run-full, run-refused, run-more}
 use Rattle.table.proofs.Basics.{not-both}
+use lib.Seq.{sets}
 
 -- an arc in front of the rest
 accepted-then : (a : Arc) (o : Outcome (List Arc)) → accepted (in-front a o) ≡ accepted o
@@ -58,10 +59,12 @@ module _ (file : List ℕ) (at i : ℕ) (before : Option Arc) (more : at < lengt
 -- Where the second pass stands.
 pub record Filling (file : List ℕ) (start : ℕ) (tails₀ heads₀ lengths₀ tails heads lengths : List ℕ) (at i : ℕ) (before : Option Arc) : Type 0 where
   pub stands : Standing file at i
+  -- what is left is good
   pub good : accepted (remaining file at i before) ≡ true
-  pub tails-left : Column tails₀ 0 (tails-of (list-got (records-from file start))) tails i (tails-of (list-got (remaining file at i before)))
-  pub heads-left : Column heads₀ 0 (heads-of (list-got (records-from file start))) heads i (heads-of (list-got (remaining file at i before)))
-  pub lengths-left : Column lengths₀ 0 (lengths-of (list-got (records-from file start))) lengths i (lengths-of (list-got (remaining file at i before)))
+  -- and stored from i on it gives each column with all arcs
+  pub tails-left : Column tails₀ 0 (tails-of (arcs-from file start)) tails i (tails-of (list-got (remaining file at i before)))
+  pub heads-left : Column heads₀ 0 (heads-of (arcs-from file start)) heads i (heads-of (list-got (remaining file at i before)))
+  pub lengths-left : Column lengths₀ 0 (lengths-of (arcs-from file start)) lengths i (lengths-of (list-got (remaining file at i before)))
 
 pub filling-begins : {file : List ℕ} {start : ℕ} {tails heads lengths : List ℕ} → Fillable file start tails heads lengths
     → Filling file start tails heads lengths tails heads lengths start 0 none
@@ -89,13 +92,23 @@ module _ {file : List ℕ} {start : ℕ} {tails₀ heads₀ lengths₀ tails hea
         lengths-left = next-column file at i before more (f .good) few r lengths-of (a .arc-length) (λ (rest : List Arc). refl) (f .lengths-left);
       }
 
-  pub filling-done : length file ≤ at
-      → Filled (list-got (records-from file start)) tails₀ heads₀ lengths₀ tails heads lengths
-  unfolding tails-of heads-of lengths-of list-got
-  filling-done end =
-      let none-left : list-got (remaining file at i before) ≡ [] = ap list-got (run-none file at i before end) in
-      record {
-        tails-are = rw none-left at (f .tails-left .same);
-        heads-are = rw none-left at (f .heads-left .same);
-        lengths-are = rw none-left at (f .lengths-left .same);
-      }
+  -- nothing is left: each column has all of its arcs
+  module _ (end : length file ≤ at) where
+    column-done : (of : List Arc → List ℕ) → of [] ≡ [] → {first buffer : List ℕ} → Column first 0 (of (arcs-from file start)) buffer i (of (list-got (remaining file at i before)))
+        → buffer ≡ sets first 0 (of (arcs-from file start))
+    unfolding list-got
+    column-done of empty {first} {buffer} k =
+        let none-left : of (list-got (remaining file at i before)) ≡ [] = ap (λ (o : Outcome (List Arc)). of (list-got o)) (run-none file at i before end) ∙ empty in
+        rw none-left at (k .same)
+
+    pub tails-done : tails ≡ sets tails₀ 0 (tails-of (arcs-from file start))
+    unfolding tails-of
+    tails-done = column-done tails-of refl (f .tails-left)
+
+    pub heads-done : heads ≡ sets heads₀ 0 (heads-of (arcs-from file start))
+    unfolding heads-of
+    heads-done = column-done heads-of refl (f .heads-left)
+
+    pub lengths-done : lengths ≡ sets lengths₀ 0 (lengths-of (arcs-from file start))
+    unfolding lengths-of
+    lengths-done = column-done lengths-of refl (f .lengths-left)

@@ -14,10 +14,10 @@ use mir.Val.{Fits, bits}
 use Rattle.table.specs.Table.{Below}
 use Rattle.link_format.specs.Reading.{Reader, got, refused, number, field, optional, give}
 use Rattle.link_format.proofs.Numbers.{number-more, number-small, below-drop, three-bytes}
-use Rattle.link_file.specs.Says.{Got, Ends, Field-says}
+use Rattle.link_format.proofs.Outcomes.{refused-got, got-next, got-value}
+use Rattle.link_file.specs.Says.{Got, Cut-inside, Field-says}
 use Rattle.link_file.specs.declared.fields.Field.{Field}
 use Rattle.link_file.specs.declared.fields.Field.the-variants.{Value, Cut}
-use Rattle.link_format.proofs.Outcomes.{refused-got, got-next, got-value}
 
 -- a column of a type's values is below the type's bound
 pub column-below : (w : Width) (xs : List ℕ) → ((i : ℕ) → Fits w (getD xs i 0)) → Below (2 ^ bits w) xs
@@ -40,9 +40,9 @@ module _ (part : List ℕ) (from width : ℕ) (fits : from ≤ length part) wher
       }
 
   -- there is none
-  pub field-ends : length part - from < width → Ends (field width) part from width
+  pub field-cut : length part - from < width → Cut-inside (field width) part from width
   unfolding field
-  field-ends short =
+  field-cut short =
       record {
         is = λ (at : ℕ).
             let e : at + from + (length part - from) ≡ at + length part = omega arith in
@@ -67,7 +67,9 @@ absent-got part from width absent bound fits small =
 
 -- The loop over a field's bytes, from the highest down: the value is the number in the bytes passed.
 pub record Passed (part : List ℕ) (from width value left : ℕ) : Type 0 where
+  -- so many bytes are left
   pub low : left ≤ width
+  -- those above them make the value
   pub is : value ≡ number (width - left) (drop (from + left) part)
 
 module _ {part : List ℕ} {from width value left : ℕ} where
@@ -127,10 +129,10 @@ pub as-got : {r : Field} {m : Reader ℕ} {part : List ℕ} {from width bound v 
 unfolding Field-says
 as-got e says = rw e at says
 
-pub as-ends : (bound : ℕ) {r : Field} {m : Reader ℕ} {part : List ℕ} {from width : ℕ} → r ≡ Cut
-    → Field-says r m part from width bound → Ends m part from width
+pub as-cut : (bound : ℕ) {r : Field} {m : Reader ℕ} {part : List ℕ} {from width : ℕ} → r ≡ Cut
+    → Field-says r m part from width bound → Cut-inside m part from width
 unfolding Field-says
-as-ends bound e says = rw e at says
+as-cut bound e says = rw e at says
 
 -- an optional field's answer, where the code's names for its bit and for what its absence says are the format's
 pub renamed : (r : Field) {s s′ : Bool} {a a′ : ℕ} (part : List ℕ) (from width bound : ℕ) → s ≡ s′ → a ≡ a′
