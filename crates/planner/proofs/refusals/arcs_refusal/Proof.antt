@@ -11,10 +11,10 @@ use Rattle.planner.proofs.refusals.arcs_refusal.Statement.{statement}
 use Rattle.planner.proofs.refusals.arcs_refusal.Tie as tie
 
 abbrev Inv-loop : tie.InvT-loop
-Inv-loop n tails heads lengths i₀ i = (i ≤ length tails) × (arcs-from i n (arcs-of (drop i tails) (drop i heads) (drop i lengths)) ≡ arcs-refusal n (arcs-of tails heads lengths))
+Inv-loop n tails heads lengths position₀ position = (position ≤ length tails) × (arcs-from position n (arcs-of (drop position tails) (drop position heads) (drop position lengths)) ≡ arcs-refusal n (arcs-of tails heads lengths))
 
 abbrev μ-loop : tie.MeasureT-loop
-μ-loop n tails heads lengths i₀ i = length tails - i
+μ-loop n tails heads lengths position₀ position = length tails - position
 
 loop-holds : tie.Need-loop-holds Inv-loop μ-loop
 unfolding arcs-refusal
@@ -49,12 +49,12 @@ unfolding refusal
 returns c =
     let s = c .before .before .before .before .before .before .before .before .before .before .before in
     let a = s .args in
-    arc-bad (a .n) (a .tails .now) (a .heads .now) (a .lengths .now) (s .pre .0) (s .pre .1 .0) (c .before .before .before .before .before .before .before .loop .i) (c .before .before .before .before .before .before .loop-test .taken)
+    arc-bad (a .n) (a .tails .now) (a .heads .now) (a .lengths .now) (s .pre .0) (s .pre .1 .0) (c .before .before .before .before .before .before .before .loop .position) (c .before .before .before .before .before .before .loop-test .taken)
     (c .before .before .arc-refusal .result) (c .place .result) (c .before .before .arc-refusal .ensures) (c .before .if1 .taken) (c .place .ensures)
     ∙ c .before .before .before .before .before .before .before .loop .inv .1
 
-add-i : tie.Need-add-i Inv-loop μ-loop
-add-i c = search needs
+add-position : tie.Need-add-position Inv-loop μ-loop
+add-position c = search needs
 
 loop-less : tie.Need-loop-less Inv-loop μ-loop
 loop-less c = omega arith
@@ -64,7 +64,7 @@ loop-again c =
     let s = c .before .before .before .before .before .before .before .before .before .before in
     let a = s .args in (
       omega arith,
-      arc-good (a .n) (a .tails .now) (a .heads .now) (a .lengths .now) (s .pre .0) (s .pre .1 .0) (c .before .before .before .before .before .before .loop .i) (c .before .before .before .before .before .loop-test .taken)
+      arc-good (a .n) (a .tails .now) (a .heads .now) (a .lengths .now) (s .pre .0) (s .pre .1 .0) (c .before .before .before .before .before .before .loop .position) (c .before .before .before .before .before .loop-test .taken)
           (sym (c .before .arc-refusal .ensures) ∙ c .if1 .left)
           ∙ c .before .before .before .before .before .before .loop .inv .1,
     )
@@ -77,7 +77,7 @@ returns-2 c =
     let s = c .before .before .before .before .before .before in
     let a = s .args in
     c .none .ensures
-    ∙ arcs-done (a .n) (a .tails .now) (a .heads .now) (a .lengths .now) (s .pre .0) (s .pre .1 .0) (c .before .before .loop .i) (c .before .loop-test .left)
+    ∙ arcs-done (a .n) (a .tails .now) (a .heads .now) (a .lengths .now) (s .pre .0) (s .pre .1 .0) (c .before .before .loop .position) (c .before .loop-test .left)
     ∙ c .before .before .loop .inv .1
 
 pub arcs-refusal-spec : {M : Type 1} → statement M
@@ -96,7 +96,7 @@ arcs-refusal-spec =
     arc-refusal-requires
     place-requires
     returns
-    add-i
+    add-position
     loop-less
     loop-again
     none-requires
