@@ -25,7 +25,7 @@ use Rattle.solver.proofs.Arrays.{seen-bound, seen-status, no-bound}
 use Rattle.solver.proofs.Columns.{count-so, tail-so, head-so, nodes-so, origin-so}
 use Rattle.auction.specs.Plan.{rooms, plan-refusal, plan, routes-of, refused-plan}
 use Rattle.planner.specs.ReadOff.{Known, Arc-ends, Fitting, Ends-held}
-use Rattle.planner.proofs.Refusing.{columns-fit}
+use Rattle.planner.proofs.refusals.Refusing.{columns-fit}
 
 -- AFTER THE RUN
 module _ (t : Table) (ws : List ℕ) (m : ℕ) (p u b k s : List ℕ) (g : Progress) (ran : Ran t ws m (seen p u b k s g)) where

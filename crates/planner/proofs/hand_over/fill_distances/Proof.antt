@@ -3,8 +3,8 @@ use mathlib.Core.Path.{_∙_}
 use native.Mathlib.Omega.{arith}
 use lib.ListN.{length}
 use Rattle.table.specs.Table.{no-distance}
-use Rattle.planner.proofs.Entries.{Filling, fill-begins, fill-on, fill-ends}
-use Rattle.planner.proofs.Handing.{distance-entry, distances-so}
+use Rattle.planner.proofs.hand_over.Entries.{Filling, fill-begins, fill-on, fill-ends}
+use Rattle.planner.proofs.hand_over.Handing.{distance-entry, distances-so}
 use Rattle.planner.proofs.hand_over.fill_distances.Statement.{statement}
 use Rattle.planner.proofs.hand_over.fill_distances.Tie as tie
 

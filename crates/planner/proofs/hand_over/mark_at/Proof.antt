@@ -2,7 +2,7 @@
 use Prim.Native.Nat.{_<_}
 use native.Mathlib.Omega.{arith}
 use lib.ListN.{length}
-use Rattle.planner.proofs.Marks.{marked}
+use Rattle.planner.proofs.hand_over.Marks.{marked}
 use borrow.Author.Needs.{needs}
 use Rattle.planner.proofs.hand_over.mark_at.Statement.{statement}
 use Rattle.planner.proofs.hand_over.mark_at.Tie as tie

@@ -7,7 +7,7 @@ use lib.ListN.{length, drop}
 use Rattle.table.specs.Table.{arcs-of}
 use Rattle.table.specs.declared.Refusal.{Refusal}
 use Rattle.table.specs.Refusals.{refusal, arcs-from, arcs-refusal}
-use Rattle.planner.proofs.Refusing.{arc-good, arc-bad, arcs-done}
+use Rattle.planner.proofs.refusals.Refusing.{arc-good, arc-bad, arcs-done}
 use Rattle.planner.proofs.refusals.arcs_refusal.Statement.{statement}
 use Rattle.planner.proofs.refusals.arcs_refusal.Tie as tie
 

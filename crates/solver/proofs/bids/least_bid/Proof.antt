@@ -7,7 +7,7 @@ use lib.ListN.{getD}
 use Rattle.table.specs.Table.{no-arc}
 use Rattle.solver.specs.Steps.{Leads}
 use Rattle.solver.proofs.Arcs.{Readable, readable}
-use Rattle.solver.proofs.Bidding.{Comparing, begins, goes-on, ends}
+use Rattle.solver.proofs.bids.Bidding.{Comparing, begins, goes-on, ends}
 use Rattle.solver.proofs.bids.least_bid.Statement.{statement}
 use Rattle.solver.proofs.bids.least_bid.Tie as tie
 

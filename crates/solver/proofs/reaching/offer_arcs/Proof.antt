@@ -5,7 +5,7 @@ use borrow.Author.Needs.{needs}
 use native.Mathlib.Omega.{arith}
 use lib.ListN.{getD}
 use Rattle.table.specs.Table.{no-arc}
-use Rattle.solver.proofs.Offering.{Offering, begins, goes-on, ends}
+use Rattle.solver.proofs.reaching.Offering.{Offering, begins, goes-on, ends}
 use Rattle.solver.proofs.Arcs.{Readable, readable}
 use Rattle.solver.proofs.reaching.offer_arcs.Statement.{statement}
 use Rattle.solver.proofs.reaching.offer_arcs.Tie as tie

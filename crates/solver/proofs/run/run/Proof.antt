@@ -9,7 +9,7 @@ use Rattle.solver.specs.Seen.{arrays, held, Sized}
 use Rattle.solver.specs.Lists.{star}
 use Rattle.solver.specs.Steps.{Begun}
 use Rattle.solver.proofs.Columns.{filled-long, filled-with, nodes-so}
-use Rattle.solver.proofs.Beginning.{tails-held, few-tails, few-nodes, tails-below, begun-fresh, prefix-fits, prefix-long, lent-again}
+use Rattle.solver.proofs.run.Beginning.{tails-held, few-tails, few-nodes, tails-below, begun-fresh, prefix-fits, prefix-long, lent-again}
 use borrow.Author.Needs.{needs}
 use Rattle.solver.proofs.run.run.Statement.{statement}
 use Rattle.solver.proofs.run.run.Tie as tie

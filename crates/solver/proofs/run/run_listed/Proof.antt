@@ -5,7 +5,7 @@ use Rattle.auction.specs.Auction.{fresh}
 use Rattle.solver.specs.Seen.{arrays, held}
 use Rattle.solver.specs.Lists.{star, Some-table}
 use Rattle.solver.specs.Steps.{Begun}
-use Rattle.solver.proofs.Beginning.{origin-below, origin-bound, started}
+use Rattle.solver.proofs.run.Beginning.{origin-below, origin-bound, started}
 use borrow.Author.Needs.{needs}
 use Rattle.solver.proofs.run.run_listed.Statement.{statement}
 use Rattle.solver.proofs.run.run_listed.Tie as tie

@@ -4,7 +4,7 @@ use native.Mathlib.Omega.{arith}
 use Prim.Native.Nat.{ℕ, _≤_}
 use lib.ListN.{getD}
 use Rattle.solver.specs.Seen.{greatest-sum}
-use Rattle.solver.proofs.Stepping.{extended-known, extended-reached}
+use Rattle.solver.proofs.steps.Stepping.{extended-known, extended-reached}
 use borrow.Author.Needs.{needs}
 use Rattle.solver.proofs.steps.extend.Statement.{statement}
 use Rattle.solver.proofs.steps.extend.Tie as tie

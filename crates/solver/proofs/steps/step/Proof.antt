@@ -9,7 +9,7 @@ use Rattle.auction.specs.Auction.{State, price-at, extension}
 use Rattle.solver.specs.Lists.{star, Outgoing, Some-table}
 use Rattle.solver.specs.Seen.{arrays, held, greatest-sum}
 use Rattle.solver.proofs.Arrays.{seen-price}
-use Rattle.solver.proofs.Stepping.{is-deletion, is-contraction, is-extension}
+use Rattle.solver.proofs.steps.Stepping.{is-deletion, is-contraction, is-extension}
 use borrow.Author.Needs.{needs}
 use Rattle.solver.proofs.steps.step.Statement.{statement}
 use Rattle.solver.proofs.steps.step.Tie as tie

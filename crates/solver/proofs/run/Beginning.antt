@@ -15,7 +15,7 @@ use Rattle.solver.specs.Seen.{seen, greatest-sum}
 use Rattle.solver.specs.Lists.{star, Linked, Tails}
 use Rattle.solver.specs.Steps.{Begun}
 use Rattle.solver.proofs.Arrays.{seen-bound}
-use Rattle.solver.proofs.Iterating.{bound-value}
+use Rattle.solver.proofs.run.Iterating.{bound-value}
 use Rattle.solver.proofs.Columns.{count-so, tail-so, head-so, length-so, nodes-so, origin-so}
 
 fresh-bound : (t : Table) → t .origin < t .n → bound-at (fresh t) (t .origin) ≡ some 0
