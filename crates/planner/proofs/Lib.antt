@@ -1,6 +1,3 @@
-pub mod Refusing
-pub mod Entries
-pub mod Marks
-pub mod Handing
+-- From the refusals to the run and from the run to the hand-over; and the promise to a user.
 pub mod Planning
 pub mod Promised

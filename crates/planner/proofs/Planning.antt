@@ -18,13 +18,14 @@ use Rattle.table.proofs.Basics.{both-true, either-false, inside, same-or, true-
 use Rattle.auction.specs.Promises.{Unrefused-is-table}
 use Rattle.auction.proofs.Good.{good, unrefused-is-table, passed}
 use Rattle.solver.specs.declared.state.Progress.{Progress}
-use Rattle.solver.specs.Seen.{seen}
+use Rattle.solver.specs.declared.state.RunState.{RunState}
+use Rattle.solver.specs.Seen.{seen, held, first-of}
 use Rattle.solver.specs.Steps.{Ran}
 use Rattle.solver.proofs.Arrays.{seen-bound, seen-status, no-bound}
 use Rattle.solver.proofs.Columns.{count-so, tail-so, head-so, nodes-so, origin-so}
 use Rattle.auction.specs.Plan.{rooms, plan-refusal, plan, routes-of, refused-plan}
 use Rattle.planner.specs.ReadOff.{Known, Arc-ends, Fitting, Ends-held}
-use Rattle.planner.proofs.Refusing.{columns-fit}
+use Rattle.planner.proofs.refusals.Refusing.{columns-fit}
 
 -- AFTER THE RUN
 module _ (t : Table) (ws : List ℕ) (m : ℕ) (p u b k s : List ℕ) (g : Progress) (ran : Ran t ws m (seen p u b k s g)) where
@@ -82,12 +83,10 @@ module _ (n o : ℕ) (ts hs ls ws : List ℕ) (eh : length hs ≡ length ts) (el
   nodes-low = omega (arith, good _ ws ok .few-nodes, nodes-so n o ts hs ls eh el)
 
   -- the fresh state, as far as it is lent
-  pub fresh-so : (p u b k s : List ℕ) (g : Progress) →
-      ((t : Table) → t .origin ≡ o → t .origin < t .n → t .n ≤ most-nodes →
-      seen (take (t .n) p) (take (t .n) u) (take (t .n) b) (take (t .n) k) (take (t .n) s) g ≡ fresh t) →
-      seen (take n p) (take n u) (take n b) (take n k) (take n s) g ≡ fresh (table-of n o ts hs ls)
+  pub fresh-so : (x : RunState) → ((t : Table) → t .origin ≡ o → t .origin < t .n → t .n ≤ most-nodes → held (first-of (t .n) x) ≡ fresh t) →
+      held (first-of n x) ≡ fresh (table-of n o ts hs ls)
   unfolding table-of table
-  fresh-so p u b k s g f = f (table-of n o ts hs ls) refl origin-low nodes-low
+  fresh-so x f = f (table-of n o ts hs ls) refl origin-low nodes-low
 
 -- a part of an array that is long enough
 pub part-fits : (l : List ℕ) (n : ℕ) → length l ≡ most-nodes → n ≤ most-nodes → n ≤ length l

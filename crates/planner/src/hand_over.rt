@@ -88,10 +88,10 @@ fn fill_distances(bound: &[u64], status: &[u8], out: &mut [u64])
     requires { ⌜ length (now out) ≡ length (now status) ⌝ }
     ensures { λ _. ⌜ ((kept : List ℕ) → Read-off distances (was bound) kept (was status) (left out)) ⌝ }
 {
-    let mut v = out.len();
-    while 0 < v {
-        v = v - 1;
-        out[v] = distance_or(NO_DISTANCE, v, bound, status);
+    let mut node = out.len();
+    while 0 < node {
+        node = node - 1;
+        out[node] = distance_or(NO_DISTANCE, node, bound, status);
     }
 }
 

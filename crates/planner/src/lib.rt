@@ -1,4 +1,4 @@
-// Planning: the grounds on which a table is refused, the run, and the four buffers that are handed over.
+// Planning: the refusals of a table, the run, and the four buffers that are handed over.
 ghost use mathlib.Core.Path.{_≡_};
 ghost use mathlib.Core.Bool.{true};
 ghost use lib.ListN.{length};

@@ -1,4 +1,4 @@
-// The grounds 1 to 7 on which a table is refused, in their order.
+// The refusals 1 to 7 of a table, in the order in which they are tested.
 ghost use mathlib.Core.Path.{_≡_};
 ghost use mathlib.Core.Bool.{not};
 ghost use Prim.Native.Nat.{_≤_};
@@ -88,16 +88,16 @@ fn arcs_refusal(n: usize, tails: &[u16], heads: &[u16], lengths: &[u32]) -> Refu
     requires { ⌜ (length (now heads) ≡ length (now tails)) × ((length (now lengths) ≡ length (now tails)) × (length (now tails) ≤ most-arcs)) ⌝ }
     ensures { λ r. ⌜ r ≡ arcs-refusal n (arcs-of (was tails) (was heads) (was lengths)) ⌝ }
 {
-    let mut i = 0;
-    while i < tails.len() {
-        let number = arc_refusal(n, tails[i], heads[i], lengths[i]);
+    let mut position = 0;
+    while position < tails.len() {
+        let number = arc_refusal(n, tails[position], heads[position], lengths[position]);
         if number != Refusal::NONE {
             return Refusal {
                 number: number,
-                place: place(i),
+                place: place(position),
             };
         }
-        i = i + 1;
+        position = position + 1;
     }
     Refusal::none()
 }

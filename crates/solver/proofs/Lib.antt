@@ -1,10 +1,4 @@
+-- What the proofs of more than one module use: what the arrays hold, the columns of a table, and the arcs out of a node.
 pub mod Arrays
-pub mod Arcs
-pub mod Offering
-pub mod Linking
-pub mod Bidding
-pub mod Stepping
-pub mod Wanted
-pub mod Iterating
 pub mod Columns
-pub mod Beginning
+pub mod Arcs

@@ -20,7 +20,7 @@ abbrev pub Becomes : (o : Star) → (f : Table → State → State) → (a b : R
 Becomes o f a b = (t : Table) → Outgoing t o → held b ≡ f t (held a)
 
 -- One arc has been offered to its head: the state is the one that `offer` gives, and no bound of a reached node has changed.
-pub record Offered (head position bound : ℕ) (bounds kept status bounds′ kept′ : List ℕ) : Type 0 where
+pub record Arc-offered (head position bound : ℕ) (bounds kept status bounds′ kept′ : List ℕ) : Type 0 where
   pub as-defined : (t : Table) (v : ℕ) (path price : List ℕ) (g : Progress) → tail-at t position ≡ v → head-at t position ≡ head →
       distance (seen path price bounds kept status g) v + length-at t position ≡ bound →
       seen path price bounds′ kept′ status g ≡ offer t v position (seen path price bounds kept status g)

@@ -9,7 +9,7 @@ ghost use Rattle.solver.specs.declared.state.Progress.{Progress};
 ghost use Rattle.solver.specs.Slices.{was, left};
 ghost use Rattle.solver.specs.Seen.{All-long, bound-of, arc-of, arrays, greatest-sum};
 ghost use Rattle.solver.specs.Lists.{star, lent-star, Some-table};
-ghost use Rattle.solver.specs.Steps.{Becomes, Offered};
+ghost use Rattle.solver.specs.Steps.{Becomes, Arc-offered};
 use super::long;
 use super::state::RunState;
 use table::NO_ARC;
@@ -38,7 +38,7 @@ fn offer(
 )
     requires { ⌜ (head < length (now bound)) × ((head < length (now kept)) × (head < length (now status))) ⌝ }
     requires { ⌜ (offered < no-distance) × (position < no-arc) ⌝ }
-    ensures { λ _. ⌜ Offered head position offered (was bound) (was kept) (was status) (left bound) (left kept) ⌝ }
+    ensures { λ _. ⌜ Arc-offered head position offered (was bound) (was kept) (was status) (left bound) (left kept) ⌝ }
 {
     if status[head] == RunState::UNREACHED {
         if improves(offered, position, bound[head], kept[head]) {

@@ -10,25 +10,48 @@ use borrow.Author.Needs.{needs}
 use Rattle.planner.proofs.plan_routes.Statement.{statement}
 use Rattle.planner.proofs.plan_routes.Tie as tie
 
+-- THE PLACES on the way, each named from the one after it: before the tests; where their answer is known; where the table is not refused.
+module _ (c : tie.After-slice-known4) where
+  abbrev lent : tie.After-shared-slice-known4
+  lent = c .before .before .before .before
+
+module _ (c : tie.After-table-refusal) where
+  abbrev known : tie.After-shared-slice-known4
+  known = lent (c .before)
+
+  abbrev s : tie.Start
+  s = known .before .before .before .before
+
+module _ (c : tie.Else1) where
+  abbrev tested : tie.After-table-refusal
+  tested = c .before .before
+
+module _ (c : tie.After-plan-table) where
+  abbrev good : tie.Else1
+  good = c .before .before .before .before .before
+
 table-refusal-requires : tie.Need-table-refusal-requires
 table-refusal-requires c κs = search needs
 
 returns : tie.Need-returns
 unfolding answered plan-refusal
 returns c =
-    let a = c .before .before .before .before .before .before .before .before .before .before .before .args in
+    let r = c .before .before in
+    let a = s r .args in
     refused (a .n) (a .origin) (a .tails .now) (a .heads .now) (a .lengths .now) (a .wanted .now) (a .distances .now) (a .prices .now) (a .tree .now) (a .marks .now)
-    (c .before .before .table-refusal .result) (c .before .before .table-refusal .ensures) (c .if1 .taken)
+    (r .table-refusal .result) (r .table-refusal .ensures) (c .if1 .taken)
 
 plan-table-requires : tie.Need-plan-table-requires
 unfolding plan-refusal Below refusal
 plan-table-requires c κs =
-    let a = c .before .before .before .before .before .before .before .before .before .before .before .before .before .before .before .args in
-    let known = c .before .before .before .before .before .before .before .before .before .before .before .before .shared-slice-known3 .given in
-    let none = sym (ap (λ (r : Refusal). r .number) (c .before .before .before .before .before .before .table-refusal .ensures)) ∙ c .before .before .before .before .if1 .left in
+    let g = c .before .before .before .before in
+    let r = tested g in
+    let a = s r .args in
+    let lengths-fit = known r .before .shared-slice-known3 .given in
+    let none = sym (ap (λ (f : Refusal). f .number) (r .table-refusal .ensures)) ∙ g .if1 .left in
     let f =
     fine (a .n) (a .origin) (a .tails .now) (a .heads .now) (a .lengths .now) (a .wanted .now) (a .distances .now) (a .prices .now) (a .tree .now) (a .marks .now)
-    (λ i. known i .fits) none in
+    (λ i. lengths-fit i .fits) none in
     ((f .heads-count, f .lengths-count), (f .table-good, f .fitting))
 
 same-length : tie.Need-same-length
@@ -46,9 +69,11 @@ same-length-4 c = search needs
 returns-2 : tie.Need-returns-2
 unfolding plan-refusal
 returns-2 c =
-    let a = c .before .before .before .before .before .before .before .before .before .before .before .before .before .before .before .before .before .before .before .before .before .before .before .before .args in
+    let p = c .before .before .before .before .before .before .before .before in
+    let r = tested (good p) in
+    let a = s r .args in
     planned (a .n) (a .origin) (a .tails .now) (a .heads .now) (a .lengths .now) (a .wanted .now) (a .distances .now) (a .prices .now) (a .tree .now) (a .marks .now)
-    (c .before .before .before .before .before .before .before .before .before .before .before .before .before .before .before .table-refusal .result) _ (c .before .before .before .before .before .before .before .before .before .before .before .before .before .before .before .table-refusal .ensures) (c .before .before .before .before .before .before .before .before .before .before .before .before .before .if1 .left) (c .before .before .before .before .before .before .before .before .plan-table .ensures)
+    (r .table-refusal .result) _ (r .table-refusal .ensures) (good p .if1 .left) (p .plan-table .ensures)
 
 pub plan-routes-spec : {M : Type 1} → statement M
 plan-routes-spec =

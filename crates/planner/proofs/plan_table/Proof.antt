@@ -6,7 +6,8 @@ use native.Mathlib.Omega.{arith}
 use lib.ListN.{length, take}
 use Rattle.table.specs.Table.{table-of, is-table, most-nodes}
 use Rattle.auction.specs.Auction.{fresh}
-use Rattle.solver.specs.Seen.{seen, Sized}
+use Rattle.solver.specs.declared.state.RunState.{RunState}
+use Rattle.solver.specs.Seen.{held, first-of, Sized}
 use Rattle.auction.specs.Plan.{routes-of}
 use Rattle.planner.specs.ReadOff.{Fitting}
 use Rattle.planner.proofs.Planning.{origin-low, fresh-so, part-fits, part-long}
@@ -14,79 +15,118 @@ use borrow.Author.Needs.{needs}
 use Rattle.planner.proofs.plan_table.Statement.{statement}
 use Rattle.planner.proofs.plan_table.Tie as tie
 
-few : (s : tie.Start) → s .args .n ≤ most-nodes
-few s = s .pre .1 .1 .few-nodes
+-- THE PLACES on the way, each named from the one after it: before the state is made; where it is fresh, with room for the most nodes; where its
+-- arrays are locals; where their first n entries are lent.
+module _ (c : tie.After-slice-known4) where
+  abbrev start : tie.Start
+  start = c .before .before .before .before .before .before .before .before
+
+module _ (c : tie.Start) where
+  few : c .args .n ≤ most-nodes
+  few = c .pre .1 .1 .few-nodes
+
+module _ (c : tie.After-fresh) where
+  abbrev s : tie.Start
+  s = start (c .before)
+
+  abbrev n : ℕ
+  n = s .args .n
+
+  abbrev x : RunState
+  x = c .fresh .result
+
+  abbrev sized : Sized most-nodes (x .price) (x .bound) (x .kept) (x .status)
+  sized = c .fresh .ensures .1 .1
+
+  path-part : n ≡ length (take n (x .path))
+  path-part = part-long (x .path) n (c .fresh .ensures .1 .0) (few s)
+
+  price-part : n ≡ length (take n (x .price))
+  price-part = part-long (x .price) n (sized .prices) (few s)
+
+  bound-part : n ≡ length (take n (x .bound))
+  bound-part = part-long (x .bound) n (sized .bounds) (few s)
+
+  kept-part : n ≡ length (take n (x .kept))
+  kept-part = part-long (x .kept) n (sized .kepts) (few s)
+
+  status-part : n ≡ length (take n (x .status))
+  status-part = part-long (x .status) n (sized .statuses) (few s)
+
+module _ (c : tie.After-progress) where
+  abbrev made : tie.After-fresh
+  made = c .before .before .before .before .before .before
+
+module _ (c : tie.After-status2) where
+  abbrev locals : tie.After-progress
+  locals = c .before .before .before .before .before
+
+module _ (c : tie.After-run-lent) where
+  abbrev lent : tie.After-status2
+  lent = c .before .before .before .before .before
 
 fresh-requires : tie.Need-fresh-requires
 fresh-requires c κs =
-    let s = c .before .before .before .before .before .before .before .before in
-    let a = s .args in
-    omega (arith, origin-low (a .n) (a .origin) (a .tails .now) (a .heads .now) (a .lengths .now) (a .wanted .now) (s .pre .0 .0) (s .pre .0 .1) (s .pre .1 .0), few s)
+    let b = start c in
+    let a = b .args in
+    omega (arith, origin-low (a .n) (a .origin) (a .tails .now) (a .heads .now) (a .lengths .now) (a .wanted .now) (b .pre .0 .0) (b .pre .0 .1) (b .pre .1 .0), few b)
 
 array-borrow-prefix-path : tie.Need-array-borrow-prefix-path
-array-borrow-prefix-path c = let f = c .before .before .before .before .before .before .fresh in part-fits (f .result .path) (c .before .before .before .before .before .before .before .before .before .before .before .before .before .before .before .args .n) (f .ensures .1 .0) (few (c .before .before .before .before .before .before .before .before .before .before .before .before .before .before .before))
+array-borrow-prefix-path c = let f = made c in part-fits (x f .path) (n f) (f .fresh .ensures .1 .0) (few (s f))
 
 slice-aggregate-run-lent : tie.Need-slice-aggregate-run-lent
-slice-aggregate-run-lent c = let f = c .before .before .before .before .before .before .before .fresh in part-long (f .result .path) (c .before .before .before .before .before .before .before .before .before .before .before .before .before .before .before .before .args .n) (f .ensures .1 .0) (few (c .before .before .before .before .before .before .before .before .before .before .before .before .before .before .before .before))
+slice-aggregate-run-lent c = path-part (made (c .before))
 
 array-borrow-prefix-price : tie.Need-array-borrow-prefix-price
-array-borrow-prefix-price c = let f = c .before .before .before .before .before .before .before .fresh in part-fits (f .result .price) (c .before .before .before .before .before .before .before .before .before .before .before .before .before .before .before .before .args .n) (f .ensures .1 .1 .prices) (few (c .before .before .before .before .before .before .before .before .before .before .before .before .before .before .before .before))
+array-borrow-prefix-price c = let f = made (c .before) in part-fits (x f .price) (n f) (sized f .prices) (few (s f))
 
 slice-aggregate-run-lent-2 : tie.Need-slice-aggregate-run-lent-2
-slice-aggregate-run-lent-2 c = let f = c .before .before .before .before .before .before .before .before .fresh in part-long (f .result .price) (c .before .before .before .before .before .before .before .before .before .before .before .before .before .before .before .before .before .args .n) (f .ensures .1 .1 .prices) (few (c .before .before .before .before .before .before .before .before .before .before .before .before .before .before .before .before .before))
+slice-aggregate-run-lent-2 c = price-part (made (c .before .before))
 
 array-borrow-prefix-bound : tie.Need-array-borrow-prefix-bound
-array-borrow-prefix-bound c = let f = c .before .before .before .before .before .before .before .before .fresh in part-fits (f .result .bound) (c .before .before .before .before .before .before .before .before .before .before .before .before .before .before .before .before .before .args .n) (f .ensures .1 .1 .bounds) (few (c .before .before .before .before .before .before .before .before .before .before .before .before .before .before .before .before .before))
+array-borrow-prefix-bound c = let f = made (c .before .before) in part-fits (x f .bound) (n f) (sized f .bounds) (few (s f))
 
 slice-aggregate-run-lent-3 : tie.Need-slice-aggregate-run-lent-3
-slice-aggregate-run-lent-3 c = let f = c .before .before .before .before .before .before .before .before .before .fresh in part-long (f .result .bound) (c .before .before .before .before .before .before .before .before .before .before .before .before .before .before .before .before .before .before .args .n) (f .ensures .1 .1 .bounds) (few (c .before .before .before .before .before .before .before .before .before .before .before .before .before .before .before .before .before .before))
+slice-aggregate-run-lent-3 c = bound-part (made (c .before .before .before))
 
 array-borrow-prefix-kept : tie.Need-array-borrow-prefix-kept
-array-borrow-prefix-kept c = let f = c .before .before .before .before .before .before .before .before .before .fresh in part-fits (f .result .kept) (c .before .before .before .before .before .before .before .before .before .before .before .before .before .before .before .before .before .before .args .n) (f .ensures .1 .1 .kepts) (few (c .before .before .before .before .before .before .before .before .before .before .before .before .before .before .before .before .before .before))
+array-borrow-prefix-kept c = let f = made (c .before .before .before) in part-fits (x f .kept) (n f) (sized f .kepts) (few (s f))
 
 slice-aggregate-run-lent-4 : tie.Need-slice-aggregate-run-lent-4
-slice-aggregate-run-lent-4 c = let f = c .before .before .before .before .before .before .before .before .before .before .fresh in part-long (f .result .kept) (c .before .before .before .before .before .before .before .before .before .before .before .before .before .before .before .before .before .before .before .args .n) (f .ensures .1 .1 .kepts) (few (c .before .before .before .before .before .before .before .before .before .before .before .before .before .before .before .before .before .before .before))
+slice-aggregate-run-lent-4 c = kept-part (made (c .before .before .before .before))
 
 array-borrow-prefix-status : tie.Need-array-borrow-prefix-status
-array-borrow-prefix-status c = let f = c .before .before .before .before .before .before .before .before .before .before .fresh in part-fits (f .result .status) (c .before .before .before .before .before .before .before .before .before .before .before .before .before .before .before .before .before .before .before .args .n) (f .ensures .1 .1 .statuses) (few (c .before .before .before .before .before .before .before .before .before .before .before .before .before .before .before .before .before .before .before))
+array-borrow-prefix-status c = let f = made (c .before .before .before .before) in part-fits (x f .status) (n f) (sized f .statuses) (few (s f))
 
 slice-aggregate-run-lent-5 : tie.Need-slice-aggregate-run-lent-5
-slice-aggregate-run-lent-5 c = let f = c .before .before .before .before .before .before .before .before .before .before .before .fresh in part-long (f .result .status) (c .before .before .before .before .before .before .before .before .before .before .before .before .before .before .before .before .before .before .before .before .args .n) (f .ensures .1 .1 .statuses) (few (c .before .before .before .before .before .before .before .before .before .before .before .before .before .before .before .before .before .before .before .before))
+slice-aggregate-run-lent-5 c = status-part (made (locals c))
 
 run-lent-requires : tie.Need-run-lent-requires
 run-lent-requires c κs =
-    let s = c .before .before .before .before .before .before .before .before .before .before .before .before .before .before .before .before .before .before .before .before .before .before .before .before in
-    let a = s .args in
-    let n = a .n in
-    let f = c .before .before .before .before .before .before .before .before .before .before .before .before .before .before .before .fresh in
-    let x = f .result in
-    let long = f .ensures .1 in
+    let f = made (locals (c .before .before .before .before)) in
+    let pre = s f .pre in
+    let a = s f .args in
+    let y = first-of (n f) (x f) in
     subst
     (λ (m : ℕ).
+    let t = table-of m (a .origin) (a .tails .now) (a .heads .now) (a .lengths .now) in
     ((length (a .heads .now) ≡ length (a .tails .now)) × (length (a .lengths .now) ≡ length (a .tails .now)))
-    × ((is-table (table-of m (a .origin) (a .tails .now) (a .heads .now) (a .lengths .now)) (a .wanted .now) ≡ true)
-    × (((length (take n (x .path)) ≡ m) × Sized m (take n (x .price)) (take n (x .bound)) (take n (x .kept)) (take n (x .status)))
-    × ((seen (take n (x .path)) (take n (x .price)) (take n (x .bound)) (take n (x .kept)) (take n (x .status)) (x .progress)
-    ≡ fresh (table-of m (a .origin) (a .tails .now) (a .heads .now) (a .lengths .now)))
-    × Fitting m (length (a .heads .now)) (a .distances .now) (a .prices .now) (a .tree .now) (a .marks .now)))))
-    (part-long (x .status) n (long .1 .statuses) (few s)) (
-      s .pre .0,
+    × ((is-table t (a .wanted .now) ≡ true)
+    × (((length (y .path) ≡ m) × Sized m (y .price) (y .bound) (y .kept) (y .status))
+    × ((held y ≡ fresh t) × Fitting m (length (a .heads .now)) (a .distances .now) (a .prices .now) (a .tree .now) (a .marks .now)))))
+    (status-part f) (
+      pre .0,
       (
-        s .pre .1 .0,
+        pre .1 .0,
         (
           (
-            sym (part-long (x .path) n (long .0) (few s)),
-            record {
-              prices = sym (part-long (x .price) n (long .1 .prices) (few s));
-              bounds = sym (part-long (x .bound) n (long .1 .bounds) (few s));
-              kepts = sym (part-long (x .kept) n (long .1 .kepts) (few s));
-              statuses = sym (part-long (x .status) n (long .1 .statuses) (few s));
-            },
+            sym (path-part f),
+            record { prices = sym (price-part f); bounds = sym (bound-part f); kepts = sym (kept-part f); statuses = sym (status-part f) },
           ),
           (
-            fresh-so n (a .origin) (a .tails .now) (a .heads .now) (a .lengths .now) (a .wanted .now) (s .pre .0 .0) (s .pre .0 .1) (s .pre .1 .0)
-                (x .path) (x .price) (x .bound) (x .kept) (x .status) (x .progress) (f .ensures .0),
-            s .pre .1 .1,
+            fresh-so (n f) (a .origin) (a .tails .now) (a .heads .now) (a .lengths .now) (a .wanted .now) (pre .0 .0) (pre .0 .1) (pre .1 .0)
+                (x f) (f .fresh .ensures .0),
+            pre .1 .1,
           ),
         ),
       ),
@@ -106,11 +146,10 @@ same-length-4 c = search needs
 
 returns : tie.Need-returns
 returns c =
-    let a = c .before .before .before .before .before .before .before .before .before .before .before .before .before .before .before .before .before .before .before .before .before .before .before .before .before .before .before .before .before .before .before .before .before .before .before .before .before .before .args in
-    let x = c .before .before .before .before .before .before .before .before .before .before .before .before .before .before .before .before .before .before .before .before .before .before .before .before .before .before .before .before .before .fresh in
-    c .before .before .before .before .before .before .before .before .before .before .before .before .before .run-lent .ensures
-    ∙ ap (λ m. routes-of (table-of m (a .origin) (a .tails .now) (a .heads .now) (a .lengths .now)) (a .wanted .now))
-    (sym (part-long (x .result .status) (a .n) (x .ensures .1 .1 .statuses) (few (c .before .before .before .before .before .before .before .before .before .before .before .before .before .before .before .before .before .before .before .before .before .before .before .before .before .before .before .before .before .before .before .before .before .before .before .before .before .before))))
+    let r = c .before .before .before .before .before .before .before .before .before .before .before .before .before in
+    let f = made (locals (lent r)) in
+    let a = s f .args in
+    r .run-lent .ensures ∙ ap (λ m. routes-of (table-of m (a .origin) (a .tails .now) (a .heads .now) (a .lengths .now)) (a .wanted .now)) (sym (status-part f))
 
 pub plan-table-spec : {M : Type 1} → statement M
 plan-table-spec =

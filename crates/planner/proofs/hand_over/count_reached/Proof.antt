@@ -6,8 +6,8 @@ use native.Mathlib.Omega.{arith}
 use lib.ListN.{length, getD}
 use lib.Dec.{ltb}
 use Rattle.auction.specs.HandOver.{entries, sum}
-use Rattle.planner.proofs.Entries.{sum-none, sum-more, all-entries}
-use Rattle.planner.proofs.Handing.{reached-entry, count-so, at-most-one}
+use Rattle.planner.proofs.hand_over.Entries.{sum-none, sum-more, all-entries}
+use Rattle.planner.proofs.hand_over.Handing.{reached-entry, count-so, at-most-one}
 use Rattle.planner.proofs.hand_over.count_reached.Statement.{statement}
 use Rattle.planner.proofs.hand_over.count_reached.Tie as tie
 

@@ -1,24 +1,24 @@
--- The entries from v on are made. Assumes nothing.
+-- The entries from a node on are made. Assumes nothing.
 use mathlib.Core.Path.{_∙_}
 use native.Mathlib.Omega.{arith}
 use lib.ListN.{length}
 use Rattle.table.specs.Table.{no-distance}
-use Rattle.planner.proofs.Entries.{Filling, fill-begins, fill-on, fill-ends}
-use Rattle.planner.proofs.Handing.{distance-entry, distances-so}
+use Rattle.planner.proofs.hand_over.Entries.{Filling, fill-begins, fill-on, fill-ends}
+use Rattle.planner.proofs.hand_over.Handing.{distance-entry, distances-so}
 use Rattle.planner.proofs.hand_over.fill_distances.Statement.{statement}
 use Rattle.planner.proofs.hand_over.fill_distances.Tie as tie
 
 abbrev Inv-loop : tie.InvT-loop
-Inv-loop bound status out₀ v₀ out v = Filling (length status) (distance-entry no-distance bound status) out v
+Inv-loop bound status out₀ node₀ out node = Filling (length status) (distance-entry no-distance bound status) out node
 
 abbrev μ-loop : tie.MeasureT-loop
-μ-loop bound status out₀ v₀ out v = v
+μ-loop bound status out₀ node₀ out node = node
 
 loop-holds : tie.Need-loop-holds Inv-loop μ-loop
 loop-holds c = fill-begins (c .before .before .before .args .out .now) (c .before .before .before .pre .1)
 
-sub-v : tie.Need-sub-v Inv-loop μ-loop
-sub-v c = omega arith
+sub-node : tie.Need-sub-node Inv-loop μ-loop
+sub-node c = omega arith
 
 distance-or-requires : tie.Need-distance-or-requires Inv-loop μ-loop
 distance-or-requires c κs =
@@ -35,7 +35,7 @@ loop-less : tie.Need-loop-less Inv-loop μ-loop
 loop-less c = omega arith
 
 loop-again : tie.Need-loop-again Inv-loop μ-loop
-loop-again c = fill-on (c .distance-or .result) (c .before .before .loop .inv) (c .before .loop-test .taken) (c .distance-or .ensures)
+loop-again c = fill-on (c .distance-or .result) (c .before .before .loop .inv) (omega (arith, c .before .loop-test .taken)) (c .distance-or .ensures)
 
 same-length : tie.Need-same-length Inv-loop μ-loop
 same-length c = omega (arith, c .before .loop .inv .long, c .before .before .before .before .before .pre .1)
@@ -53,7 +53,7 @@ fill-distances-spec =
     Inv-loop
     μ-loop
     loop-holds
-    sub-v
+    sub-node
     distance-or-requires
     mul-out
     slice-write-out

@@ -2,9 +2,9 @@
 use mathlib.Core.Path.{_∙_}
 use native.Mathlib.Omega.{arith}
 use lib.ListN.{length}
-use Rattle.planner.proofs.Entries.{Filling, fill-begins, fill-on, fill-ends}
+use Rattle.planner.proofs.hand_over.Entries.{Filling, fill-begins, fill-on, fill-ends}
 use Rattle.planner.specs.ReadOff.{mark-entry}
-use Rattle.planner.proofs.Handing.{marks-so}
+use Rattle.planner.proofs.hand_over.Handing.{marks-so}
 use Rattle.planner.proofs.hand_over.fill_marks.Statement.{statement}
 use Rattle.planner.proofs.hand_over.fill_marks.Tie as tie
 

@@ -3,8 +3,8 @@ use mathlib.Core.Path.{ap, _∙_}
 use Prim.Native.Nat.{_≤_, _-_}
 use native.Mathlib.Omega.{arith}
 use lib.ListN.{length, getD}
-use Rattle.planner.proofs.Entries.{Filling, fill-begins, fill-on, fill-ends}
-use Rattle.planner.proofs.Handing.{distance-entry, prices-so, by-status}
+use Rattle.planner.proofs.hand_over.Entries.{Filling, fill-begins, fill-on, fill-ends}
+use Rattle.planner.proofs.hand_over.Handing.{distance-entry, prices-so, by-status}
 use Rattle.planner.proofs.hand_over.fill_prices.Statement.{statement}
 use Rattle.planner.proofs.hand_over.fill_prices.Tie as tie
 

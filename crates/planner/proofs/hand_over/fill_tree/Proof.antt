@@ -2,8 +2,8 @@
 use mathlib.Core.Path.{_∙_}
 use native.Mathlib.Omega.{arith}
 use lib.ListN.{length}
-use Rattle.planner.proofs.Entries.{Filling, fill-begins, fill-on, fill-ends}
-use Rattle.planner.proofs.Handing.{arc-entry, tree-so}
+use Rattle.planner.proofs.hand_over.Entries.{Filling, fill-begins, fill-on, fill-ends}
+use Rattle.planner.proofs.hand_over.Handing.{arc-entry, tree-so}
 use Rattle.planner.proofs.hand_over.fill_tree.Statement.{statement}
 use Rattle.planner.proofs.hand_over.fill_tree.Tie as tie
 

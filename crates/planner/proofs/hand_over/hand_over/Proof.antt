@@ -8,7 +8,7 @@ use mathlib.Core.Bool.{cond}
 use lib.Dec.{eqb}
 use Rattle.table.specs.Refusals.{no-refusal, refusal}
 use Rattle.planner.specs.Plan.{answered}
-use Rattle.planner.proofs.Handing.{assembled}
+use Rattle.planner.proofs.hand_over.Handing.{assembled}
 use borrow.Author.Needs.{needs}
 use Rattle.planner.proofs.hand_over.hand_over.Statement.{statement}
 use Rattle.planner.proofs.hand_over.hand_over.Tie as tie

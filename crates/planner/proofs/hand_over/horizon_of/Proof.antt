@@ -5,8 +5,8 @@ use borrow.Author.Needs.{needs}
 use native.Mathlib.Omega.{arith}
 use lib.ListN.{length}
 use Rattle.auction.specs.HandOver.{entries, greatest}
-use Rattle.planner.proofs.Entries.{greatest-none, greatest-more, all-entries}
-use Rattle.planner.proofs.Handing.{distance-entry, horizon-so, below-horizon}
+use Rattle.planner.proofs.hand_over.Entries.{greatest-none, greatest-more, all-entries}
+use Rattle.planner.proofs.hand_over.Handing.{distance-entry, horizon-so, below-horizon}
 use Rattle.planner.proofs.hand_over.horizon_of.Statement.{statement}
 use Rattle.planner.proofs.hand_over.horizon_of.Tie as tie
 

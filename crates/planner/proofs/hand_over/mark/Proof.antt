@@ -1,6 +1,6 @@
 -- Each arm of the match is one case of the definition. Assumes nothing.
 use native.Mathlib.Omega.{arith}
-use Rattle.planner.proofs.Marks.{byte-low, is-3, is-1, is-2, is-0}
+use Rattle.planner.proofs.hand_over.Marks.{byte-low, is-3, is-1, is-2, is-0}
 use borrow.Author.Needs.{needs}
 use Rattle.planner.proofs.hand_over.mark.Statement.{statement}
 use Rattle.planner.proofs.hand_over.mark.Tie as tie

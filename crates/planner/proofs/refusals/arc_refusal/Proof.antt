@@ -1,7 +1,7 @@
 -- The ends are tested before the length. Assumes nothing.
 use Prim.Native.Nat.{_<_}
 use native.Mathlib.Omega.{arith}
-use Rattle.planner.proofs.Refusing.{bad-tail, bad-head, zero-length, good-arc}
+use Rattle.planner.proofs.refusals.Refusing.{bad-tail, bad-head, zero-length, good-arc}
 use borrow.Author.Needs.{needs}
 use Rattle.planner.proofs.refusals.arc_refusal.Statement.{statement}
 use Rattle.planner.proofs.refusals.arc_refusal.Tie as tie

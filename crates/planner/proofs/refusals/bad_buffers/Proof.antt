@@ -1,5 +1,5 @@
 -- The four lengths are tested one after the other. Assumes nothing.
-use Rattle.planner.proofs.Refusing.{distances-unfit, prices-unfit, tree-unfit, by-marks}
+use Rattle.planner.proofs.refusals.Refusing.{distances-unfit, prices-unfit, tree-unfit, by-marks}
 use Rattle.planner.proofs.refusals.bad_buffers.Statement.{statement}
 use Rattle.planner.proofs.refusals.bad_buffers.Tie as tie
 

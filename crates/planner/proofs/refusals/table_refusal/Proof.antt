@@ -7,7 +7,7 @@ use native.Mathlib.Omega.{arith}
 use lib.ListN.{length}
 use Rattle.table.specs.Refusals.{Room, count-bad, columns-bad, rooms-fit, refusal}
 use Rattle.auction.specs.Plan.{rooms}
-use Rattle.planner.proofs.Refusing.{columns-fit, at-1, at-2, at-3, at-4, at-5, at-6}
+use Rattle.planner.proofs.refusals.Refusing.{columns-fit, at-1, at-2, at-3, at-4, at-5, at-6}
 use borrow.Author.Needs.{needs}
 use Rattle.planner.proofs.refusals.table_refusal.Statement.{statement}
 use Rattle.planner.proofs.refusals.table_refusal.Tie as tie

@@ -6,7 +6,7 @@ use native.Mathlib.Omega.{arith}
 use lib.ListN.{length, drop}
 use Rattle.table.specs.Table.{most-wanted}
 use Rattle.table.specs.Refusals.{refusal, wanted-from, wanted-refusal}
-use Rattle.planner.proofs.Refusing.{too-many, few-enough, wanted-good, wanted-bad, wanted-done}
+use Rattle.planner.proofs.refusals.Refusing.{too-many, few-enough, wanted-good, wanted-bad, wanted-done}
 use Rattle.planner.proofs.refusals.wanted_refusal.Statement.{statement}
 use Rattle.planner.proofs.refusals.wanted_refusal.Tie as tie
 

@@ -1,13 +1,13 @@
 -- The bids from p on are left to compare; p rises along the node's list. Assumes nothing.
 use mathlib.Core.Path.{_≡_, refl, ap, _∙_}
-use Prim.Native.Nat.{_≤_, _-_}
+use Prim.Native.Nat.{ℕ, _≤_, _-_}
 use borrow.Author.Needs.{needs}
 use native.Mathlib.Omega.{arith}
 use lib.ListN.{getD}
 use Rattle.table.specs.Table.{no-arc}
 use Rattle.solver.specs.Steps.{Leads}
 use Rattle.solver.proofs.Arcs.{Readable, readable}
-use Rattle.solver.proofs.Bidding.{Comparing, begins, goes-on, ends}
+use Rattle.solver.proofs.bids.Bidding.{Comparing, begins, goes-on, ends}
 use Rattle.solver.proofs.bids.least_bid.Statement.{statement}
 use Rattle.solver.proofs.bids.least_bid.Tie as tie
 
@@ -17,21 +17,47 @@ Inv-loop v heads lengths first next price kept status least₀ p₀ least p = (C
 abbrev μ-loop : tie.MeasureT-loop
 μ-loop v heads lengths first next price kept status least₀ p₀ least p = no-arc - p
 
--- the arc at p can be read
-inside : (c : tie.In-loop Inv-loop μ-loop) →
-    let a = c .before .before .before .before .before .before .before .before .before .before .args in Readable (a .heads .now) (a .lengths .now) (a .first .now) (a .next .now) (c .before .loop .p)
-inside c = readable (λ t here. c .before .loop .inv .0 t here .on-list) (c .before .before .before .before .before .before .before .before .before .before .pre .0) (c .loop-test .taken)
+-- THE PLACES on the way, each named from the one after it: before the loop; at its head; where the arc at p can be read; where its head is read.
+module _ (c : tie.After-shared-slice-known8 Inv-loop μ-loop) where
+  abbrev start : tie.Start Inv-loop μ-loop
+  start = c .before .before .before .before .before .before .before .before
+
+module _ (c : tie.In-loop Inv-loop μ-loop) where
+  abbrev s : tie.Start Inv-loop μ-loop
+  s = start (c .before .before)
+
+  abbrev p : ℕ
+  p = c .before .loop .p
+
+  inside : Readable (s .args .heads .now) (s .args .lengths .now) (s .args .first .now) (s .args .next .now) p
+  inside = readable (λ t here. c .before .loop .inv .0 t here .on-list) (s .pre .0) (c .loop-test .taken)
+
+module _ (c : tie.After-wide2 Inv-loop μ-loop) where
+  abbrev within : tie.In-loop Inv-loop μ-loop
+  within = c .before .before .before
+
+  abbrev i : ℕ
+  i = c .before .before .wide .result
+
+  index : i ≡ p within
+  index = c .before .before .wide .ensures .0
+
+  child : getD (s within .args .heads .now) i 0 ≡ getD (s within .args .heads .now) (p within) 0
+  child = ap (λ m. getD (s within .args .heads .now) m 0) index
+
+  head : c .wide2 .result ≡ getD (s within .args .heads .now) (p within) 0
+  head = c .wide2 .ensures .0 ∙ child
 
 mul-p : tie.Need-mul-p Inv-loop μ-loop
 mul-p c = search needs
 
 shared-slice-read-p : tie.Need-shared-slice-read-p Inv-loop μ-loop
-shared-slice-read-p c = omega (arith, c .before .before .before .before .before .before .before .before .pre .1 .1 .0)
+shared-slice-read-p c = omega (arith, start c .pre .1 .1 .0)
 
 loop-holds : tie.Need-loop-holds Inv-loop μ-loop
 loop-holds c =
-    let a = c .before .before .before .before .before .before .before .before .args in (
-      begins (a .heads .now) (a .lengths .now) (a .first .now) (a .next .now) (a .v) (a .price .now) (a .kept .now) (a .status .now) _ _ refl (c .before .before .before .before .before .before .before .before .pre .1 .1 .0),
+    let a = start c .args in (
+      begins (a .heads .now) (a .lengths .now) (a .first .now) (a .next .now) (a .v) (a .price .now) (a .kept .now) (a .status .now) _ _ refl (start c .pre .1 .1 .0),
       (omega (arith, c .shared-slice-known8 .given (a .v)), λ any. absurd (any refl)),
     )
 
@@ -52,20 +78,20 @@ mul-lower-bid : tie.Need-mul-lower-bid Inv-loop μ-loop
 mul-lower-bid c = omega (arith, c .before .before .wide .ensures .1)
 
 shared-slice-read-lower-bid : tie.Need-shared-slice-read-lower-bid Inv-loop μ-loop
-shared-slice-read-lower-bid c =
-    let r = inside (c .before .before .before .before) in omega (arith, c .before .before .before .wide .ensures .0, r .inside, r .listed .length-count)
+shared-slice-read-lower-bid c = let r = inside (within (c .before)) in omega (arith, index (c .before), r .inside, r .listed .length-count)
 
 lower-bid-requires : tie.Need-lower-bid-requires Inv-loop μ-loop
 lower-bid-requires c κs =
-    let r = inside (c .before .before .before .before) in
-    let s = c .before .before .before .before .before .before .before .before .before .before .before .before .before .before in
-    let head : c .before .wide2 .result ≡ getD (s .args .heads .now) (c .before .before .before .before .before .loop .p) 0 =
-    c .before .wide2 .ensures .0 ∙ ap (λ i. getD (s .args .heads .now) i 0) (c .before .before .before .wide .ensures .0) in
-    let below = r .head-in in
+    let h = c .before in
+    let w = within h in
+    let r = inside w in
     let n = r .listed .linked .first-count in
-    let lengths = s .pre .1 .0 in (
-      (omega (arith, head, below, n, lengths .0), (omega (arith, head, below, n, lengths .1 .0), omega (arith, head, below, n, lengths .1 .1))),
-      (omega (arith, c .before .before .before .before .before .loop .inv .1 .0, c .before .before .before .before .loop-test .taken), s .pre .1 .1 .1 (c .before .wide2 .result)),
+    let lengths = s w .pre .1 .0 in (
+      (
+        omega (arith, head h, r .head-in, n, lengths .0),
+        (omega (arith, head h, r .head-in, n, lengths .1 .0), omega (arith, head h, r .head-in, n, lengths .1 .1)),
+      ),
+      (omega (arith, w .before .loop .inv .1 .0, w .loop-test .taken), s w .pre .1 .1 .1 (h .wide2 .result)),
     )
 
 mul-p-2 : tie.Need-mul-p-2 Inv-loop μ-loop
@@ -73,31 +99,31 @@ mul-p-2 c = omega (arith, c .before .before .before .before .wide .ensures .1)
 
 shared-slice-read-p-2 : tie.Need-shared-slice-read-p-2 Inv-loop μ-loop
 shared-slice-read-p-2 c =
-    let r = inside (c .before .before .before .before .before .before) in omega (arith, c .before .before .before .before .before .wide .ensures .0, r .inside, r .listed .linked .next-count)
+    let h = c .before .before .before in
+    let r = inside (within h) in omega (arith, index h, r .inside, r .listed .linked .next-count)
 
 loop-less : tie.Need-loop-less Inv-loop μ-loop
 loop-less c =
-    let s = c .before .before .before .before .before .before .before .before .before .before .before .before .before .before .before .before in
-    let n = s .args .next .now in
-    let same : getD n (c .before .before .before .before .before .wide .result) 0 ≡ getD n (c .before .before .before .before .before .before .before .loop .p) 0 = ap (λ i. getD n i 0) (c .before .before .before .before .before .wide .ensures .0) in
-    omega (arith, same, inside (c .before .before .before .before .before .before) .rises, c .shared-slice-known11 .given (c .before .before .before .before .before .wide .result))
+    let h = c .before .before .before in
+    let w = within h in
+    let n = s w .args .next .now in
+    let same : getD n (i h) 0 ≡ getD n (p w) 0 = ap (λ m. getD n m 0) (index h) in
+    omega (arith, same, inside w .rises, c .shared-slice-known11 .given (i h))
 
 loop-again : tie.Need-loop-again Inv-loop μ-loop
 loop-again c =
-    let s = c .before .before .before .before .before .before .before .before .before .before .before .before .before .before .before .before in
-    let a = s .args in (
+    let h = c .before .before .before in
+    let w = within h in
+    let a = s w .args in
+    let inv = w .before .loop .inv in (
       goes-on (a .heads .now) (a .lengths .now) (a .first .now) (a .next .now) (a .v) (a .price .now) (a .kept .now) (a .status .now) _ _ _ _ _
-          (c .before .before .before .before .before .wide .result) (c .before .before .before .wide2 .result) (c .before .before .before .before .before .before .before .loop .inv .0) (c .before .before .before .before .before .wide .ensures .0)
-          (c .before .before .before .wide2 .ensures .0 ∙ ap (λ i. getD (a .heads .now) i 0) (c .before .before .before .before .before .wide .ensures .0)) (c .before .before .before .before .before .before .loop-test .taken) (c .before .lower-bid .ensures .0),
-      (
-        omega (arith, c .shared-slice-known11 .given (c .before .before .before .before .before .wide .result)),
-        c .before .lower-bid .ensures .1 (a .heads .now) (c .before .before .before .before .before .before .before .loop .inv .1 .1) (ap (λ i. getD (a .heads .now) i 0) (c .before .before .before .before .before .wide .ensures .0)),
-      ),
+          (i h) (h .wide2 .result) (inv .0) (index h) (head h) (w .loop-test .taken) (c .before .lower-bid .ensures .0),
+      (omega (arith, c .shared-slice-known11 .given (i h)), c .before .lower-bid .ensures .1 (a .heads .now) (inv .1 .1) (child h)),
     )
 
 returns : tie.Need-returns Inv-loop μ-loop
 returns c =
-    let a = c .before .before .before .before .before .before .before .before .before .before .args in (
+    let a = start (c .before .before) .args in (
       ends (a .heads .now) (a .lengths .now) (a .first .now) (a .next .now) (a .v) (a .price .now) (a .kept .now) (a .status .now) _ _ _ (c .before .loop .inv .0)
           (c .loop-test .left),
       c .before .loop .inv .1 .1,

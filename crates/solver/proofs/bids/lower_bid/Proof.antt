@@ -11,7 +11,7 @@ use Rattle.table.specs.Table.{Table, tail-at, head-at, length-at}
 use Rattle.auction.specs.Auction.{State, to-child, price-at}
 use Rattle.solver.specs.declared.state.Progress.{Progress}
 use Rattle.solver.specs.Seen.{bid-of, seen}
-use Rattle.solver.proofs.Bidding.{no-child, a-child, bid-value, stays, not-lower, lower}
+use Rattle.solver.proofs.bids.Bidding.{no-child, a-child, bid-value, stays, not-lower, lower}
 use borrow.Author.Needs.{needs}
 use Rattle.solver.proofs.bids.lower_bid.Statement.{statement}
 use Rattle.solver.proofs.bids.lower_bid.Tie as tie

@@ -2,7 +2,7 @@
 use Prim.Native.Nat.{_-_}
 use borrow.Author.Needs.{needs}
 use native.Mathlib.Omega.{arith}
-use Rattle.solver.proofs.Linking.{Linking, begins, goes-on, ends}
+use Rattle.solver.proofs.lists.Linking.{Linking, begins, goes-on, ends}
 use Rattle.solver.proofs.lists.link_arcs.Statement.{statement}
 use Rattle.solver.proofs.lists.link_arcs.Tie as tie
 

@@ -1,5 +1,5 @@
 -- Equal bounds go by the position; an arc that is not kept has none that is lower. Assumes nothing.
-use Rattle.solver.proofs.Offering.{equal-before, equal-after, unequal}
+use Rattle.solver.proofs.reaching.Offering.{equal-before, equal-after, unequal}
 use Rattle.solver.proofs.reaching.improves.Statement.{statement}
 use Rattle.solver.proofs.reaching.improves.Tie as tie
 

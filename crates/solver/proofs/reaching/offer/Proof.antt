@@ -1,6 +1,6 @@
 -- Each way out is one case of `offer`. Assumes nothing.
 use mathlib.Core.Path.{sym, _∙_}
-use Rattle.solver.proofs.Offering.{offered-kept, offered-dropped, offered-reached}
+use Rattle.solver.proofs.reaching.Offering.{offered-kept, offered-dropped, offered-reached}
 use borrow.Author.Needs.{needs}
 use Rattle.solver.proofs.reaching.offer.Statement.{statement}
 use Rattle.solver.proofs.reaching.offer.Tie as tie

@@ -1,12 +1,11 @@
-use mathlib.Core.Path.{ap, _∙_}
 -- The arcs from p on are left to offer; p rises along the node's list. Assumes nothing.
-use mathlib.Core.Path.{_≡_}
-use Prim.Native.Nat.{_+_, _≤_, _-_}
+use mathlib.Core.Path.{_≡_, ap, _∙_}
+use Prim.Native.Nat.{ℕ, _+_, _≤_, _-_}
 use borrow.Author.Needs.{needs}
 use native.Mathlib.Omega.{arith}
 use lib.ListN.{getD}
 use Rattle.table.specs.Table.{no-arc}
-use Rattle.solver.proofs.Offering.{Offering, begins, goes-on, ends}
+use Rattle.solver.proofs.reaching.Offering.{Offering, begins, goes-on, ends}
 use Rattle.solver.proofs.Arcs.{Readable, readable}
 use Rattle.solver.proofs.reaching.offer_arcs.Statement.{statement}
 use Rattle.solver.proofs.reaching.offer_arcs.Tie as tie
@@ -17,19 +16,58 @@ Inv-loop v distance heads lengths first next bound₀ kept₀ status p₀ bound 
 abbrev μ-loop : tie.MeasureT-loop
 μ-loop v distance heads lengths first next bound₀ kept₀ status p₀ bound kept p = no-arc - p
 
--- the arc at p can be read
-inside : (c : tie.In-loop Inv-loop μ-loop) →
-    let a = c .before .before .before .before .before .before .before .before .before .before .args in Readable (a .heads .now) (a .lengths .now) (a .first .now) (a .next .now) (c .before .loop .p)
-inside c = readable (λ t here. c .before .loop .inv .0 .left-over t here .on-list) (c .before .before .before .before .before .before .before .before .before .before .pre .0) (c .loop-test .taken)
+-- THE PLACES on the way, each named from the one after it: before the loop; at its head; where the arc at p can be read; where its head and
+-- its length are read; where it has been offered.
+module _ (c : tie.After-shared-slice-known6 Inv-loop μ-loop) where
+  abbrev start : tie.Start Inv-loop μ-loop
+  start = c .before .before .before .before .before .before .before .before
+
+module _ (c : tie.In-loop Inv-loop μ-loop) where
+  abbrev s : tie.Start Inv-loop μ-loop
+  s = start (c .before .before)
+
+  abbrev p : ℕ
+  p = c .before .loop .p
+
+  inside : Readable (s .args .heads .now) (s .args .lengths .now) (s .args .first .now) (s .args .next .now) p
+  inside = readable (λ t here. c .before .loop .inv .0 .left-over t here .on-list) (s .pre .0) (c .loop-test .taken)
+
+module _ (c : tie.After-wide2 Inv-loop μ-loop) where
+  abbrev within : tie.In-loop Inv-loop μ-loop
+  within = c .before .before .before
+
+  abbrev i : ℕ
+  i = c .before .before .wide .result
+
+  index : i ≡ p within
+  index = c .before .before .wide .ensures .0
+
+  head : c .wide2 .result ≡ getD (s within .args .heads .now) (p within) 0
+  head = c .wide2 .ensures .0 ∙ ap (λ m. getD (s within .args .heads .now) m 0) index
+
+module _ (c : tie.After-long Inv-loop μ-loop) where
+  abbrev arc : tie.After-wide2 Inv-loop μ-loop
+  arc = c .before .before
+
+  length-so : c .long .result ≡ getD (s (within arc) .args .lengths .now) (p (within arc)) 0
+  length-so = c .long .ensures .0 ∙ ap (λ m. getD (s (within arc) .args .lengths .now) m 0) (index arc)
+
+module _ (c : tie.After-offer Inv-loop μ-loop) where
+  abbrev with-length : tie.After-long Inv-loop μ-loop
+  with-length = c .before .before .before
+
+module _ (c : tie.After-slice-known4 Inv-loop μ-loop) where
+  abbrev offered : tie.After-offer Inv-loop μ-loop
+  offered = c .before .before .before .before
 
 mul-p : tie.Need-mul-p Inv-loop μ-loop
 mul-p c = search needs
 
 shared-slice-read-p : tie.Need-shared-slice-read-p Inv-loop μ-loop
-shared-slice-read-p c = omega (arith, c .before .before .before .before .before .before .before .before .pre .1 .1 .0)
+shared-slice-read-p c = omega (arith, start c .pre .1 .1 .0)
 
 loop-holds : tie.Need-loop-holds Inv-loop μ-loop
-loop-holds c = (begins (c .before .before .before .before .before .before .before .before .pre .1 .1 .0) (c .before .before .before .before .before .before .before .before .pre .1 .1 .1 .1 .1), omega (arith, c .shared-slice-known6 .given (c .before .before .before .before .before .before .before .before .args .v)))
+loop-holds c = let b = start c in (begins (b .pre .1 .1 .0) (b .pre .1 .1 .1 .1 .1), omega (arith, c .shared-slice-known6 .given (b .args .v)))
 
 wide-requires : tie.Need-wide-requires Inv-loop μ-loop
 wide-requires c κs = search needs
@@ -48,56 +86,58 @@ mul-long : tie.Need-mul-long Inv-loop μ-loop
 mul-long c = omega (arith, c .before .before .wide .ensures .1)
 
 shared-slice-read-long : tie.Need-shared-slice-read-long Inv-loop μ-loop
-shared-slice-read-long c =
-    let r = inside (c .before .before .before .before) in omega (arith, c .before .before .before .wide .ensures .0, r .inside, r .listed .length-count)
+shared-slice-read-long c = let r = inside (within (c .before)) in omega (arith, index (c .before), r .inside, r .listed .length-count)
 
 long-requires : tie.Need-long-requires Inv-loop μ-loop
 long-requires c κs = search needs
 
 add-offered : tie.Need-add-offered Inv-loop μ-loop
-add-offered c = omega (arith, c .before .before .before .before .before .before .before .before .before .before .before .before .before .before .before .pre .1 .1 .1 .0, c .long .ensures .1)
+add-offered c = omega (arith, s (within (arc c)) .pre .1 .1 .1 .0, c .long .ensures .1)
 
 offer-requires : tie.Need-offer-requires Inv-loop μ-loop
 offer-requires c κs =
-    let r = inside (c .before .before .before .before .before .before .before) in
-    let s = c .before .before .before .before .before .before .before .before .before .before .before .before .before .before .before .before .before in
-    let head : c .before .before .before .before .wide2 .result ≡ getD (s .args .heads .now) (c .before .before .before .before .before .before .before .before .loop .p) 0 =
-    c .before .before .before .before .wide2 .ensures .0 ∙ ap (λ i. getD (s .args .heads .now) i 0) (c .before .before .before .before .before .before .wide .ensures .0) in
-    let below = r .head-in in
-    let lengths = s .pre .1 .0 in
+    let l = c .before .before in
+    let w = within (arc l) in
+    let r = inside w in
     let n = r .listed .linked .first-count in
-    let l = c .before .before .before .before .before .before .before .before .loop .inv in (
+    let b = s w in
+    let lengths = b .pre .1 .0 in
+    let inv = w .before .loop .inv in (
       (
-        omega (arith, head, below, n, lengths .0, l .0 .bounds-long),
-        (omega (arith, head, below, n, lengths .1 .0, l .0 .kepts-long), omega (arith, head, below, n, lengths .1 .1)),
+        omega (arith, head (arc l), r .head-in, n, lengths .0, inv .0 .bounds-long),
+        (omega (arith, head (arc l), r .head-in, n, lengths .1 .0, inv .0 .kepts-long), omega (arith, head (arc l), r .head-in, n, lengths .1 .1)),
       ),
-      (omega (arith, s .pre .1 .1 .1 .0, c .before .before .long .ensures .1), omega (arith, l .1, c .before .before .before .before .before .before .before .loop-test .taken)),
+      (omega (arith, b .pre .1 .1 .1 .0, l .long .ensures .1), omega (arith, inv .1, w .loop-test .taken)),
     )
 
 mul-p-2 : tie.Need-mul-p-2 Inv-loop μ-loop
-mul-p-2 c = omega (arith, c .before .before .before .before .before .before .before .before .before .before .before .wide .ensures .1)
+mul-p-2 c = let h = arc (with-length (offered c)) in omega (arith, h .before .before .wide .ensures .1)
 
 shared-slice-read-p-2 : tie.Need-shared-slice-read-p-2 Inv-loop μ-loop
 shared-slice-read-p-2 c =
-    let r = inside (c .before .before .before .before .before .before .before .before .before .before .before .before .before) in omega (arith, c .before .before .before .before .before .before .before .before .before .before .before .before .wide .ensures .0, r .inside, r .listed .linked .next-count)
+    let h = arc (with-length (offered (c .before))) in
+    let r = inside (within h) in omega (arith, index h, r .inside, r .listed .linked .next-count)
 
 loop-less : tie.Need-loop-less Inv-loop μ-loop
 loop-less c =
-    let s = c .before .before .before .before .before .before .before .before .before .before .before .before .before .before .before .before .before .before .before .before .before .before .before in
-    let n = s .args .next .now in
-    let same : getD n (c .before .before .before .before .before .before .before .before .before .before .before .before .wide .result) 0 ≡ getD n (c .before .before .before .before .before .before .before .before .before .before .before .before .before .before .loop .p) 0 = ap (λ i. getD n i 0) (c .before .before .before .before .before .before .before .before .before .before .before .before .wide .ensures .0) in
-    let up = inside (c .before .before .before .before .before .before .before .before .before .before .before .before .before) .rises in
-    omega (arith, same, up, c .shared-slice-known9 .given (c .before .before .before .before .before .before .before .before .before .before .before .before .wide .result))
+    let h = arc (with-length (offered (c .before))) in
+    let w = within h in
+    let n = s w .args .next .now in
+    let same : getD n (i h) 0 ≡ getD n (p w) 0 = ap (λ m. getD n m 0) (index h) in
+    omega (arith, same, inside w .rises, c .shared-slice-known9 .given (i h))
 
 loop-again : tie.Need-loop-again Inv-loop μ-loop
 loop-again c =
-    let s = c .before .before .before .before .before .before .before .before .before .before .before .before .before .before .before .before .before .before .before .before .before .before .before in (
-      goes-on (c .before .before .before .before .before .before .before .before .before .before .before .before .before .before .loop .inv .0) (c .before .before .before .before .before .before .before .before .before .before .before .before .wide .result) (c .before .before .before .before .before .before .before .before .before .before .wide2 .result) _ (c .before .before .before .before .before .before .before .before .before .before .before .before .wide .ensures .0)
-          (c .before .before .before .before .before .before .before .before .before .before .wide2 .ensures .0 ∙ ap (λ i. getD (s .args .heads .now) i 0) (c .before .before .before .before .before .before .before .before .before .before .before .before .wide .ensures .0))
-          (ap (λ a. s .args .distance + a) (c .before .before .before .before .before .before .before .before .long .ensures .0 ∙ ap (λ i. getD (s .args .lengths .now) i 0) (c .before .before .before .before .before .before .before .before .before .before .before .before .wide .ensures .0)))
-          (c .before .before .before .before .before .before .before .before .before .before .before .before .before .loop-test .taken) (omega (arith, s .pre .1 .1 .1 .0)) (omega (arith, s .pre .1 .1 .0, s .pre .1 .0 .0))
-          (s .pre .1 .1 .1 .1 .0) (c .before .before .before .before .before .offer .kept .1 .1 .1 .0) (c .before .before .before .before .before .offer .kept .1 .1 .1 .1 .0) (c .before .before .before .before .before .offer .ensures),
-      omega (arith, c .shared-slice-known9 .given (c .before .before .before .before .before .before .before .before .before .before .before .before .wide .result)),
+    let o = offered (c .before) in
+    let l = with-length o in
+    let h = arc l in
+    let w = within h in
+    let b = s w in
+    let kept = o .offer .kept .1 .1 .1 in (
+      goes-on (w .before .loop .inv .0) (i h) (h .wide2 .result) _ (index h) (head h) (ap (λ m. b .args .distance + m) (length-so l))
+          (w .loop-test .taken) (omega (arith, b .pre .1 .1 .1 .0)) (omega (arith, b .pre .1 .1 .0, b .pre .1 .0 .0)) (b .pre .1 .1 .1 .1 .0)
+          (kept .0) (kept .1 .0) (o .offer .ensures),
+      omega (arith, c .shared-slice-known9 .given (i h)),
     )
 
 same-length : tie.Need-same-length Inv-loop μ-loop

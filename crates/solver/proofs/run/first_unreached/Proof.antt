@@ -3,7 +3,7 @@ use Prim.Native.Nat.{_-_}
 use borrow.Author.Needs.{needs}
 use native.Mathlib.Omega.{arith}
 use lib.ListN.{length}
-use Rattle.solver.proofs.Wanted.{Seeking, seeks, seeks-on, found-here, found-none}
+use Rattle.solver.proofs.run.Wanted.{Seeking, seeks, seeks-on, found-here, found-none}
 use Rattle.solver.proofs.run.first_unreached.Statement.{statement}
 use Rattle.solver.proofs.run.first_unreached.Tie as tie
 

@@ -1,15 +1,18 @@
 -- The arrays hold a state of the run; each iteration is counted, and the auction's bound on them is the measure. Assumes nothing.
-use mathlib.Core.Path.{_∙_}
+use mathlib.Core.Path.{_≡_, _∙_}
+use mathlib.Core.List.{List}
 use mathlib.Core.Logic.{⊎-elim}
-use Prim.Native.Nat.{suc, _+_, _-_}
+use Prim.Native.Nat.{ℕ, suc, _+_, _-_, _<_}
 use borrow.Author.Needs.{needs}
 use borrow.Author.Tests.{eqb-true, eqb-false}
 use native.Mathlib.Omega.{arith}
 use lib.ListN.{length}
-use Rattle.auction.specs.Auction.{most-iterations}
+use Rattle.table.specs.Table.{Table}
+use Rattle.auction.specs.Auction.{best, most-iterations}
 use Rattle.solver.specs.Seen.{seen}
-use Rattle.solver.specs.Lists.{Some-table}
-use Rattle.solver.proofs.Iterating.{Iterating, Ready, starts, now-ready, wanted-below, may-step, continues, counted, ends, stops, few-in-all}
+use Rattle.solver.specs.Lists.{star, Outgoing, Some-table}
+use Rattle.solver.specs.Steps.{bid-in}
+use Rattle.solver.proofs.run.Iterating.{Iterating, Ready, starts, now-ready, wanted-below, may-step, continues, counted, ends, stops, few-in-all}
 use Rattle.solver.proofs.run.iterate.Statement.{statement}
 use Rattle.solver.proofs.run.iterate.Tie as tie
 
@@ -21,29 +24,89 @@ abbrev μ-loop : tie.MeasureT-loop
 μ-loop origin wanted heads lengths first next path₀ price₀ bound₀ kept₀ status₀ g₀ w₀ path price bound kept status g w =
     suc (most-iterations (length first)) - (g .contractions + g .extensions + g .deletions)
 
--- what the state of the run gives at the loop's head
-at-head : (c : tie.In-loop Inv-loop μ-loop) →
-    let l = c .before .loop in Ready (length (c .before .before .before .before .before .before .before .before .before .before .before .before .before .before .args .first .now)) (l .path) (l .price) (l .g) (seen (l .path) (l .price) (l .bound) (l .kept) (l .status) (l .g))
-at-head c = now-ready (c .before .loop .inv) (c .before .before .before .before .before .before .before .before .before .before .before .before .before .before .pre .0 .0) (c .before .before .before .before .before .before .before .before .before .before .before .before .before .before .pre .0 .1)
+-- THE PLACES on the way, each named from the one after it: before the loop; at its head, where the arrays hold a state of the run; where the
+-- terminal node is read; where its least bid is known; where an iteration is to follow; after it.
+module _ (c : tie.After-slice-known5 Inv-loop μ-loop) where
+  abbrev lent : tie.After-shared-slice-known5 Inv-loop μ-loop
+  lent = c .before .before .before .before .before
+
+module _ (c : tie.After-shared-slice-known5 Inv-loop μ-loop) where
+  abbrev start : tie.Start Inv-loop μ-loop
+  start = c .before .before .before .before .before
+
+module _ (c : tie.At-loop Inv-loop μ-loop) where
+  abbrev s : tie.Start Inv-loop μ-loop
+  s = start (lent (c .before .before .before))
+
+  path-same : length (c .loop .path) ≡ length (s .args .path .now)
+  path-same = omega (arith, c .loop .inv .path-long, s .pre .1 .0)
+
+  price-same : length (c .loop .price) ≡ length (s .args .price .now)
+  price-same = omega (arith, c .loop .inv .sized .prices, s .pre .1 .1 .prices)
+
+  bound-same : length (c .loop .bound) ≡ length (s .args .bound .now)
+  bound-same = omega (arith, c .loop .inv .sized .bounds, s .pre .1 .1 .bounds)
+
+  kept-same : length (c .loop .kept) ≡ length (s .args .kept .now)
+  kept-same = omega (arith, c .loop .inv .sized .kepts, s .pre .1 .1 .kepts)
+
+  status-same : length (c .loop .status) ≡ length (s .args .status .now)
+  status-same = omega (arith, c .loop .inv .sized .statuses, s .pre .1 .1 .statuses)
+
+  ready : let l = c .loop in Ready (length (s .args .first .now)) (l .path) (l .price) (l .g) (seen (l .path) (l .price) (l .bound) (l .kept) (l .status) (l .g))
+  ready = now-ready (c .loop .inv) (s .pre .0 .0) (s .pre .0 .1)
+
+module _ (c : tie.After-wide Inv-loop μ-loop) where
+  abbrev within : tie.In-loop Inv-loop μ-loop
+  within = c .before .before
+
+  abbrev head : tie.At-loop Inv-loop μ-loop
+  head = within .before
+
+  terminal-in : c .wide .result < length (s head .args .first .now)
+  terminal-in = omega (arith, c .wide .ensures .0, ready head .terminal-in)
+
+module _ (c : tie.After-least-bid Inv-loop μ-loop) where
+  abbrev node : tie.After-wide Inv-loop μ-loop
+  node = c .before .before .before .before
+
+  bids : let a = s (head node) .args in let l = head node .loop in (t : Table) → Outgoing t (star (a .heads .now) (a .lengths .now) (a .first .now) (a .next .now)) →
+      bid-in (c .least-bid .result) ≡ best t (node .wide .result) (seen (l .path) (l .price) (l .bound) (l .kept) (l .status) (l .g))
+  bids t here = let l = head node .loop in c .least-bid .ensures .0 t (l .path) (l .bound) (l .g) here
+
+module _ (c : tie.Joined1 Inv-loop μ-loop) where
+  abbrev bid : tie.After-least-bid Inv-loop μ-loop
+  bid = c .before .before
+
+module _ (c : tie.After-step Inv-loop μ-loop) where
+  abbrev chosen : tie.Joined1 Inv-loop μ-loop
+  chosen = c .before .before .before .before .before .before
+
+  abbrev statuses : List ℕ
+  statuses = c .step .last .1 .1 .1 .1 .1 .1 .1 .1 .1 .1 .1 .1 .0
+
+module _ (c : tie.After-first-unreached-arg2 Inv-loop μ-loop) where
+  abbrev stepped : tie.After-step Inv-loop μ-loop
+  stepped = c .before .before .before .before .before .before .before .before .before .before .before
 
 first-unreached-requires : tie.Need-first-unreached-requires Inv-loop μ-loop
 first-unreached-requires c κs =
-    let s = c .before .before .before .before .before .before .before .before .before .before .before in (search needs, wanted-below (s .pre .0 .0) (s .pre .0 .1) (s .args .status .now) (s .pre .1 .1 .statuses))
+    let b = start (lent (c .before)) in (search needs, wanted-below (b .pre .0 .0) (b .pre .0 .1) (b .args .status .now) (b .pre .1 .1 .statuses))
 
 loop-holds : tie.Need-loop-holds Inv-loop μ-loop
 loop-holds c =
-    let s = c .before .before .before .before .before .before .before .before .before .before .before .before in
-    let a = s .args in
-    starts (a .path .now) (a .price .now) (a .bound .now) (a .kept .now) (a .status .now) (a .begun) (s .pre .1 .0) (s .pre .1 .1) (c .first-unreached .ensures)
+    let b = start (lent (c .before .before)) in
+    let a = b .args in
+    starts (a .path .now) (a .price .now) (a .bound .now) (a .kept .now) (a .status .now) (a .begun) (b .pre .1 .0) (b .pre .1 .1) (c .first-unreached .ensures)
 
 sub-wide : tie.Need-sub-wide Inv-loop μ-loop
-sub-wide c = at-head c .depth-some
+sub-wide c = ready (c .before) .depth-some
 
 mul-wide : tie.Need-mul-wide Inv-loop μ-loop
-mul-wide c = omega (arith, at-head c .depth-short, at-head c .few-nodes)
+mul-wide c = let r = ready (c .before) in omega (arith, r .depth-short, r .few-nodes)
 
 slice-read-wide : tie.Need-slice-read-wide Inv-loop μ-loop
-slice-read-wide c = let r = at-head (c .before) in omega (arith, r .depth-some, r .depth-short, c .before .before .loop .inv .path-long)
+slice-read-wide c = let h = c .before .before in omega (arith, ready h .depth-some, ready h .depth-short, h .loop .inv .path-long)
 
 wide-requires : tie.Need-wide-requires Inv-loop μ-loop
 wide-requires c κs = search needs
@@ -51,51 +114,55 @@ wide-requires c κs = search needs
 least-bid-requires : tie.Need-least-bid-requires Inv-loop μ-loop
 unfolding Some-table
 least-bid-requires c κs =
-    let s = c .before .before .before .before .before .before .before .before .before .before .before .before .before .before .before .before .before .before .before in
-    let l = c .before .before .before .before .before .before .loop in
-    let r = at-head (c .before .before .before .before .before) in (
-      (s .pre .0 .0, s .pre .0 .1 .listed),
-      ((l .inv .sized .prices, (l .inv .sized .kepts, l .inv .sized .statuses)), (omega (arith, c .before .before .before .wide .ensures .0, r .terminal-in), r .prices-low)),
+    let n = c .before .before .before in
+    let h = head n in
+    let sized = h .loop .inv .sized in (
+      (s h .pre .0 .0, s h .pre .0 .1 .listed),
+      ((sized .prices, (sized .kepts, sized .statuses)), (terminal-in n, ready h .prices-low)),
     )
 
 same-length : tie.Need-same-length Inv-loop μ-loop
-same-length c = omega (arith, c .before .before .before .before .before .before .before .before .before .before .loop .inv .path-long, c .before .before .before .before .before .before .before .before .before .before .before .before .before .before .before .before .before .before .before .before .before .before .before .pre .1 .0)
+same-length c = path-same (head (node (c .before .before .before)))
 
 same-length-2 : tie.Need-same-length-2 Inv-loop μ-loop
-same-length-2 c = omega (arith, c .before .before .before .before .before .before .before .before .before .before .loop .inv .sized .prices, c .before .before .before .before .before .before .before .before .before .before .before .before .before .before .before .before .before .before .before .before .before .before .before .pre .1 .1 .prices)
+same-length-2 c = price-same (head (node (c .before .before .before)))
 
 same-length-3 : tie.Need-same-length-3 Inv-loop μ-loop
-same-length-3 c = omega (arith, c .before .before .before .before .before .before .before .before .before .before .loop .inv .sized .bounds, c .before .before .before .before .before .before .before .before .before .before .before .before .before .before .before .before .before .before .before .before .before .before .before .pre .1 .1 .bounds)
+same-length-3 c = bound-same (head (node (c .before .before .before)))
 
 same-length-4 : tie.Need-same-length-4 Inv-loop μ-loop
-same-length-4 c = omega (arith, c .before .before .before .before .before .before .before .before .before .before .loop .inv .sized .kepts, c .before .before .before .before .before .before .before .before .before .before .before .before .before .before .before .before .before .before .before .before .before .before .before .pre .1 .1 .kepts)
+same-length-4 c = kept-same (head (node (c .before .before .before)))
 
 same-length-5 : tie.Need-same-length-5 Inv-loop μ-loop
-same-length-5 c = omega (arith, c .before .before .before .before .before .before .before .before .before .before .loop .inv .sized .statuses, c .before .before .before .before .before .before .before .before .before .before .before .before .before .before .before .before .before .before .before .before .before .before .before .pre .1 .1 .statuses)
+same-length-5 c = status-same (head (node (c .before .before .before)))
 
 returns : tie.Need-returns Inv-loop μ-loop
 returns c =
-    let l = c .before .before .before .before .before .before .before .before .before .before .loop in
-    stops (l .inv) (c .before .before .before .before .before .before .before .wide .result) (c .before .before .before .least-bid .result .value) (c .before .before .before .least-bid .result .arc) (c .before .before .before .before .before .before .before .before .before .loop-test .taken) (c .before .before .before .before .before .before .before .wide .ensures .0)
-    (c .before .if1 .taken) (eqb-true _ _ (c .if2 .taken)) (λ t here. c .before .before .before .least-bid .ensures .0 t (l .path) (l .bound) (l .g) here)
+    let b = c .before .before .before in
+    let n = node b in
+    stops (head n .loop .inv) (n .wide .result) (b .least-bid .result .value) (b .least-bid .result .arc) (within n .loop-test .taken) (n .wide .ensures .0)
+    (c .before .if1 .taken) (eqb-true _ _ (c .if2 .taken)) (bids b)
 
 step-requires : tie.Need-step-requires Inv-loop μ-loop
 unfolding Some-table
 step-requires c κs =
-    let s = c .before .before .before .before .before .before .before .before .before .before .before .before .before .before .before .before .before .before .before .before .before .before .before .before .before .before .before in
-    let l = c .before .before .before .before .before .before .before .before .before .before .before .before .before .before .loop in
-    let r = at-head (c .before .before .before .before .before .before .before .before .before .before .before .before .before) in
-    let bids = c .before .before .before .before .before .before .before .least-bid .ensures .0 (s .pre .0 .0) (l .path) (l .bound) (l .g) (s .pre .0 .1 .listed) in (
-      (s .pre .0 .0, s .pre .0 .1 .listed),
+    let j = c .before .before .before .before .before in
+    let b = bid j in
+    let n = node b in
+    let h = head n in
+    let r = ready h in
+    let sized = h .loop .inv .sized in
+    let t = s h .pre .0 .0 in
+    let begun = s h .pre .0 .1 in (
+      (t, begun .listed),
       (
-        (l .inv .sized .prices, (l .inv .sized .bounds, (l .inv .sized .kepts, l .inv .sized .statuses))),
+        (sized .prices, (sized .bounds, (sized .kepts, sized .statuses))),
         (
-          (omega (arith, c .before .before .before .before .before .before .before .before .before .before .before .wide .ensures .0, r .terminal-in), (r .depth-some, omega (arith, r .few, few-in-all _ (r .few-nodes)))),
+          (terminal-in n, (r .depth-some, omega (arith, r .few, few-in-all _ (r .few-nodes)))),
           (
-            may-step (l .inv) (s .pre .0 .0) (s .pre .0 .1) (c .before .before .before .before .before .before .before .before .before .before .before .wide .result) (c .before .before .before .before .before .before .before .least-bid .result .value) (c .before .before .before .before .before .before .before .least-bid .result .arc)
-                (c .before .before .before .before .before .before .before .before .before .before .before .before .before .loop-test .taken) (c .before .before .before .before .before .before .before .before .before .before .before .wide .ensures .0) bids
-                (⊎-elim (λ w ea eo. eqb-false _ _ (w .1 .left) eo) (λ w ea eo. w .left ea) (c .before .before .before .before .before .if1 .came)),
-            c .before .before .before .before .before .before .before .least-bid .ensures .1,
+            may-step (h .loop .inv) t begun (n .wide .result) (b .least-bid .result .value) (b .least-bid .result .arc) (within n .loop-test .taken) (n .wide .ensures .0)
+                (bids b t (begun .listed)) (⊎-elim (λ w ea eo. eqb-false _ _ (w .1 .left) eo) (λ w ea eo. w .left ea) (j .if1 .came)),
+            b .least-bid .ensures .1,
           ),
         ),
       ),
@@ -103,49 +170,52 @@ step-requires c κs =
 
 first-unreached-requires-2 : tie.Need-first-unreached-requires-2 Inv-loop μ-loop
 first-unreached-requires-2 c κs =
-    let s = c .before .before .before .before .before .before .before .before .before .before .before .before .before .before .before .before .before .before .before .before .before .before .before .before .before .before .before .before .before .before .before .before .before .before .before .before .before .before .before in
-    let l = c .before .before .before .before .before .before .before .before .before .before .before .before .before .before .before .before .before .before .before .before .before .before .before .before .before .before .loop in
-    (l .inv .low, wanted-below (s .pre .0 .0) (s .pre .0 .1) (c .before .before .before .before .before .before .before .before .before .before .before .step .last .1 .1 .1 .1 .1 .1 .1 .1 .1 .1 .1 .1 .0) (c .before .before .before .before .before .before .before .before .before .before .before .step .kept .1 .1 .1 .1 .1 .1 .1 .1 .1 .1 .1 .1 .0 ∙ l .inv .sized .statuses))
+    let h = head (node (bid (chosen (stepped c)))) in
+    let kept = stepped c .step .kept .1 .1 .1 .1 .1 .1 .1 .1 .1 .1 .1 .1 .0 in
+    (h .loop .inv .low, wanted-below (s h .pre .0 .0) (s h .pre .0 .1) (statuses (stepped c)) (kept ∙ h .loop .inv .sized .statuses))
 
 loop-less : tie.Need-loop-less Inv-loop μ-loop
 loop-less c =
-    let s = c .before .before .before .before .before .before .before .before .before .before .before .before .before .before .before .before .before .before .before .before .before .before .before .before .before .before .before .before .before .before .before .before .before .before .before .before .before .before .before .before in
-    let l = c .before .before .before .before .before .before .before .before .before .before .before .before .before .before .before .before .before .before .before .before .before .before .before .before .before .before .before .loop in
-    let bids = c .before .before .before .before .before .before .before .before .before .before .before .before .before .before .before .before .before .before .before .before .least-bid in
+    let p = stepped (c .before) in
+    let b = bid (chosen p) in
+    let n = node b in
+    let h = head n in
     let more =
-    counted (l .inv) _ _ _ _ _ (c .before .before .before .before .before .before .before .before .before .before .before .before .step .result) (c .before .before .before .before .before .before .before .before .before .before .before .before .before .before .before .before .before .before .before .before .before .before .before .before .wide .result) (bids .result .value) (bids .result .arc) (c .before .before .before .before .before .before .before .before .before .before .before .before .before .before .before .before .before .before .before .before .before .before .before .before .before .before .loop-test .taken)
-    (c .before .before .before .before .before .before .before .before .before .before .before .before .before .before .before .before .before .before .before .before .before .before .before .before .wide .ensures .0) (λ t here. bids .ensures .0 t (l .path) (l .bound) (l .g) here) (c .before .before .before .before .before .before .before .before .before .before .before .before .step .ensures) (s .pre .0 .0) (s .pre .0 .1) in
-    omega (arith, more, at-head (c .before .before .before .before .before .before .before .before .before .before .before .before .before .before .before .before .before .before .before .before .before .before .before .before .before .before) .few)
+    counted (h .loop .inv) _ _ _ _ _ (p .step .result) (n .wide .result) (b .least-bid .result .value) (b .least-bid .result .arc) (within n .loop-test .taken)
+    (n .wide .ensures .0) (bids b) (p .step .ensures) (s h .pre .0 .0) (s h .pre .0 .1) in
+    omega (arith, more, ready h .few)
 
 loop-again : tie.Need-loop-again Inv-loop μ-loop
 loop-again c =
-    let l = c .before .before .before .before .before .before .before .before .before .before .before .before .before .before .before .before .before .before .before .before .before .before .before .before .before .before .before .loop in
-    let bids = c .before .before .before .before .before .before .before .before .before .before .before .before .before .before .before .before .before .before .before .before .least-bid in
-    let kept = c .before .before .before .before .before .before .before .before .before .before .before .before .step .kept in
-    continues (l .inv) (c .before .before .before .before .before .before .before .before .before .before .before .before .before .before .before .before .before .before .before .before .before .before .before .before .wide .result) (bids .result .value) (bids .result .arc) (c .before .before .before .before .before .before .before .before .before .before .before .before .before .before .before .before .before .before .before .before .before .before .before .before .before .before .loop-test .taken) (c .before .before .before .before .before .before .before .before .before .before .before .before .before .before .before .before .before .before .before .before .before .before .before .before .wide .ensures .0)
-    (λ t here. bids .ensures .0 t (l .path) (l .bound) (l .g) here) (c .before .before .before .before .before .before .before .before .before .before .before .before .step .ensures) (kept .1 .1 .1 .1 .1 .1 .1 .1 .0)
+    let p = stepped (c .before) in
+    let b = bid (chosen p) in
+    let n = node b in
+    let i = head n .loop .inv in
+    let kept = p .step .kept .1 .1 .1 .1 .1 .1 .1 .1 in
+    continues i (n .wide .result) (b .least-bid .result .value) (b .least-bid .result .arc) (within n .loop-test .taken) (n .wide .ensures .0) (bids b) (p .step .ensures)
+    (kept .0)
     (record {
-      prices = kept .1 .1 .1 .1 .1 .1 .1 .1 .1 .0 ∙ l .inv .sized .prices;
-      bounds = kept .1 .1 .1 .1 .1 .1 .1 .1 .1 .1 .0 ∙ l .inv .sized .bounds;
-      kepts = kept .1 .1 .1 .1 .1 .1 .1 .1 .1 .1 .1 .0 ∙ l .inv .sized .kepts;
-      statuses = kept .1 .1 .1 .1 .1 .1 .1 .1 .1 .1 .1 .1 .0 ∙ l .inv .sized .statuses;
+      prices = kept .1 .0 ∙ i .sized .prices;
+      bounds = kept .1 .1 .0 ∙ i .sized .bounds;
+      kepts = kept .1 .1 .1 .0 ∙ i .sized .kepts;
+      statuses = kept .1 .1 .1 .1 .0 ∙ i .sized .statuses;
     })
     (c .first-unreached2 .ensures)
 
 same-length-6 : tie.Need-same-length-6 Inv-loop μ-loop
-same-length-6 c = omega (arith, c .before .loop .inv .path-long, c .before .before .before .before .before .before .before .before .before .before .before .before .before .before .pre .1 .0)
+same-length-6 c = path-same (c .before)
 
 same-length-7 : tie.Need-same-length-7 Inv-loop μ-loop
-same-length-7 c = omega (arith, c .before .loop .inv .sized .prices, c .before .before .before .before .before .before .before .before .before .before .before .before .before .before .pre .1 .1 .prices)
+same-length-7 c = price-same (c .before)
 
 same-length-8 : tie.Need-same-length-8 Inv-loop μ-loop
-same-length-8 c = omega (arith, c .before .loop .inv .sized .bounds, c .before .before .before .before .before .before .before .before .before .before .before .before .before .before .pre .1 .1 .bounds)
+same-length-8 c = bound-same (c .before)
 
 same-length-9 : tie.Need-same-length-9 Inv-loop μ-loop
-same-length-9 c = omega (arith, c .before .loop .inv .sized .kepts, c .before .before .before .before .before .before .before .before .before .before .before .before .before .before .pre .1 .1 .kepts)
+same-length-9 c = kept-same (c .before)
 
 same-length-10 : tie.Need-same-length-10 Inv-loop μ-loop
-same-length-10 c = omega (arith, c .before .loop .inv .sized .statuses, c .before .before .before .before .before .before .before .before .before .before .before .before .before .before .pre .1 .1 .statuses)
+same-length-10 c = status-same (c .before)
 
 returns-2 : tie.Need-returns-2 Inv-loop μ-loop
 returns-2 c = ends (c .before .loop .inv) (c .loop-test .left)

@@ -3,119 +3,157 @@ use mathlib.Core.Path.{_≡_, sym, subst, _∙_}
 use mathlib.Core.List.{List, _++_}
 use Prim.Native.Nat.{ℕ, _≤_, _<_}
 use lib.ListN.{length, getD, take, drop, replicate}
-use Rattle.table.specs.Table.{table-of, no-arc}
+use Rattle.table.specs.Table.{Table, table-of, no-arc, most-nodes, most-arcs}
 use Rattle.auction.specs.Auction.{fresh}
-use Rattle.solver.specs.Seen.{seen, Sized}
+use Rattle.solver.specs.Seen.{arrays, held, Sized}
 use Rattle.solver.specs.Lists.{star}
 use Rattle.solver.specs.Steps.{Begun}
 use Rattle.solver.proofs.Columns.{filled-long, filled-with, nodes-so}
-use Rattle.solver.proofs.Beginning.{tails-held, few-tails, few-nodes, tails-below, begun-fresh, prefix-fits, prefix-long, lent-again}
+use Rattle.solver.proofs.run.Beginning.{tails-held, few-tails, few-nodes, tails-below, begun-fresh, prefix-fits, prefix-long, lent-again}
 use borrow.Author.Needs.{needs}
 use Rattle.solver.proofs.run.run.Statement.{statement}
 use Rattle.solver.proofs.run.run.Tie as tie
 
--- the table has few nodes and few arcs
-nodes-fit : (s : tie.Start) → length (s .args .status .now) ≤ 1024
-nodes-fit s =
-    let a = s .args in
-    few-nodes (length (a .status .now)) (a .origin) (a .tails .now) (a .heads .now) (a .lengths .now) (a .wanted .now) (s .pre .0 .0) (s .pre .0 .1) (s .pre .1 .0)
+-- an array before it is filled
+abbrev no-arcs : (room : ℕ) → List ℕ
+no-arcs room = replicate room no-arc
 
-arcs-fit : (s : tie.Start) → length (s .args .tails .now) ≤ 6000
-arcs-fit s =
-    let a = s .args in
-    few-tails (length (a .status .now)) (a .origin) (a .tails .now) (a .heads .now) (a .lengths .now) (a .wanted .now) (s .pre .0 .0) (s .pre .0 .1) (s .pre .1 .0)
+-- where the run is called: the table, which has few nodes and few arcs
+module _ (c : tie.Start) where
+  abbrev n : ℕ
+  n = length (c .args .status .now)
+
+  abbrev m : ℕ
+  m = length (c .args .tails .now)
+
+  abbrev t : Table
+  t = table-of n (c .args .origin) (c .args .tails .now) (c .args .heads .now) (c .args .lengths .now)
+
+  nodes-fit : n ≤ most-nodes
+  nodes-fit =
+      let a = c .args in
+      few-nodes n (a .origin) (a .tails .now) (a .heads .now) (a .lengths .now) (a .wanted .now) (c .pre .0 .0) (c .pre .0 .1) (c .pre .1 .0)
+
+  arcs-fit : m ≤ most-arcs
+  arcs-fit =
+      let a = c .args in
+      few-tails n (a .origin) (a .tails .now) (a .heads .now) (a .lengths .now) (a .wanted .now) (c .pre .0 .0) (c .pre .0 .1) (c .pre .1 .0)
+
+  first-fits : length (take n (no-arcs most-nodes)) ≡ n
+  first-fits = filled-long most-nodes n no-arc nodes-fit
+
+  next-fits : length (take m (no-arcs most-arcs)) ≡ m
+  next-fits = filled-long most-arcs m no-arc arcs-fit
+
+module _ (c : tie.After-wide) where
+  abbrev start : tie.Start
+  start = c .before .before .before .before .before .before .before .before .before .before
+
+-- where the arcs have been linked: the lists as they come back, and as they are lent again
+module _ (c : tie.After-link-arcs) where
+  abbrev origin : tie.After-wide
+  origin = c .before .before .before
+
+  abbrev s : tie.Start
+  s = start origin
+
+  abbrev first : List ℕ
+  first = c .link-arcs .last .1 .0
+
+  abbrev next : List ℕ
+  next = c .link-arcs .last .1 .1 .0
+
+  first-long : length first ≡ n s
+  first-long = c .link-arcs .kept .1 .0 ∙ first-fits s
+
+  next-long : length next ≡ m s
+  next-long = c .link-arcs .kept .1 .1 .0 ∙ next-fits s
+
+  abbrev first-lent : List ℕ
+  first-lent = take (n s) (first ++ drop (n s) (no-arcs most-nodes))
+
+  abbrev next-lent : List ℕ
+  next-lent = take (m s) (next ++ drop (m s) (no-arcs most-arcs))
+
+  first-lent-long : n s ≡ length first-lent
+  first-lent-long = prefix-long first (drop (n s) (no-arcs most-nodes)) (n s) first-long
+
+  begun : let a = s .args in
+      Begun fresh (t s) (a .wanted .now) (origin .wide .result) (star (a .heads .now) (a .lengths .now) first-lent next-lent)
+      (held (arrays (a .path .now) (a .price .now) (a .bound .now) (a .kept .now) (a .status .now) (a .begun)))
+  begun =
+      let a = s .args in
+      let eh = s .pre .0 .0 in
+      let el = s .pre .0 .1 in
+      let linked =
+      c .link-arcs .ensures (t s) (nodes-so (n s) (a .origin) (a .tails .now) (a .heads .now) (a .lengths .now) eh el ∙ sym (first-fits s))
+      (tails-held (n s) (a .origin) (a .tails .now) (a .heads .now) (a .lengths .now) (a .wanted .now) eh el (s .pre .1 .0)) in
+      begun-fresh (n s) (a .origin) (a .tails .now) (a .heads .now) (a .lengths .now) (a .wanted .now) eh el (s .pre .1 .0) (origin .wide .result)
+      (origin .wide .ensures .0)
+      (lent-again (t s) first (drop (n s) (no-arcs most-nodes)) next (drop (m s) (no-arcs most-arcs)) (n s) (m s) first-long next-long linked)
+      (s .pre .1 .1 .1)
+
+module _ (c : tie.After-next2) where
+  abbrev linked : tie.After-link-arcs
+  linked = c .before .before
+
+module _ (c : tie.After-run-listed) where
+  abbrev lists-lent : tie.After-next2
+  lists-lent = c .before .before .before .before .before .before .before .before
 
 wide-requires : tie.Need-wide-requires
 wide-requires c κs = search needs
 
 array-borrow-prefix-first : tie.Need-array-borrow-prefix-first
-array-borrow-prefix-first c = nodes-fit (c .before .before .before .before .before .before .before .before .before .before)
+array-borrow-prefix-first c = nodes-fit (start c)
 
 slice-aggregate-link-arcs : tie.Need-slice-aggregate-link-arcs
-slice-aggregate-link-arcs c = sym (filled-long 1024 (length (c .before .before .before .before .before .before .before .before .before .before .before .args .status .now)) no-arc (nodes-fit (c .before .before .before .before .before .before .before .before .before .before .before)))
+slice-aggregate-link-arcs c = sym (first-fits (start (c .before)))
 
 array-borrow-prefix-next : tie.Need-array-borrow-prefix-next
-array-borrow-prefix-next c = arcs-fit (c .before .before .before .before .before .before .before .before .before .before .before)
+array-borrow-prefix-next c = arcs-fit (start (c .before))
 
 slice-aggregate-link-arcs-2 : tie.Need-slice-aggregate-link-arcs-2
-slice-aggregate-link-arcs-2 c = sym (filled-long 6000 (length (c .before .before .before .before .before .before .before .before .before .before .before .before .args .tails .now)) no-arc (arcs-fit (c .before .before .before .before .before .before .before .before .before .before .before .before)))
+slice-aggregate-link-arcs-2 c = sym (next-fits (start (c .before .before)))
 
 link-arcs-requires : tie.Need-link-arcs-requires
 link-arcs-requires c κs =
-    let s = c .before .before .before .before .before .before .before .before .before .before .before .before in
-    let a = s .args in
-    let n = length (a .status .now) in
-    let long = filled-long 1024 n no-arc (nodes-fit s) in (
-      (filled-long 6000 (length (a .tails .now)) no-arc (arcs-fit s), arcs-fit s),
+    let b = start (c .before .before) in
+    let a = b .args in (
+      (next-fits b, arcs-fit b),
       (
         λ i h.
-            subst (λ (m : ℕ). getD (a .tails .now) i 0 < m) (sym long)
-            (tails-below n (a .origin) (a .tails .now) (a .heads .now) (a .lengths .now) (a .wanted .now) (s .pre .0 .0) (s .pre .0 .1) (s .pre .1 .0) i h),
-        λ v h. filled-with 1024 n no-arc v (nodes-fit s) (subst (λ (m : ℕ). v < m) long h),
+            subst (λ (k : ℕ). getD (a .tails .now) i 0 < k) (sym (first-fits b))
+            (tails-below (n b) (a .origin) (a .tails .now) (a .heads .now) (a .lengths .now) (a .wanted .now) (b .pre .0 .0) (b .pre .0 .1) (b .pre .1 .0) i h),
+        λ v h. filled-with most-nodes (n b) no-arc v (nodes-fit b) (subst (λ (k : ℕ). v < k) (first-fits b) h),
       ),
     )
 
--- the lists, as they come back
-first-long : (c : tie.After-link-arcs) → length (c .link-arcs .last .1 .0) ≡ length (c .before .before .before .before .before .before .before .before .before .before .before .before .before .args .status .now)
-first-long c = c .link-arcs .kept .1 .0 ∙ filled-long 1024 (length (c .before .before .before .before .before .before .before .before .before .before .before .before .before .args .status .now)) no-arc (nodes-fit (c .before .before .before .before .before .before .before .before .before .before .before .before .before))
-
-next-long : (c : tie.After-link-arcs) → length (c .link-arcs .last .1 .1 .0) ≡ length (c .before .before .before .before .before .before .before .before .before .before .before .before .before .args .tails .now)
-next-long c = c .link-arcs .kept .1 .1 .0 ∙ filled-long 6000 (length (c .before .before .before .before .before .before .before .before .before .before .before .before .before .args .tails .now)) no-arc (arcs-fit (c .before .before .before .before .before .before .before .before .before .before .before .before .before))
-
-abbrev first-lent : (c : tie.After-link-arcs) → List ℕ
-first-lent c = let n = length (c .before .before .before .before .before .before .before .before .before .before .before .before .before .args .status .now) in take n (c .link-arcs .last .1 .0 ++ drop n (replicate 1024 no-arc))
-
-abbrev next-lent : (c : tie.After-link-arcs) → List ℕ
-next-lent c = let m = length (c .before .before .before .before .before .before .before .before .before .before .before .before .before .args .tails .now) in take m (c .link-arcs .last .1 .1 .0 ++ drop m (replicate 6000 no-arc))
-
-begun : (c : tie.After-link-arcs) →
-    let a = c .before .before .before .before .before .before .before .before .before .before .before .before .before .args in
-    Begun fresh (table-of (length (a .status .now)) (a .origin) (a .tails .now) (a .heads .now) (a .lengths .now)) (a .wanted .now) (c .before .before .before .wide .result)
-    (star (a .heads .now) (a .lengths .now) (first-lent c) (next-lent c)) (seen (a .path .now) (a .price .now) (a .bound .now) (a .kept .now) (a .status .now) (a .begun))
-begun c =
-    let s = c .before .before .before .before .before .before .before .before .before .before .before .before .before in
-    let a = s .args in
-    let n = length (a .status .now) in
-    let m = length (a .tails .now) in
-    let t = table-of n (a .origin) (a .tails .now) (a .heads .now) (a .lengths .now) in
-    let linked =
-    c .link-arcs .ensures t
-    (nodes-so n (a .origin) (a .tails .now) (a .heads .now) (a .lengths .now) (s .pre .0 .0) (s .pre .0 .1) ∙ sym (filled-long 1024 n no-arc (nodes-fit s)))
-    (tails-held n (a .origin) (a .tails .now) (a .heads .now) (a .lengths .now) (a .wanted .now) (s .pre .0 .0) (s .pre .0 .1) (s .pre .1 .0)) in
-    begun-fresh n (a .origin) (a .tails .now) (a .heads .now) (a .lengths .now) (a .wanted .now) (s .pre .0 .0) (s .pre .0 .1) (s .pre .1 .0)
-    (c .before .before .before .wide .result) (c .before .before .before .wide .ensures .0)
-    (lent-again t (c .link-arcs .last .1 .0) (drop n (replicate 1024 no-arc)) (c .link-arcs .last .1 .1 .0) (drop m (replicate 6000 no-arc)) n m
-    (first-long c) (next-long c) linked)
-    (s .pre .1 .1 .1)
-
 array-share-prefix-first : tie.Need-array-share-prefix-first
 array-share-prefix-first c =
-    let n = length (c .before .before .before .before .before .before .before .before .before .before .before .before .before .before .before .args .status .now) in
-    prefix-fits (c .before .before .link-arcs .last .1 .0) (drop n (replicate 1024 no-arc)) n (first-long (c .before .before))
+    let l = linked c in
+    let k = n (s l) in prefix-fits (first l) (drop k (no-arcs most-nodes)) k (first-long l)
 
 slice-aggregate-run-listed : tie.Need-slice-aggregate-run-listed
-slice-aggregate-run-listed c =
-    let n = length (c .before .before .before .before .before .before .before .before .before .before .before .before .before .before .before .before .args .status .now) in
-    prefix-long (c .before .before .before .link-arcs .last .1 .0) (drop n (replicate 1024 no-arc)) n (first-long (c .before .before .before))
+slice-aggregate-run-listed c = first-lent-long (linked (c .before))
 
 array-share-prefix-next : tie.Need-array-share-prefix-next
 array-share-prefix-next c =
-    let m = length (c .before .before .before .before .before .before .before .before .before .before .before .before .before .before .before .before .args .tails .now) in
-    prefix-fits (c .before .before .before .link-arcs .last .1 .1 .0) (drop m (replicate 6000 no-arc)) m (next-long (c .before .before .before))
+    let l = linked (c .before) in
+    let k = m (s l) in prefix-fits (next l) (drop k (no-arcs most-arcs)) k (next-long l)
 
 slice-aggregate-run-listed-2 : tie.Need-slice-aggregate-run-listed-2
 slice-aggregate-run-listed-2 c =
-    let m = length (c .before .before .before .before .before .before .before .before .before .before .before .before .before .before .before .before .before .args .tails .now) in
-    prefix-long (c .before .before .before .before .link-arcs .last .1 .1 .0) (drop m (replicate 6000 no-arc)) m (next-long (c .before .before .before .before))
+    let l = linked (c .before .before) in
+    let k = m (s l) in prefix-long (next l) (drop k (no-arcs most-arcs)) k (next-long l)
 
 run-listed-requires : tie.Need-run-listed-requires
 run-listed-requires c κs =
-    let s = c .before .before .before .before .before .before .before .before .before .before .before .before .before .before .before .before .before .before .before .before .before .before in
-    let a = s .args in
-    let n = length (a .status .now) in (
-      (_, begun (c .before .before .before .before .before .before .before .before .before)),
-      subst (λ (m : ℕ). (length (a .path .now) ≡ m) × Sized m (a .price .now) (a .bound .now) (a .kept .now) (a .status .now))
-          (prefix-long (c .before .before .before .before .before .before .before .before .before .link-arcs .last .1 .0) (drop n (replicate 1024 no-arc)) n (first-long (c .before .before .before .before .before .before .before .before .before))) (s .pre .1 .1 .0),
+    let l = linked (c .before .before .before .before .before .before .before) in
+    let a = s l .args in (
+      (_, begun l),
+      subst (λ (k : ℕ). (length (a .path .now) ≡ k) × Sized k (a .price .now) (a .bound .now) (a .kept .now) (a .status .now)) (first-lent-long l)
+          (s l .pre .1 .1 .0),
     )
 
 same-length : tie.Need-same-length
@@ -134,7 +172,8 @@ same-length-5 : tie.Need-same-length-5
 same-length-5 c = search needs
 
 returns : tie.Need-returns
-returns c = c .before .before .before .before .before .before .before .before .before .before .run-listed .ensures _ (begun (c .before .before .before .before .before .before .before .before .before .before .before .before .before .before .before .before .before .before .before .before))
+returns c =
+    let r = c .before .before .before .before .before .before .before .before .before .before in r .run-listed .ensures _ (begun (linked (lists-lent r)))
 
 pub run-spec : {M : Type 1} → statement M
 run-spec =

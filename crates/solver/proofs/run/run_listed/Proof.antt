@@ -1,19 +1,52 @@
 -- Reaching the origin gives the start. Assumes nothing.
 use mathlib.Core.Path.{_∙_}
-use Rattle.solver.specs.Lists.{Some-table}
-use Rattle.solver.proofs.Beginning.{origin-below, origin-bound, started}
+use Rattle.table.specs.Table.{Table}
+use Rattle.auction.specs.Auction.{fresh}
+use Rattle.solver.specs.Seen.{arrays, held}
+use Rattle.solver.specs.Lists.{star, Some-table}
+use Rattle.solver.specs.Steps.{Begun}
+use Rattle.solver.proofs.run.Beginning.{origin-below, origin-bound, started}
 use borrow.Author.Needs.{needs}
 use Rattle.solver.proofs.run.run_listed.Statement.{statement}
 use Rattle.solver.proofs.run.run_listed.Tie as tie
 
+-- THE PLACES on the way, each named from the one after it: before the origin is reached; where it has been.
+module _ (c : tie.After-slice-known5) where
+  abbrev lent : tie.After-shared-slice-known5
+  lent = c .before .before .before .before .before
+
+module _ (c : tie.After-shared-slice-known5) where
+  abbrev start : tie.Start
+  start = c .before .before .before .before .before
+
+module _ (c : tie.After-reach) where
+  abbrev s : tie.Start
+  s = start (lent (c .before .before .before .before))
+
+  -- the arrays hold the start
+  begun : (t : Table) → let a = s .args in
+      Begun fresh t (a .wanted .now) (a .origin) (star (a .heads .now) (a .lengths .now) (a .first .now) (a .next .now))
+      (held (arrays (a .path .now) (a .price .now) (a .bound .now) (a .kept .now) (a .status .now) (a .begun))) →
+      Begun Rattle.auction.specs.Auction.start t (a .wanted .now) (a .origin) (star (a .heads .now) (a .lengths .now) (a .first .now) (a .next .now))
+      (held (arrays (a .path .now) (a .price .now) (c .reach .last .1 .1 .1 .1 .1 .0) (c .reach .last .1 .1 .1 .1 .1 .1 .0) (c .reach .last .1 .1 .1 .1 .1 .1 .1 .0) (a .begun)))
+  begun t bg = started bg (c .reach .ensures (s .args .path .now) (s .args .price .now) (s .args .begun) t (bg .listed))
+
+module _ (c : tie.After-status) where
+  abbrev reached : tie.After-reach
+  reached = c .before .before .before .before .before
+
+module _ (c : tie.After-iterate) where
+  abbrev lent-again : tie.After-status
+  lent-again = c .before .before .before .before .before .before .before
+
 reach-requires : tie.Need-reach-requires
 unfolding Some-table
 reach-requires c κs =
-    let s = c .before .before .before .before .before .before .before .before .before .before .before .before .before in
-    let a = s .args in
-    let z = s .pre .1 .1 in
-    let bg = s .pre .0 .1 in (
-      (s .pre .0 .0, bg .listed),
+    let b = start (lent (c .before .before .before)) in
+    let a = b .args in
+    let z = b .pre .1 .1 in
+    let bg = b .pre .0 .1 in (
+      (b .pre .0 .0, bg .listed),
       (
         (z .bounds, (z .kepts, z .statuses)),
         (
@@ -25,18 +58,18 @@ reach-requires c κs =
 
 iterate-requires : tie.Need-iterate-requires
 iterate-requires c κs =
-    let s = c .before .before .before .before .before .before .before .before .before .before .before .before .before .before .before .before .before .before .before .before .before .before .before .before .before in
-    let a = s .args in
-    let z = s .pre .1 .1 in
-    let r = c .before .before .before .before .before .before .before .before .before .before .before .reach in (
-      (s .pre .0 .0, started (s .pre .0 .1) (r .ensures (a .path .now) (a .price .now) (a .begun) (s .pre .0 .0) (s .pre .0 .1 .listed))),
+    let r = reached (c .before .before .before .before .before .before) in
+    let pre = s r .pre in
+    let z = pre .1 .1 in
+    let kept = r .reach .kept .1 .1 .1 .1 .1 in (
+      (pre .0 .0, begun r (pre .0 .0) (pre .0 .1)),
       (
-        s .pre .1 .0,
+        pre .1 .0,
         record {
           prices = z .prices;
-          bounds = r .kept .1 .1 .1 .1 .1 .0 ∙ z .bounds;
-          kepts = r .kept .1 .1 .1 .1 .1 .1 .0 ∙ z .kepts;
-          statuses = r .kept .1 .1 .1 .1 .1 .1 .1 .0 ∙ z .statuses;
+          bounds = kept .0 ∙ z .bounds;
+          kepts = kept .1 .0 ∙ z .kepts;
+          statuses = kept .1 .1 .0 ∙ z .statuses;
         },
       ),
     )
@@ -59,8 +92,8 @@ same-length-5 c = search needs
 returns : tie.Need-returns
 returns c =
     λ t bg.
-    let a = c .before .before .before .before .before .before .before .before .before .before .before .before .before .before .before .before .before .before .before .before .before .before .before .before .before .before .before .before .before .before .before .before .before .before .before .before .args in
-    c .before .before .before .before .before .before .before .before .before .before .iterate .ensures t (started bg (c .before .before .before .before .before .before .before .before .before .before .before .before .before .before .before .before .before .before .before .before .before .before .reach .ensures (a .path .now) (a .price .now) (a .begun) t (bg .listed)))
+    let i = c .before .before .before .before .before .before .before .before .before .before in
+    i .iterate .ensures t (begun (reached (lent-again i)) t bg)
 
 pub run-listed-spec : {M : Type 1} → statement M
 run-listed-spec =

@@ -1,5 +1,5 @@
 -- The path loses its first node, unless that is the origin. Assumes nothing.
-use Rattle.solver.proofs.Stepping.{contracted-origin, contracted-other}
+use Rattle.solver.proofs.steps.Stepping.{contracted-origin, contracted-other}
 use borrow.Author.Needs.{needs}
 use Rattle.solver.proofs.steps.contract.Statement.{statement}
 use Rattle.solver.proofs.steps.contract.Tie as tie

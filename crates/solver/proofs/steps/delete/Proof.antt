@@ -1,5 +1,5 @@
 -- The path loses its first node. Assumes nothing.
-use Rattle.solver.proofs.Stepping.{deleted-so}
+use Rattle.solver.proofs.steps.Stepping.{deleted-so}
 use borrow.Author.Needs.{needs}
 use Rattle.solver.proofs.steps.delete.Statement.{statement}
 use Rattle.solver.proofs.steps.delete.Tie as tie

@@ -4,10 +4,26 @@ use native.Mathlib.Omega.{arith}
 use Prim.Native.Nat.{ℕ, _≤_}
 use lib.ListN.{getD}
 use Rattle.solver.specs.Seen.{greatest-sum}
-use Rattle.solver.proofs.Stepping.{extended-known, extended-reached}
+use Rattle.solver.proofs.steps.Stepping.{extended-known, extended-reached}
 use borrow.Author.Needs.{needs}
 use Rattle.solver.proofs.steps.extend.Statement.{statement}
 use Rattle.solver.proofs.steps.extend.Tie as tie
+
+-- THE PLACES on the way, each named from the one after it: before the path grows; where the child is known as an index; where it is reached.
+module _ (c : tie.After-slice-known4) where
+  abbrev start : tie.Start
+  start = c .before .before .before .before .before .before .before .before
+
+module _ (c : tie.After-wide) where
+  abbrev s : tie.Start
+  s = start (c .before .before)
+
+module _ (c : tie.After-reach) where
+  abbrev unreached : tie.Else1
+  unreached = c .before .before .before .before
+
+  abbrev index : tie.After-wide
+  index = unreached .before .before
 
 mul-path : tie.Need-mul-path
 mul-path c = search needs
@@ -33,17 +49,18 @@ same-length c = search needs
 returns : tie.Need-returns
 returns c =
     λ price t here.
-    let s = c .before .before .before .before .before .before .before .before .before .before .before .before in
-    let a = s .args in
-    extended-known (a .path .now) price (a .bound .now) (a .kept .now) (a .status .now) (a .g) t (a .child) (c .before .before .wide .result) (c .before .before .wide .ensures .0)
-    (s .pre .1 .1 .1 .1 .0) (c .if1 .taken)
+    let w = c .before .before in
+    let a = s w .args in
+    extended-known (a .path .now) price (a .bound .now) (a .kept .now) (a .status .now) (a .g) t (a .child) (w .wide .result) (w .wide .ensures .0)
+    (s w .pre .1 .1 .1 .1 .0) (c .if1 .taken)
 
 reach-requires : tie.Need-reach-requires
 reach-requires c κs =
-    let s = c .before .before .before .before .before .before .before .before .before .before .before .before .before .before .before in
-    let same = c .before .before .before .before .before .wide .ensures .0 in (
-      s .pre .0,
-      (s .pre .1 .0, (omega (arith, s .pre .1 .1 .0, same), subst (λ (v : ℕ). getD (s .args .bound .now) v 0 ≤ greatest-sum) (sym same) (s .pre .1 .1 .1 .0))),
+    let w = c .before .before .before .before .before in
+    let same = w .wide .ensures .0 in
+    let pre = s w .pre in (
+      pre .0,
+      (pre .1 .0, (omega (arith, pre .1 .1 .0, same), subst (λ (v : ℕ). getD (s w .args .bound .now) v 0 ≤ greatest-sum) (sym same) (pre .1 .1 .1 .0))),
     )
 
 same-length-2 : tie.Need-same-length-2
@@ -61,10 +78,11 @@ same-length-5 c = search needs
 returns-2 : tie.Need-returns-2
 returns-2 c =
     λ price t here.
-    let s = c .before .before .before .before .before .before .before .before .before .before .before .before .before .before .before .before .before .before .before .before .before .before in
-    let a = s .args in
-    extended-reached (a .path .now) price (a .bound .now) (a .kept .now) (a .status .now) (a .g) t (a .child) (c .before .before .before .before .before .before .before .before .before .before .before .before .wide .result) _ (c .before .before .before .before .before .before .before .before .before .before .before .before .wide .ensures .0)
-    (s .pre .1 .1 .1 .1 .0) (c .before .before .before .before .before .before .before .before .before .before .if1 .left) (c .before .before .before .before .before .before .reach .ensures _ price _ t here)
+    let r = c .before .before .before .before .before .before in
+    let w = index r in
+    let a = s w .args in
+    extended-reached (a .path .now) price (a .bound .now) (a .kept .now) (a .status .now) (a .g) t (a .child) (w .wide .result) _ (w .wide .ensures .0)
+    (s w .pre .1 .1 .1 .1 .0) (unreached r .if1 .left) (r .reach .ensures _ price _ t here)
 
 pub extend-spec : {M : Type 1} → statement M
 extend-spec =

@@ -4,15 +4,46 @@ use mathlib.Core.Option.{some}
 use native.Mathlib.Omega.{arith}
 use Prim.Native.Nat.{ℕ, _≤_, _<_}
 use lib.ListN.{getD}
-use Rattle.auction.specs.Auction.{extension}
-use Rattle.table.specs.Table.{arc-count, head-at}
-use Rattle.solver.specs.Lists.{Some-table}
-use Rattle.solver.specs.Seen.{seen, greatest-sum}
+use Rattle.table.specs.Table.{Table, arc-count, head-at}
+use Rattle.auction.specs.Auction.{State, price-at, extension}
+use Rattle.solver.specs.Lists.{star, Outgoing, Some-table}
+use Rattle.solver.specs.Seen.{arrays, held, greatest-sum}
 use Rattle.solver.proofs.Arrays.{seen-price}
-use Rattle.solver.proofs.Stepping.{is-deletion, is-contraction, is-extension}
+use Rattle.solver.proofs.steps.Stepping.{is-deletion, is-contraction, is-extension}
 use borrow.Author.Needs.{needs}
 use Rattle.solver.proofs.steps.step.Statement.{statement}
 use Rattle.solver.proofs.steps.step.Tie as tie
+
+-- THE PLACES on the way, each named from the one after it: before the tests; where the node has a child; where its price is not below the bid.
+module _ (c : tie.After-slice-known5) where
+  abbrev start : tie.Start
+  start = c .before .before .before .before .before .before .before .before .before
+
+module _ (s : tie.Start) where
+  -- the state that the arrays hold
+  abbrev x : State
+  x = held (arrays (s .args .path .now) (s .args .price .now) (s .args .bound .now) (s .args .kept .now) (s .args .status .now) (s .args .g))
+
+  price-read : price-at x (s .args .v) ≡ getD (s .args .price .now) (s .args .v) 0
+  price-read = seen-price (s .args .path .now) (s .args .price .now) (s .args .bound .now) (s .args .kept .now) (s .args .status .now) (s .args .g) (s .args .v)
+
+module _ (c : tie.Else2) where
+  abbrev a-child : tie.Else1
+  a-child = c .before .before
+
+  abbrev s : tie.Start
+  s = start (a-child .before)
+
+  child-is : s .args .least .child ≡ getD (s .args .heads .now) (s .args .least .arc) 0
+  child-is = s .pre .1 .1 .1 .1 (a-child .if1 .left)
+
+  listed : (t : Table) → Outgoing t (star (s .args .heads .now) (s .args .lengths .now) (s .args .first .now) (s .args .next .now)) →
+      s .args .least .arc < arc-count t
+  listed t here = omega (arith, s .pre .1 .1 .1 .0 .listed (a-child .if1 .left), here .head-count)
+
+module _ (c : tie.After-extend) where
+  abbrev to-extend : tie.Else2
+  to-extend = c .before .before .before .before .before
 
 delete-requires : tie.Need-delete-requires
 delete-requires c κs = search needs
@@ -23,9 +54,10 @@ same-length c = search needs
 returns : tie.Need-returns
 returns c =
     λ t here eo.
-    let s = c .before .before .before .before .before .before .before .before .before .before .before .before .before .before in
-    let a = s .args in
-    is-deletion t (a .v) (a .least .value) (a .least .arc) _ (c .before .before .before .before .if1 .taken) (λ z. s .pre .1 .1 .1 .0 .no-stop (c .before .before .before .before .if1 .taken) (z ∙ eo))
+    let none = c .before .before .before .before in
+    let b = start (none .before) in
+    let a = b .args in
+    is-deletion t (a .v) (a .least .value) (a .least .arc) (x b) (none .if1 .taken) (λ z. b .pre .1 .1 .1 .0 .no-stop (none .if1 .taken) (z ∙ eo))
     ∙ ap some (sym (c .before .before .delete .ensures (a .path .now) (a .price .now) (a .bound .now) (a .kept .now)))
 
 mul-if2 : tie.Need-mul-if2
@@ -43,31 +75,31 @@ same-length-2 c = search needs
 returns-2 : tie.Need-returns-2
 returns-2 c =
     λ t here eo.
-    let s = c .before .before .before .before .before .before .before .before .before .before .before .before .before .before .before .before in
-    let a = s .args in
-    is-contraction t (a .v) (a .least .value) (a .least .arc) _ (c .before .before .before .before .before .before .if1 .left)
-    (subst (λ (m : ℕ). m < a .least .value) (sym (seen-price (a .path .now) (a .price .now) (a .bound .now) (a .kept .now) (a .status .now) (a .g) (a .v))) (c .before .before .before .before .if2 .taken))
+    let below = c .before .before .before .before in
+    let any = below .before .before in
+    let b = start (any .before) in
+    let a = b .args in
+    is-contraction t (a .v) (a .least .value) (a .least .arc) (x b) (any .if1 .left) (subst (λ (m : ℕ). m < a .least .value) (sym (price-read b)) (below .if2 .taken))
     ∙ ap some (sym (c .before .before .contract .ensures t (a .path .now) (a .bound .now) (a .kept .now) (a .status .now) eo))
 
 extend-requires : tie.Need-extend-requires
 unfolding Some-table
 extend-requires c κs =
-    let s = c .before .before .before .before .before .before .before .before .before .before .before .before .before .before .before .before in
-    let a = s .args in
-    let any = c .before .before .before .before .before .before .if1 .left in
-    let can = s .pre .1 .1 .1 .0 in
-    let same : a .least .child ≡ getD (a .heads .now) (a .least .arc) 0 = s .pre .1 .1 .1 .1 any in
-    let here = s .pre .0 .1 in
-    let inside : a .least .arc < arc-count (s .pre .0 .0) = omega (arith, can .listed any, here .head-count) in
-    let lengths = s .pre .1 .0 in (
-      s .pre .0,
+    let e = c .before .before .before .before in
+    let b = s e in
+    let any = a-child e .if1 .left in
+    let can = b .pre .1 .1 .1 .0 in
+    let here = b .pre .0 .1 in
+    let inside = listed e (b .pre .0 .0) here in
+    let arc = b .args .least .arc in (
+      b .pre .0,
       (
-        lengths .1,
+        b .pre .1 .0 .1,
         (
-          omega (arith, same, here .head (a .least .arc) inside, here .head-in (a .least .arc) inside, here .linked .first-count),
+          omega (arith, child-is e, here .head arc inside, here .head-in arc inside, here .linked .first-count),
           (
-            subst (λ (j : ℕ). getD (a .bound .now) j 0 ≤ greatest-sum) (sym same) (can .bounded any),
-            (can .room any (c .before .before .before .before .if2 .left), omega (arith, s .pre .1 .1 .0 .1 .1)),
+            subst (λ (j : ℕ). getD (b .args .bound .now) j 0 ≤ greatest-sum) (sym (child-is e)) (can .bounded any),
+            (can .room any (e .if2 .left), omega (arith, b .pre .1 .1 .0 .1 .1)),
           ),
         ),
       ),
@@ -88,16 +120,15 @@ same-length-6 c = search needs
 returns-3 : tie.Need-returns-3
 returns-3 c =
     λ t here eo.
-    let s = c .before .before .before .before .before .before .before .before .before .before .before .before .before .before .before .before .before .before .before .before .before .before .before .before .before in
-    let a = s .args in
-    let any = c .before .before .before .before .before .before .before .before .before .before .before .before .before .before .before .if1 .left in
-    let x = seen (a .path .now) (a .price .now) (a .bound .now) (a .kept .now) (a .status .now) (a .g) in
-    let inside : a .least .arc < arc-count t = omega (arith, s .pre .1 .1 .1 .0 .listed any, here .head-count) in
-    let child : head-at t (a .least .arc) ≡ a .least .child = sym (s .pre .1 .1 .1 .1 any ∙ here .head (a .least .arc) inside) in
-    is-extension t (a .v) (a .least .value) (a .least .arc) _ any
-    (subst (λ (m : ℕ). a .least .value ≤ m) (sym (seen-price (a .path .now) (a .price .now) (a .bound .now) (a .kept .now) (a .status .now) (a .g) (a .v))) (c .before .before .before .before .before .before .before .before .before .before .before .before .before .if2 .left))
-    ∙ ap (λ j. some (extension t j x)) child
-    ∙ ap some (sym (c .before .before .before .before .before .before .before .before .extend .ensures (a .price .now) t here))
+    let d = c .before .before .before .before .before .before .before .before in
+    let e = to-extend d in
+    let b = s e in
+    let a = b .args in
+    let child : head-at t (a .least .arc) ≡ a .least .child = sym (child-is e ∙ here .head (a .least .arc) (listed e t here)) in
+    is-extension t (a .v) (a .least .value) (a .least .arc) (x b) (a-child e .if1 .left)
+    (subst (λ (m : ℕ). a .least .value ≤ m) (sym (price-read b)) (e .if2 .left))
+    ∙ ap (λ j. some (extension t j (x b))) child
+    ∙ ap some (sym (d .extend .ensures (a .price .now) t here))
 
 pub step-spec : {M : Type 1} → statement M
 step-spec =

@@ -1,4 +1,4 @@
--- The grounds 1 to 7: the first test that refuses decides; of 5, 6 and 7, what is left to test from an index on. Assumes nothing.
+-- The refusals 1 to 7: the first test that refuses decides; of 5, 6 and 7, what is left to test from an index on. Assumes nothing.
 use mathlib.Core.Path.{_≡_, sym, _∙_}
 use mathlib.Core.Bool.{Bool, true, false, _&&_, not}
 use mathlib.Core.List.{List}

@@ -15,7 +15,7 @@ use Rattle.table.proofs.Basics.{same-or}
 use Rattle.solver.specs.declared.state.Progress.{Progress}
 use Rattle.solver.specs.Seen.{bound-of, arc-of, seen}
 use Rattle.solver.specs.Lists.{star, Outgoing}
-use Rattle.solver.specs.Steps.{Offered}
+use Rattle.solver.specs.Steps.{Arc-offered}
 use Rattle.solver.proofs.Arrays.{some-bound, some-arc, no-bound, no-kept, seen-bound, seen-kept, seen-status, store-kept, seen-distance}
 use Rattle.solver.proofs.Arcs.{On-list, on-first, on-next, offers-first, offers-next, offers-done}
 
@@ -75,7 +75,7 @@ module _ (j : ℕ) (p u b k s : List ℕ) (g : Progress) where
 
 module _ {j i o : ℕ} {b k s : List ℕ} (hb : j < length b) (hk : j < length k) where
   pub offered-kept : o < no-distance → i < no-arc → getD s j 0 ≡ 0 →
-      improves o i (bound-of (getD b j 0)) (arc-of (getD k j 0)) ≡ true → Offered j i o b k s (set b j o) (set k j i)
+      improves o i (bound-of (getD b j 0)) (arc-of (getD k j 0)) ≡ true → Arc-offered j i o b k s (set b j o) (set k j i)
   offered-kept fits low e better =
       record {
         as-defined = λ t v p u g et eh ed.
@@ -84,7 +84,7 @@ module _ {j i o : ℕ} {b k s : List ℕ} (hb : j < length b) (hk : j < length k
         fixed = λ v h. getD-set-other b j v o 0 (λ z. let q = ap (λ m. getD s m 0) z in omega arith);
       }
 
-  pub offered-dropped : improves o i (bound-of (getD b j 0)) (arc-of (getD k j 0)) ≡ false → getD s j 0 ≡ 0 → Offered j i o b k s b k
+  pub offered-dropped : improves o i (bound-of (getD b j 0)) (arc-of (getD k j 0)) ≡ false → getD s j 0 ≡ 0 → Arc-offered j i o b k s b k
   offered-dropped worse e =
       record {
         as-defined = λ t v p u g et eh ed.
@@ -92,7 +92,7 @@ module _ {j i o : ℕ} {b k s : List ℕ} (hb : j < length b) (hk : j < length k
         fixed = λ v h. refl;
       }
 
-  pub offered-reached : (getD s j 0 ≡ 0 → ⊥) → Offered j i o b k s b k
+  pub offered-reached : (getD s j 0 ≡ 0 → ⊥) → Arc-offered j i o b k s b k
   offered-reached d =
       record {
         as-defined = λ t v p u g et eh ed.
@@ -129,7 +129,7 @@ module _ {hs ls first next : List ℕ} {v d : ℕ} {b₀ k₀ s : List ℕ} wher
 
   module _ {b k : List ℕ} {p : ℕ} (inv : Offering hs ls first next v d b₀ k₀ s b k p) where
     pub goes-on : {b′ k′ : List ℕ} (i j o : ℕ) → i ≡ p → j ≡ getD hs p 0 → o ≡ d + getD ls p 0 → (p ≡ no-arc → ⊥) → d < no-distance → v < length b₀ →
-        0 < getD s v 0 → length b′ ≡ length b → length k′ ≡ length k → Offered j p o b k s b′ k′ →
+        0 < getD s v 0 → length b′ ≡ length b → length k′ ≡ length k → Arc-offered j p o b k s b′ k′ →
         Offering hs ls first next v d b₀ k₀ s b′ k′ (getD next i 0)
     goes-on i j o ei ej eo more fits inside reached lb lk now-offered =
         record {

@@ -21,7 +21,7 @@ use Rattle.solver.specs.Steps.{Ran}
 use Rattle.solver.proofs.Arrays.{seen-status, seen-distance, seen-kept, some-arc, no-kept}
 use Rattle.auction.specs.Plan.{routes-of}
 use Rattle.planner.specs.ReadOff.{Known, Arc-ends, Ends-held, None-farther, mark-entry}
-use Rattle.planner.proofs.Entries.{entries-same}
+use Rattle.planner.proofs.hand_over.Entries.{entries-same}
 
 -- one entry each, as the code makes it
 abbrev pub distance-entry : (other : ℕ) → (bound status : List ℕ) → (v : ℕ) → ℕ

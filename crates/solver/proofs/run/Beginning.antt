@@ -15,7 +15,7 @@ use Rattle.solver.specs.Seen.{seen, greatest-sum}
 use Rattle.solver.specs.Lists.{star, Linked, Tails}
 use Rattle.solver.specs.Steps.{Begun}
 use Rattle.solver.proofs.Arrays.{seen-bound}
-use Rattle.solver.proofs.Iterating.{bound-value}
+use Rattle.solver.proofs.run.Iterating.{bound-value}
 use Rattle.solver.proofs.Columns.{count-so, tail-so, head-so, length-so, nodes-so, origin-so}
 
 fresh-bound : (t : Table) → t .origin < t .n → bound-at (fresh t) (t .origin) ≡ some 0
@@ -44,7 +44,7 @@ module _ {t : Table} {ws : List ℕ} {o : ℕ} {hs ls first nexts : List ℕ} wh
         begun = e ∙ ap (λ v. reach t v x) (sym (bg .origin-is)) ∙ ap (reach t (t .origin)) (bg .begun);
       }
 
--- the columns of a table that is not turned down
+-- the columns of a table that is not refused
 module _ (n o : ℕ) (ts hs ls ws : List ℕ) (eh : length hs ≡ length ts) (el : length ls ≡ length ts)
     (ok : is-table (table-of n o ts hs ls) ws ≡ true) where
   pub tails-held : Tails (table-of n o ts hs ls) ts

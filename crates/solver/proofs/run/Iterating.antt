@@ -22,8 +22,8 @@ use Rattle.solver.specs.Seen.{bound-of, bid-of, seen, Sized, greatest-su
 use Rattle.solver.specs.Lists.{star, Outgoing}
 use Rattle.solver.specs.Steps.{Can-step, Begun, Ran, First-from}
 use Rattle.solver.proofs.Arrays.{seen-price, seen-bound, some-bid, some-bound, no-bound}
-use Rattle.solver.proofs.Stepping.{last-entry, as-many, is-extension, is-stop}
-use Rattle.solver.proofs.Wanted.{some-missing, none-missing, jump}
+use Rattle.solver.proofs.steps.Stepping.{last-entry, as-many, is-extension, is-stop}
+use Rattle.solver.proofs.run.Wanted.{some-missing, none-missing, jump}
 
 -- the bound in numbers
 pub few-in-all : (n : ℕ) → n ≤ most-nodes → most-iterations n < 4294967296

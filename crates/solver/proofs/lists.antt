@@ -1,0 +1,2 @@
+-- The lists of outgoing arcs, linked from the last arc to the first.
+pub mod Linking
