@@ -47,6 +47,13 @@ Long-files-are-refused =
     (t : Content) → Writable-header (t .n) (t .origin) (t .wanted) → Small-arcs (t .arcs) → most-arcs < length (t .arcs)
     → read-file (file-bytes t) ≡ refused 2 most-arcs
 
+-- A file that is refused has a number, and it is not 8, on which a plan is made all the same.
+abbrev pub Reader-number : ℕ → Type 0
+Reader-number n = (0 < n) × (n ≡ 8 → ⊥)
+
+abbrev pub Files-refused-by-number : Type 0
+Files-refused-by-number = (file : List ℕ) (n p : ℕ) → read-file file ≡ refused n p → Reader-number n
+
 -- Rule 12 in 01's words: a field stands that says what its absence would say. Where the fields that are absent say that, and the bit map is
 -- allowed, this is the same as a bit map that is not the canonical one.
 unfoldable pub needless : (before : Option Arc) → (bits : ℕ) → Arc → Bool

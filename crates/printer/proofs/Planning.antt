@@ -1,30 +1,32 @@
 -- From what was read to what is printed of it. Assumes nothing.
 use mathlib.Core.Path.{_≡_, refl, sym, ap, subst, _∙_}
+use mathlib.Core.Bool.{Bool, cond}
 use mathlib.Core.List.{List, [], _∷_, _++_}
 use mathlib.Core.Logic.{_⊎_, ⊎-elim}
 use Prim.Native.Nat.{ℕ, _≤_, _<_}
 use native.Mathlib.Omega.{arith}
 use lib.ListN.{length, take, drop, replicate, length-replicate, length-map}
 use lib.Seq.{take-at}
-use Rattle.table.specs.Table.{Arc}
+use borrow.Author.Tests.{lt-ltb, le-ltb}
+use Rattle.table.specs.Table.{Arc, most-arcs, most-wanted}
 use Rattle.table.specs.Refusals.{refusal, no-refusal}
 use Rattle.auction.specs.HandOver.{Answer}
 use Rattle.auction.specs.Plan.{plan}
 use Rattle.auction.specs.Demands.{distance-of, price-of, link-of}
 use Rattle.link_format.specs.Format.{Content, content, tails-of, heads-of, lengths-of}
-use Rattle.link_format.specs.Reading.{Outcome, got, refused}
-use Rattle.link_format.specs.Buffers.{over, refusal-of, content-of}
+use Rattle.link_format.specs.Reading.{Outcome, got, refused, read-file}
+use Rattle.link_format.specs.Buffers.{over, too-short, reading, refusal-of, content-of}
 use Rattle.link_file.specs.declared.TableRead.{TableRead}
-use Rattle.link_file.specs.Entries.{read-answer, Left-by-reading}
+use Rattle.link_file.specs.Entries.{read-answer, Left-by-reading, Read-says}
 use Rattle.planner.specs.declared.Planned.{Planned}
 use Rattle.planner.specs.Plan.{answered, Plan-made}
 use Rattle.sheet.specs.Sheet.{Finished, finished, refused-line, reached-nodes, path-nodes, node-lines, path-lines, after-counts, from-counts, from-reached, sheet}
-use Rattle.sheet.specs.Printed.{plan-of, lines-of}
+use Rattle.sheet.specs.Printed.{most-input, read-input, plan-of, lines-of}
 use Rattle.sheet.specs.Promises.{Refusals-printed}
 use Rattle.sheet.proofs.Promised.{refusals-printed}
 use Rattle.sheet.proofs.Unseen.{unseen}
 use Rattle.printer.specs.Lines.{printing}
-use Rattle.printer.specs.Input.{printing-read, refused-file, Refuses-well}
+use Rattle.printer.specs.Input.{Columns-roomy, printing-read, refused-file, Refuses-well}
 
 -- a list at the start of a buffer
 pub start-of : (xs buffer : List ℕ) (k : ℕ) → k ≡ length xs → take k (over xs buffer) ≡ xs
@@ -35,6 +37,28 @@ start-of xs buffer k e = take-at xs (drop (length xs) buffer) k (sym e)
 unmarked : (a : Planned) (o : ℕ) (ts hs ws ds ps tr ms : List ℕ) → sheet (printing a o ts hs ws ds ps tr) ≡ sheet (finished o ts hs ws (answered a ds ps tr ms))
 unfolding sheet from-reached from-counts after-counts reached-nodes path-nodes node-lines path-lines printing answered distance-of price-of link-of
 unmarked a o ts hs ws ds ps tr ms = refl
+
+-- READING: too long an input is refused by 2, and the buffers are as they were
+pub input-too-long : (input ts hs ls ws : List ℕ) → most-input < length input →
+    Left-by-reading (read-input input) ts hs ls ws ts hs ls ws (record { number = 2; place = most-arcs; n = 0; origin = 0; arcs = 0; wanted = 0 })
+unfolding read-input refusal-of content-of refusal content read-answer tails-of heads-of lengths-of over
+input-too-long input ts hs ls ws h =
+    subst
+    (λ (o : Outcome Content). Left-by-reading o ts hs ls ws ts hs ls ws (record { number = 2; place = most-arcs; n = 0; origin = 0; arcs = 0; wanted = 0 }))
+    (sym (ap (λ (b : Bool). cond b (refused 2 most-arcs) (read-file input)) (lt-ltb most-input (length input) h)))
+    (record { answer = refl; tails-are = refl; heads-are = refl; lengths-are = refl; wanted-are = refl })
+
+-- another one is read, with buffers that are long enough
+pub input-read : (input ts hs ls ws ts′ hs′ ls′ ws′ : List ℕ) (r : TableRead) → length input ≤ most-input → Columns-roomy ts hs ls ws →
+    Read-says input ts hs ls ws ts′ hs′ ls′ ws′ r → Left-by-reading (read-input input) ts hs ls ws ts′ hs′ ls′ ws′ r
+unfolding read-input reading too-short
+input-read input ts hs ls ws ts′ hs′ ls′ ws′ r h room says =
+    let long : reading input ts hs ls ws ≡ read-file input =
+    rw
+    (le-ltb (length ts) most-arcs (room .tails-long), le-ltb (length hs) most-arcs (room .heads-long), le-ltb (length ls) most-arcs (room .lengths-long),
+    le-ltb (length ws) most-wanted (room .wanted-long)) in
+    subst (λ (o : Outcome Content). Left-by-reading o ts hs ls ws ts′ hs′ ls′ ws′ r)
+    (long ∙ sym (ap (λ (b : Bool). cond b (refused 2 most-arcs) (read-file input)) (le-ltb most-input (length input) h))) says
 
 module _ (r : TableRead) (ts₀ hs₀ ls₀ ws₀ ts hs ls ws ds ps tr : List ℕ) where
   -- a file that was refused prints its refusal

@@ -26,7 +26,8 @@ fn read_input(
     wanted: &mut [u16],
 ) -> TableRead
     requires { ⌜ Columns-roomy (now tails) (now heads) (now lengths) (now wanted) ⌝ }
-    ensures { λ r. ⌜ Reads-input input tails heads lengths wanted r ⌝ }
+    ensures reads { λ r. ⌜ Reads-input input tails heads lengths wanted r ⌝ }
+    ensures fits { λ r. ⌜ Counts-fit r ⌝ }
 {
     if MOST_INPUT < input.len() {
         return TableRead {

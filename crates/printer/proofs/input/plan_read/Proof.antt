@@ -1,100 +1,77 @@
 use borrow.Author.Needs.{needs}
 use Rattle.printer.proofs.input.plan_read.Statement.{statement}
 use Rattle.printer.proofs.input.plan_read.Tie as tie
-use Rattle.printer.proofs.input.plan_read.Reads as reads
-use Rattle.printer.proofs.input.plan_read.Lts as lts
-use Rattle.planner.proofs.plan_routes.Reads as plan-routes-reads
-use Rattle.printer.proofs.input.refused.Reads as refused-reads
 
--- src/input.rt:78:9
+-- where the counts have been taken: the entry
+abbrev entry : (c : tie.After-struct-known4) → ?
+entry c = c .before .before .before .before .before .before .before .before .before .before .before .before .before
+
 refused-requires : tie.Need-refused-requires
 refused-requires c κs = search needs
 
--- src/input.rt:78:9
 returns : tie.Need-returns
 returns c = ?
 
--- src/input.rt:80:13
 cast-n : tie.Need-cast-n
 cast-n c = search needs
 
--- src/input.rt:81:13
 cast-m : tie.Need-cast-m
 cast-m c = search needs
 
--- src/input.rt:82:13
 cast-w : tie.Need-cast-w
 cast-w c = search needs
 
--- src/input.rt:86:9
 slice-aggregate-plan-routes : tie.Need-slice-aggregate-plan-routes
-slice-aggregate-plan-routes c = ?
+slice-aggregate-plan-routes c = let s = entry (c .before) in part-of (s .args .tails .now) (s .args .read .arcs) (s .pre .0 .arcs-few) (s .pre .1 .0 .tails-long)
 
--- src/input.rt:87:9
 slice-aggregate-plan-routes-2 : tie.Need-slice-aggregate-plan-routes-2
-slice-aggregate-plan-routes-2 c = ?
+slice-aggregate-plan-routes-2 c = let s = entry (c .before .before) in part-of (s .args .heads .now) (s .args .read .arcs) (s .pre .0 .arcs-few) (s .pre .1 .0 .heads-long)
 
--- src/input.rt:88:9
 slice-aggregate-plan-routes-3 : tie.Need-slice-aggregate-plan-routes-3
-slice-aggregate-plan-routes-3 c = ?
+slice-aggregate-plan-routes-3 c = let s = entry (c .before .before .before) in part-of (s .args .lengths .now) (s .args .read .arcs) (s .pre .0 .arcs-few) (s .pre .1 .0 .lengths-long)
 
--- src/input.rt:89:9
 slice-aggregate-plan-routes-4 : tie.Need-slice-aggregate-plan-routes-4
-slice-aggregate-plan-routes-4 c = ?
+slice-aggregate-plan-routes-4 c = let s = entry (c .before .before .before .before) in part-of (s .args .wanted .now) (s .args .read .wanted) (s .pre .0 .wanted-few) (s .pre .1 .0 .wanted-long)
 
--- src/input.rt:90:9
 slice-relend-prefix-plan-routes : tie.Need-slice-relend-prefix-plan-routes
 slice-relend-prefix-plan-routes c = search needs
 
--- src/input.rt:90:9
 slice-aggregate-plan-routes-5 : tie.Need-slice-aggregate-plan-routes-5
-slice-aggregate-plan-routes-5 c = ?
+slice-aggregate-plan-routes-5 c = let s = entry (c .before .before .before .before .before) in part-of (s .args .distances .now) (s .args .read .n) (s .pre .0 .nodes) (s .pre .1 .1 .distances-long)
 
--- src/input.rt:91:9
 slice-relend-prefix-plan-routes-2 : tie.Need-slice-relend-prefix-plan-routes-2
 slice-relend-prefix-plan-routes-2 c = search needs
 
--- src/input.rt:91:9
 slice-aggregate-plan-routes-6 : tie.Need-slice-aggregate-plan-routes-6
-slice-aggregate-plan-routes-6 c = ?
+slice-aggregate-plan-routes-6 c = let s = entry (c .before .before .before .before .before .before) in part-of (s .args .prices .now) (s .args .read .n) (s .pre .0 .nodes) (s .pre .1 .1 .prices-long)
 
--- src/input.rt:92:9
 slice-relend-prefix-plan-routes-3 : tie.Need-slice-relend-prefix-plan-routes-3
 slice-relend-prefix-plan-routes-3 c = search needs
 
--- src/input.rt:92:9
 slice-aggregate-plan-routes-7 : tie.Need-slice-aggregate-plan-routes-7
-slice-aggregate-plan-routes-7 c = ?
+slice-aggregate-plan-routes-7 c = let s = entry (c .before .before .before .before .before .before .before) in part-of (s .args .tree .now) (s .args .read .n) (s .pre .0 .nodes) (s .pre .1 .1 .tree-long)
 
--- src/input.rt:93:9
 slice-relend-prefix-plan-routes-4 : tie.Need-slice-relend-prefix-plan-routes-4
 slice-relend-prefix-plan-routes-4 c = search needs
 
--- src/input.rt:93:9
 slice-aggregate-plan-routes-8 : tie.Need-slice-aggregate-plan-routes-8
-slice-aggregate-plan-routes-8 c = ?
+slice-aggregate-plan-routes-8 c = let s = entry (c .before .before .before .before .before .before .before .before) in part-of (s .args .marks .now) (s .args .read .arcs) (s .pre .0 .arcs-few) (s .pre .1 .1 .marks-long)
 
--- src/input.rt:83:5
 plan-routes-requires : tie.Need-plan-routes-requires
 plan-routes-requires c κs = search needs
 
--- src/input.rt:61:1
 same-length : tie.Need-same-length
 same-length c = search needs
 
--- src/input.rt:61:1
 same-length-2 : tie.Need-same-length-2
 same-length-2 c = search needs
 
--- src/input.rt:61:1
 same-length-3 : tie.Need-same-length-3
 same-length-3 c = search needs
 
--- src/input.rt:61:1
 same-length-4 : tie.Need-same-length-4
 same-length-4 c = search needs
 
--- src/input.rt:61:1
 returns-2 : tie.Need-returns-2
 returns-2 c = ?
 

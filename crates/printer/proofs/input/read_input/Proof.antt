@@ -1,41 +1,43 @@
+-- `printer::input::read_input` meets its contract: too long an input is refused, and another one is read. Assumes nothing.
+use native.Mathlib.Omega.{arith}
 use borrow.Author.Needs.{needs}
+use Rattle.table.specs.Table.{Below}
+use Rattle.link_file.proofs.EntryTrips.{answers-fit}
+use Rattle.printer.proofs.Planning.{input-too-long, input-read}
 use Rattle.printer.proofs.input.read_input.Statement.{statement}
 use Rattle.printer.proofs.input.read_input.Tie as tie
-use Rattle.printer.proofs.input.read_input.Reads as reads
-use Rattle.printer.proofs.input.read_input.Lts as lts
-use Rattle.link_file.proofs.read_link_file.Reads as read-link-file-reads
 
--- src/input.rt:34:20
 cast-t8 : tie.Need-cast-t8
 cast-t8 c = search needs
 
--- src/input.rt:32:9
 returns : tie.Need-returns
-returns c = ?
+returns c =
+    (input-too-long _ _ _ _ _ (c .if1 .taken), record { nodes = omega arith; arcs-few = omega arith; wanted-few = omega arith })
 
--- src/input.rt:41:5
 read-link-file-requires : tie.Need-read-link-file-requires
 read-link-file-requires c κs = search needs
 
--- src/input.rt:21:1
 same-length : tie.Need-same-length
 same-length c = search needs
 
--- src/input.rt:21:1
 same-length-2 : tie.Need-same-length-2
 same-length-2 c = search needs
 
--- src/input.rt:21:1
 same-length-3 : tie.Need-same-length-3
 same-length-3 c = search needs
 
--- src/input.rt:21:1
 same-length-4 : tie.Need-same-length-4
 same-length-4 c = search needs
 
--- src/input.rt:21:1
 returns-2 : tie.Need-returns-2
-returns-2 c = ?
+unfolding Below
+returns-2 c =
+    let call = c .before .before .before .before .before .before .before .before in
+    let test = call .before .before .before .before .before in
+    let bytes = test .before .before .before .before .before in
+    let r = call .read-link-file in
+    (input-read _ _ _ _ _ _ _ _ _ (r .result) (test .if1 .left) (bytes .before .pre) (r .ensures),
+    answers-fit _ _ _ _ _ _ _ _ _ (r .result) (λ i. bytes .shared-slice-known .given i .fits) (r .ensures))
 
 pub read-input-spec : {M : Type 1} → statement M
 read-input-spec =
