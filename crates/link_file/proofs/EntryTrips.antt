@@ -10,7 +10,7 @@ use Rattle.table.specs.Table.{Arc, arcs-of, Below, most-wanted}
 use Rattle.link_format.specs.Buffers.{no-content, over, reading, refusal-of, content-of, file-of, put-bytes}
 use Rattle.link_format.specs.Format.{Content, content, tails-of, heads-of, lengths-of}
 use Rattle.link_format.specs.Reading.{Outcome, got, refused, read-file}
-use Rattle.link_format.proofs.ArcColumns.{lengths-back, length-lengths, heads-back, length-heads, columns-equal, tails-back, length-tails, arcs-count}
+use Rattle.link_format.proofs.ArcColumns.{columns-back, length-tails, length-heads, length-lengths, columns-equal, arcs-count}
 use Rattle.link_format.proofs.Counts.{few-nodes, equal-columns}
 use Rattle.link_format.proofs.Outcomes.{read-without-refusal, file-of-reading, reading-roomy}
 use Rattle.link_format.proofs.ReadThenWrite.{File-back, file-back}
@@ -20,7 +20,7 @@ use Rattle.link_file.specs.Promises.{Table-there, Counts-fit, Write-then
 use Rattle.link_file.specs.declared.TableRead.{TableRead}
 use Rattle.link_file.specs.declared.Written.{Written}
 
--- what the writer leaves then: the file
+-- what the writer leaves where it does not refuse: the file
 record File-there (n o : ℕ) (ts hs ls ws out out′ : List ℕ) (w : Written) : Type 0 where
   answer : w ≡ record { number = 0; place = 0; length = length (file-of n o ts hs ls ws) }
   output-is : out′ ≡ over (file-of n o ts hs ls ws) out
@@ -40,11 +40,12 @@ table-there : (n o : ℕ) (tails heads lengths wanted file ts hs ls ws ts′ hs�
     → Read-says file ts hs ls ws ts′ hs′ ls′ ws′ r → Table-there n o tails heads lengths wanted ts hs ls ws ts′ hs′ ls′ ws′ r
 unfolding read-answer refusal-of content-of content no-refusal refusal
 table-there n o tails heads lengths wanted file ts hs ls ws ts′ hs′ ls′ ws′ r eh el e says =
+    let back = columns-back tails heads lengths eh el in
     record {
       answer = says .answer ∙ rw (e, arcs-count tails heads lengths eh el);
-      tails-are = says .tails-are ∙ rw (e, tails-back tails heads lengths eh el);
-      heads-are = says .heads-are ∙ rw (e, heads-back tails heads lengths eh el);
-      lengths-are = says .lengths-are ∙ rw (e, lengths-back tails heads lengths eh el);
+      tails-are = says .tails-are ∙ rw (e, back .tails-back);
+      heads-are = says .heads-are ∙ rw (e, back .heads-back);
+      lengths-are = says .lengths-are ∙ rw (e, back .lengths-back);
       wanted-are = says .wanted-are ∙ rw e;
     }
 

@@ -11,36 +11,34 @@ use Rattle.table.specs.Table.{Arc, arc, arcs-of, Below, most-arcs}
 use Rattle.link_format.specs.Format.{tails-of, heads-of, lengths-of}
 use Rattle.link_format.specs.Promises.{Small-arcs}
 
--- the columns of the arcs of three columns, and the arcs of the columns of arcs
-pub tails-back : (ts hs ls : List ℕ) → length ts ≡ length hs → length hs ≡ length ls → tails-of (arcs-of ts hs ls) ≡ ts
-unfolding arcs-of tails-of arc
-tails-back [] hs ls e f = refl
-tails-back (t ∷ ts) [] ls e f = absurd (omega arith)
-tails-back (t ∷ ts) (h ∷ hs) [] e f = absurd (omega arith)
-tails-back (t ∷ ts) (h ∷ hs) (l ∷ ls) e f = ap (λ (xs : List ℕ). t ∷ xs) (tails-back ts hs ls (omega arith) (omega arith))
+-- The columns of the arcs of three columns of equal length are those three.
+pub record Columns-back (ts hs ls : List ℕ) : Type 0 where
+  pub tails-back : tails-of (arcs-of ts hs ls) ≡ ts
+  pub heads-back : heads-of (arcs-of ts hs ls) ≡ hs
+  pub lengths-back : lengths-of (arcs-of ts hs ls) ≡ ls
 
-pub heads-back : (ts hs ls : List ℕ) → length ts ≡ length hs → length hs ≡ length ls → heads-of (arcs-of ts hs ls) ≡ hs
-unfolding arcs-of heads-of arc
-heads-back [] [] ls e f = refl
-heads-back [] (h ∷ hs) ls e f = absurd (omega arith)
-heads-back (t ∷ ts) [] ls e f = absurd (omega arith)
-heads-back (t ∷ ts) (h ∷ hs) [] e f = absurd (omega arith)
-heads-back (t ∷ ts) (h ∷ hs) (l ∷ ls) e f = ap (λ (xs : List ℕ). h ∷ xs) (heads-back ts hs ls (omega arith) (omega arith))
+pub columns-back : (ts hs ls : List ℕ) → length ts ≡ length hs → length hs ≡ length ls → Columns-back ts hs ls
+unfolding arcs-of tails-of heads-of lengths-of arc
+columns-back [] [] [] e f = record { tails-back = refl; heads-back = refl; lengths-back = refl }
+columns-back [] [] (l ∷ ls) e f = absurd (omega arith)
+columns-back [] (h ∷ hs) ls e f = absurd (omega arith)
+columns-back (t ∷ ts) [] ls e f = absurd (omega arith)
+columns-back (t ∷ ts) (h ∷ hs) [] e f = absurd (omega arith)
+columns-back (t ∷ ts) (h ∷ hs) (l ∷ ls) e f =
+    let rest = columns-back ts hs ls (omega arith) (omega arith) in
+    record {
+      tails-back = ap (λ (xs : List ℕ). t ∷ xs) (rest .tails-back);
+      heads-back = ap (λ (xs : List ℕ). h ∷ xs) (rest .heads-back);
+      lengths-back = ap (λ (xs : List ℕ). l ∷ xs) (rest .lengths-back);
+    }
 
-pub lengths-back : (ts hs ls : List ℕ) → length ts ≡ length hs → length hs ≡ length ls → lengths-of (arcs-of ts hs ls) ≡ ls
-unfolding arcs-of lengths-of arc
-lengths-back [] [] [] e f = refl
-lengths-back [] [] (l ∷ ls) e f = absurd (omega arith)
-lengths-back [] (h ∷ hs) ls e f = absurd (omega arith)
-lengths-back (t ∷ ts) [] ls e f = absurd (omega arith)
-lengths-back (t ∷ ts) (h ∷ hs) [] e f = absurd (omega arith)
-lengths-back (t ∷ ts) (h ∷ hs) (l ∷ ls) e f = ap (λ (xs : List ℕ). l ∷ xs) (lengths-back ts hs ls (omega arith) (omega arith))
-
+-- the arcs of the columns of arcs are those arcs
 pub arcs-back : (arcs : List Arc) → arcs-of (tails-of arcs) (heads-of arcs) (lengths-of arcs) ≡ arcs
 unfolding arcs-of tails-of heads-of lengths-of arc
 arcs-back [] = refl
 arcs-back (a ∷ more) = ap (λ (xs : List Arc). a ∷ xs) (arcs-back more)
 
+-- arcs of columns of 16 and 32 bits
 pub small-arcs : (ts hs ls : List ℕ) → Below 65536 ts → Below 65536 hs → Below 4294967296 ls → Small-arcs (arcs-of ts hs ls)
 unfolding arcs-of Small-arcs Below arc
 small-arcs [] hs ls a b c = tt
@@ -65,7 +63,7 @@ unfolding lengths-of
 length-lengths arcs = length-map arcs (λ (a : Arc). a .arc-length)
 
 pub arcs-count : (ts hs ls : List ℕ) → length ts ≡ length hs → length hs ≡ length ls → length (arcs-of ts hs ls) ≡ length ts
-arcs-count ts hs ls e f = sym (length-tails (arcs-of ts hs ls)) ∙ ap length (tails-back ts hs ls e f)
+arcs-count ts hs ls e f = sym (length-tails (arcs-of ts hs ls)) ∙ ap length (columns-back ts hs ls e f .tails-back)
 
 -- the columns of arcs are not refused
 pub columns-equal : (arcs : List Arc) → length arcs ≤ most-arcs → columns-bad (length (tails-of arcs)) (length (heads-of arcs)) (length (lengths-of arcs)) ≡ false

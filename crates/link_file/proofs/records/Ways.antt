@@ -9,7 +9,7 @@ use native.Mathlib.Omega.{arith}
 use lib.ListN.{length, drop}
 use borrow.Author.Tests.{lt-ltb, le-ltb, eq-eqb, ne-eqb}
 use Rattle.table.specs.Table.{Arc, arc}
-use Rattle.link_format.specs.Format.{has, record-bits}
+use Rattle.link_format.specs.Format.{last-head, has, record-bits}
 use Rattle.link_format.specs.Reading.{_>>_, _>>=_, got, refused, and-then, give, here, refuse-if, field, optional, implied, forbidden, read-record}
 use Rattle.link_file.specs.Says.{Got, Cut-inside, Record-got}
 
@@ -34,16 +34,16 @@ module _ (before : Option Arc) (part : List ℕ) (at : ℕ) (bits : ℕ) (one : 
         cut-length cut = rw (one, good, tail .is at, head .is at, cut .is at)
 
         module _ {b₃ l f₃ : ℕ} (long : Got (optional (has 4 bits) 4 (implied before .arc-length)) part f₂ 4 b₃ l f₃) where
-          pub refused-head : 65535 < h → read-record before at part ≡ refused 11 at
+          pub refused-head : last-head < h → read-record before at part ≡ refused 11 at
           unfolding read-record _>>=_ _>>_ and-then here refuse-if
-          refused-head high = rw (one, good, tail .is at, head .is at, long .is at, lt-ltb 65535 h high)
+          refused-head high = rw (one, good, tail .is at, head .is at, long .is at, lt-ltb last-head h high)
 
-          pub refused-needless : h ≤ 65535 → (bits ≡ record-bits before (arc t h l) → ⊥) → read-record before at part ≡ refused 12 at
+          pub refused-needless : h ≤ last-head → (bits ≡ record-bits before (arc t h l) → ⊥) → read-record before at part ≡ refused 12 at
           unfolding read-record _>>=_ _>>_ and-then here refuse-if
           refused-needless low other =
-              rw (one, good, tail .is at, head .is at, long .is at, le-ltb 65535 h low, ne-eqb bits (record-bits before (arc t h l)) other)
+              rw (one, good, tail .is at, head .is at, long .is at, le-ltb last-head h low, ne-eqb bits (record-bits before (arc t h l)) other)
 
-          pub got-record : h ≤ 65535 → bits ≡ record-bits before (arc t h l) → Record-got before part at (arc t h l) (at + f₃)
+          pub got-record : h ≤ last-head → bits ≡ record-bits before (arc t h l) → Record-got before part at (arc t h l) (at + f₃)
           unfolding read-record _>>=_ _>>_ and-then here refuse-if give
           got-record low same =
               record {
@@ -54,7 +54,7 @@ module _ (before : Option Arc) (part : List ℕ) (at : ℕ) (bits : ℕ) (one : 
                       tail .is at,
                       head .is at,
                       long .is at,
-                      le-ltb 65535 h low,
+                      le-ltb last-head h low,
                       eq-eqb bits (record-bits before (arc t h l)) same,
                       add-sub-cancel-left at f₃,
                     );
