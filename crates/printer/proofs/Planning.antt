@@ -1,11 +1,12 @@
 -- From what was read to what is printed of it. Assumes nothing.
 use mathlib.Core.Path.{_≡_, refl, sym, ap, subst, _∙_}
-use mathlib.Core.Bool.{Bool, cond}
+use mathlib.Core.Bool.{Bool, true, false, cond}
 use mathlib.Core.List.{List, [], _∷_, _++_}
 use mathlib.Core.Logic.{_⊎_, ⊎-elim}
 use Prim.Native.Nat.{ℕ, _≤_, _<_}
 use native.Mathlib.Omega.{arith}
-use lib.ListN.{length, take, drop, replicate, length-replicate, length-map}
+use lib.ListN.{length, take, drop, replicate, length-replicate, length-map, length-take}
+use lib.Dec.{ltb}
 use lib.Seq.{take-at}
 use borrow.Author.Tests.{lt-ltb, le-ltb}
 use Rattle.table.specs.Table.{Arc, most-arcs, most-wanted}
@@ -15,7 +16,8 @@ use Rattle.auction.specs.Plan.{plan}
 use Rattle.auction.specs.Demands.{distance-of, price-of, link-of}
 use Rattle.link_format.specs.Format.{Content, content, tails-of, heads-of, lengths-of}
 use Rattle.link_format.specs.Reading.{Outcome, got, refused, read-file}
-use Rattle.link_format.specs.Buffers.{over, too-short, reading, refusal-of, content-of}
+use Rattle.link_format.specs.Buffers.{over, too-short, reading, refusal-of, no-content, content-of}
+use Rattle.link_format.proofs.Outcomes.{files-refused-by-number}
 use Rattle.link_file.specs.declared.TableRead.{TableRead}
 use Rattle.link_file.specs.Entries.{read-answer, Left-by-reading, Read-says}
 use Rattle.planner.specs.declared.Planned.{Planned}
@@ -33,6 +35,10 @@ pub start-of : (xs buffer : List ℕ) (k : ℕ) → k ≡ length xs → take k (
 unfolding over
 start-of xs buffer k e = take-at xs (drop (length xs) buffer) k (sym e)
 
+-- as many entries of a buffer as there are
+pub part-of : (xs : List ℕ) (k : ℕ) {most : ℕ} → k ≤ most → most ≤ length xs → k ≡ length (take k xs)
+part-of xs k low long = omega (arith, length-take k xs)
+
 -- the sheet does not show the marks
 unmarked : (a : Planned) (o : ℕ) (ts hs ws ds ps tr ms : List ℕ) → sheet (printing a o ts hs ws ds ps tr) ≡ sheet (finished o ts hs ws (answered a ds ps tr ms))
 unfolding sheet from-reached from-counts after-counts reached-nodes path-nodes node-lines path-lines printing answered distance-of price-of link-of
@@ -41,7 +47,7 @@ unmarked a o ts hs ws ds ps tr ms = refl
 -- READING: too long an input is refused by 2, and the buffers are as they were
 pub input-too-long : (input ts hs ls ws : List ℕ) → most-input < length input →
     Left-by-reading (read-input input) ts hs ls ws ts hs ls ws (record { number = 2; place = most-arcs; n = 0; origin = 0; arcs = 0; wanted = 0 })
-unfolding read-input refusal-of content-of refusal content read-answer tails-of heads-of lengths-of over
+unfolding read-input refusal-of no-content content-of refusal content read-answer tails-of heads-of lengths-of over
 input-too-long input ts hs ls ws h =
     subst
     (λ (o : Outcome Content). Left-by-reading o ts hs ls ws ts hs ls ws (record { number = 2; place = most-arcs; n = 0; origin = 0; arcs = 0; wanted = 0 }))
@@ -59,6 +65,16 @@ input-read input ts hs ls ws ts′ hs′ ls′ ws′ r h room says =
     le-ltb (length ws) most-wanted (room .wanted-long)) in
     subst (λ (o : Outcome Content). Left-by-reading o ts hs ls ws ts′ hs′ ls′ ws′ r)
     (long ∙ sym (ap (λ (b : Bool). cond b (refused 2 most-arcs) (read-file input)) (le-ltb most-input (length input) h))) says
+
+-- and its refusals have a number that is not 8
+refuses-cond : (b : Bool) (input : List ℕ) → Refuses-well (cond b (refused 2 most-arcs) (read-file input))
+unfolding Refuses-well
+refuses-cond true input n p e = let z : n ≡ 2 = cc in (omega arith, λ q. omega arith)
+refuses-cond false input n p e = files-refused-by-number input n p e
+
+pub input-refuses-well : (input : List ℕ) → Refuses-well (read-input input)
+unfolding read-input
+input-refuses-well input = refuses-cond (ltb most-input (length input)) input
 
 module _ (r : TableRead) (ts₀ hs₀ ls₀ ws₀ ts hs ls ws ds ps tr : List ℕ) where
   -- a file that was refused prints its refusal
@@ -97,3 +113,31 @@ module _ (r : TableRead) (ts₀ hs₀ ls₀ ws₀ ts hs ls ws ds ps tr : List �
       (unseen (c .n) (c .origin) (tails-of (c .arcs)) (heads-of (c .arcs)) (lengths-of (c .arcs)) (c .wanted) ds₀ ps₀ tr₀ ms₀ (replicate (c .n) 0) (replicate (c .n) 0)
       (replicate (c .n) 0) (replicate (length (c .arcs)) 0) (d ∙ n ∙ sym (length-replicate (c .n) 0)) (p ∙ n ∙ sym (length-replicate (c .n) 0))
       (t ∙ n ∙ sym (length-replicate (c .n) 0)) (m ∙ arcs ∙ sym (length-replicate (length (c .arcs)) 0)))
+
+  -- whatever reading gave: where it refused, and where it did not
+  pub refused-read : (o : Outcome Content) → Refuses-well o → Left-by-reading o ts₀ hs₀ ls₀ ws₀ ts hs ls ws r → (r .number ≡ 0 → ⊥) → (a : Planned) →
+      a ≡ refused-file (r .number) (r .place) → sheet (printing-read r a ts hs ws ds ps tr) ≡ lines-of o
+  unfolding refusal-of no-refusal refusal read-answer Refuses-well
+  refused-read (got c next rest) well l d a e = absurd (d (ap (λ (x : TableRead). x .number) (l .answer)))
+  refused-read (refused n p) well l d a e =
+      ap (λ (x : Planned). sheet (printing-read r x ts hs ws ds ps tr)) e ∙ prints-refusal n p l (well n p refl)
+
+  planned-read : (o : Outcome Content) → Refuses-well o → Left-by-reading o ts₀ hs₀ ls₀ ws₀ ts hs ls ws r → r .number ≡ 0 →
+      (a : Planned) (ds₀ ps₀ tr₀ ms₀ ms : List ℕ) → length ds₀ ≡ r .n → length ps₀ ≡ r .n → length tr₀ ≡ r .n → length ms₀ ≡ r .arcs →
+      Plan-made (r .n) (r .origin) (take (r .arcs) ts) (take (r .arcs) hs) (take (r .arcs) ls) (take (r .wanted) ws) ds₀ ps₀ tr₀ ms₀
+      (take (r .n) ds) (take (r .n) ps) (take (r .n) tr) ms a →
+      sheet (printing-read r a ts hs ws ds ps tr) ≡ lines-of o
+  unfolding refusal-of refusal read-answer Refuses-well
+  planned-read (got c next rest) well l z a ds₀ ps₀ tr₀ ms₀ ms d q t m made = prints-plan c next rest l a ds₀ ps₀ tr₀ ms₀ ms d q t m made
+  planned-read (refused n p) well l z a ds₀ ps₀ tr₀ ms₀ ms d q t m made =
+      absurd (omega (arith, well n p refl .0, z, ap (λ (x : TableRead). x .number) (l .answer)))
+
+-- the same where the plan was left at the starts of the buffers
+pub planned-parts : (r : TableRead) (ts₀ hs₀ ls₀ ws₀ ts hs ls ws : List ℕ) (o : Outcome Content) → Refuses-well o →
+    Left-by-reading o ts₀ hs₀ ls₀ ws₀ ts hs ls ws r → r .number ≡ 0 → (a : Planned) (ds₀ ps₀ tr₀ ms₀ ds ps tr ms ds-rest ps-rest tr-rest : List ℕ) →
+    length ds₀ ≡ r .n → length ps₀ ≡ r .n → length tr₀ ≡ r .n → length ms₀ ≡ r .arcs → length ds ≡ r .n → length ps ≡ r .n → length tr ≡ r .n →
+    Plan-made (r .n) (r .origin) (take (r .arcs) ts) (take (r .arcs) hs) (take (r .arcs) ls) (take (r .wanted) ws) ds₀ ps₀ tr₀ ms₀ ds ps tr ms a →
+    sheet (printing-read r a ts hs ws (ds ++ ds-rest) (ps ++ ps-rest) (tr ++ tr-rest)) ≡ lines-of o
+planned-parts r ts₀ hs₀ ls₀ ws₀ ts hs ls ws o well l z a ds₀ ps₀ tr₀ ms₀ ds ps tr ms ds-rest ps-rest tr-rest d₀ p₀ t₀ m₀ d p t made =
+    planned-read r ts₀ hs₀ ls₀ ws₀ ts hs ls ws (ds ++ ds-rest) (ps ++ ps-rest) (tr ++ tr-rest) o well l z a ds₀ ps₀ tr₀ ms₀ ms d₀ p₀ t₀ m₀
+    (rw (take-at ds ds-rest (r .n) d, take-at ps ps-rest (r .n) p, take-at tr tr-rest (r .n) t) made)

@@ -1,54 +1,72 @@
+-- `printer::input::plan_input` meets its contract: what was read is planned, and what is printed of it is printed of the input. Assumes nothing.
+use native.Mathlib.Omega.{arith}
 use borrow.Author.Needs.{needs}
+use Rattle.sheet.specs.Printed.{read-input, printed}
+use Rattle.printer.proofs.Planning.{input-refuses-well}
 use Rattle.printer.proofs.input.plan_input.Statement.{statement}
 use Rattle.printer.proofs.input.plan_input.Tie as tie
-use Rattle.printer.proofs.input.plan_input.Reads as reads
-use Rattle.printer.proofs.input.plan_input.Lts as lts
-use Rattle.printer.proofs.input.plan_read.Reads as plan-read-reads
-use Rattle.printer.proofs.input.read_input.Reads as read-input-reads
 
--- src/input.rt:113:9
+-- the arguments, from where the input has been read
+abbrev entry : tie.After-read-input → tie.Start
+entry c =
+    let lent = c .before .before .before .before in
+    lent .before .before .before .before .before .before .before .before .before .before
+
 read-input-requires : tie.Need-read-input-requires
 read-input-requires c κs = search needs
 
--- src/input.rt:114:9
 plan-read-requires : tie.Need-plan-read-requires
-plan-read-requires c κs = ?
+plan-read-requires c κs =
+    let wanted = c .before .before .before .before .before .before .before .before .before in
+    let lengths = wanted .before .before in
+    let heads = lengths .before .before in
+    let tails = heads .before .before in
+    let call = tails .before in
+    let s = entry call in
+    let room = s .pre .0 in
+    (call .read-input .ensures .1,
+    (record {
+      tails-long = omega (arith, room .tails-long, tails .tails .given);
+      heads-long = omega (arith, room .heads-long, heads .heads .given);
+      lengths-long = omega (arith, room .lengths-long, lengths .lengths .given);
+      wanted-long = omega (arith, room .wanted-long, wanted .wanted .given);
+    }, s .pre .1))
 
--- src/input.rt:98:1
 same-length : tie.Need-same-length
 same-length c = search needs
 
--- src/input.rt:98:1
 same-length-2 : tie.Need-same-length-2
 same-length-2 c = search needs
 
--- src/input.rt:98:1
 same-length-3 : tie.Need-same-length-3
 same-length-3 c = search needs
 
--- src/input.rt:98:1
 same-length-4 : tie.Need-same-length-4
 same-length-4 c = search needs
 
--- src/input.rt:98:1
 same-length-5 : tie.Need-same-length-5
 same-length-5 c = search needs
 
--- src/input.rt:98:1
 same-length-6 : tie.Need-same-length-6
 same-length-6 c = search needs
 
--- src/input.rt:98:1
 same-length-7 : tie.Need-same-length-7
 same-length-7 c = search needs
 
--- src/input.rt:98:1
 same-length-8 : tie.Need-same-length-8
 same-length-8 c = search needs
 
--- src/input.rt:98:1
 returns : tie.Need-returns
-returns c = ?
+unfolding printed
+returns c =
+    let plan = c .before .before .before .before .before .before .before .before in
+    let wanted = plan .before .before .before .before .before .before .before .before .before .before in
+    let call = wanted .before .before .before .before .before .before .before in
+    let input = entry call .args .input .now in
+    record {
+      counts = call .read-input .ensures .1;
+      prints = plan .plan-read .ensures (read-input input) _ _ _ _ (input-refuses-well input) (call .read-input .ensures .0);
+    }
 
 pub plan-input-spec : {M : Type 1} → statement M
 plan-input-spec =

@@ -1,16 +1,21 @@
+-- `printer::input::plan_read` meets its contract: a file that was refused is not planned, another one is. Assumes nothing.
+use mathlib.Core.Path.{sym, _∙_}
 use borrow.Author.Needs.{needs}
+use Rattle.printer.proofs.Planning.{part-of, refused-read, planned-parts}
 use Rattle.printer.proofs.input.plan_read.Statement.{statement}
 use Rattle.printer.proofs.input.plan_read.Tie as tie
 
 -- where the counts have been taken: the entry
-abbrev entry : (c : tie.After-struct-known4) → ?
+abbrev entry : tie.After-struct-known4 → tie.Start
 entry c = c .before .before .before .before .before .before .before .before .before .before .before .before .before
 
 refused-requires : tie.Need-refused-requires
 refused-requires c κs = search needs
 
 returns : tie.Need-returns
-returns c = ?
+returns c o ts₀ hs₀ ls₀ ws₀ well l =
+    let s = c .before .before .before .before .before .before .before .before .before .before .before in
+    refused-read (s .args .read) ts₀ hs₀ ls₀ ws₀ _ _ _ _ _ _ _ o well l (c .before .if1 .taken) (c .refused .result) (c .refused .ensures)
 
 cast-n : tie.Need-cast-n
 cast-n c = search needs
@@ -73,7 +78,24 @@ same-length-4 : tie.Need-same-length-4
 same-length-4 c = search needs
 
 returns-2 : tie.Need-returns-2
-returns-2 c = ?
+returns-2 c o ts₀ hs₀ ls₀ ws₀ well l =
+    let marks = c .before in
+    let tree = marks .before .before in
+    let prices = tree .before .before in
+    let distances = prices .before .before in
+    let call = distances .before in
+    let counts = call .before .before .before .before .before .before .before .before .before in
+    let s = entry counts in
+    let a = s .args in
+    let fits = s .pre .0 in
+    let room = s .pre .1 .1 in
+    let d = sym (part-of (a .distances .now) (a .read .n) (fits .nodes) (room .distances-long)) in
+    let p = sym (part-of (a .prices .now) (a .read .n) (fits .nodes) (room .prices-long)) in
+    let t = sym (part-of (a .tree .now) (a .read .n) (fits .nodes) (room .tree-long)) in
+    let m = sym (part-of (a .marks .now) (a .read .arcs) (fits .arcs-few) (room .marks-long)) in
+    planned-parts (a .read) ts₀ hs₀ ls₀ ws₀ _ _ _ _ o well l (counts .before .before .before .if1 .left) (call .plan-routes .result) _ _ _ _ _ _ _ _ _ _ _
+    d p t m (distances .distances .given .0 ∙ d) (prices .prices .given .0 ∙ p) (tree .tree .given .0 ∙ t)
+    (call .plan-routes .ensures)
 
 pub plan-read-spec : {M : Type 1} → statement M
 plan-read-spec =
