@@ -5,3 +5,4 @@ pub mod Spaced
 pub mod Rest
 pub mod Filling
 pub mod Planning
+pub mod Promised

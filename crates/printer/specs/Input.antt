@@ -58,3 +58,7 @@ Plans-read r ts hs ls ws ds ps tr a =
 pub record Ready (input : List ℕ) (r : PlannedInput) (tails heads wanted distances prices tree : List ℕ) : Type 0 where
   pub counts : Counts-fit (r .read)
   pub prints : sheet (printing-read (r .read) (r .answer) tails heads wanted distances prices tree) ≡ printed input
+
+-- What the printing loop asks: the sheet of the answer and of the columns that are lent is what is printed of the input.
+abbrev pub Prints : (input : List ℕ) → Planned → (origin : ℕ) → (tails heads wanted distances prices tree : List ℕ) → Type 0
+Prints input a o ts hs ws ds ps tr = sheet (printing a o ts hs ws ds ps tr) ≡ printed input

@@ -6,7 +6,6 @@ use lib.ListN.{length, take}
 use Rattle.sheet.specs.Sheet.{Finished}
 use Rattle.sheet.specs.Printed.{joined}
 use Rattle.printer.specs.declared.lines.Cursor.{Cursor}
-use Rattle.printer.specs.declared.lines.Cursor.the-variants.{Start}
 use Rattle.printer.specs.declared.pieces.Piece.{Piece}
 use Rattle.printer.specs.Lines.{rest}
 
@@ -22,7 +21,3 @@ unfoldable pub Pieces : Finished → Cursor → List (List ℕ) → Type 0
 Pieces p from [] = rest p from ≡ []
 Pieces p from (piece ∷ more) =
     (next : Cursor) × (joined (rest p from) ≡ piece ++ joined (rest p next)) × Pieces p next more
-
--- The promise: all pieces together are the sheet.
-unfoldable pub Pieces-joined : Type 0
-Pieces-joined = (p : Finished) (pieces : List (List ℕ)) → Pieces p Start pieces → joined pieces ≡ joined (rest p Start)
