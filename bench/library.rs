@@ -1,84 +1,11 @@
-//! The library's functions, and the C and C++ ones of this folder.
+//! The library's functions on the benchmark's tables, and the C and C++ functions of this folder.
 
+use crate::abi::{self, Columns, Listed, PlanBuffers, Planned, Written};
 use crate::auction::Plan;
 use crate::tables::Table;
 use std::ffi::c_void;
 
-#[repr(C)]
-#[derive(Clone, Copy)]
-pub struct Planned {
-    pub number: u32,
-    pub place: u32,
-    pub reached: u32,
-    pub horizon: u64,
-    pub iterations: u64,
-    pub contractions: u64,
-    pub extensions: u64,
-    pub deletions: u64,
-}
-
-#[repr(C)]
-pub struct Listed {
-    pub number: u32,
-    pub place: u32,
-    pub count: u32,
-}
-
-#[repr(C)]
-pub struct TableRead {
-    pub number: u32,
-    pub place: u32,
-    pub n: u32,
-    pub origin: u16,
-    pub arcs: u32,
-    pub wanted: u32,
-}
-
-#[repr(C)]
-pub struct Written {
-    pub number: u32,
-    pub place: u32,
-    pub length: u32,
-}
-
 extern "C" {
-    fn kestrelore_plan_routes(
-        n: u32, origin: u16,
-        tails: *const u16, tails_count: usize,
-        heads: *const u16, heads_count: usize,
-        lengths: *const u32, lengths_count: usize,
-        wanted: *const u16, wanted_count: usize,
-        distances: *mut u64, distances_count: usize,
-        prices: *mut u64, prices_count: usize,
-        tree: *mut u16, tree_count: usize,
-        marks: *mut u8, marks_count: usize,
-    ) -> Planned;
-
-    fn kestrelore_list_path(
-        origin: u16, node: u16,
-        tails: *const u16, tails_count: usize,
-        heads: *const u16, heads_count: usize,
-        tree: *const u16, tree_count: usize,
-        output: *mut u16, output_count: usize,
-    ) -> Listed;
-
-    fn kestrelore_read_link_file(
-        file: *const u8, file_count: usize,
-        tails: *mut u16, tails_count: usize,
-        heads: *mut u16, heads_count: usize,
-        lengths: *mut u32, lengths_count: usize,
-        wanted: *mut u16, wanted_count: usize,
-    ) -> TableRead;
-
-    fn kestrelore_write_link_file(
-        n: u32, origin: u16,
-        tails: *const u16, tails_count: usize,
-        heads: *const u16, heads_count: usize,
-        lengths: *const u32, lengths_count: usize,
-        wanted: *const u16, wanted_count: usize,
-        output: *mut u8, output_count: usize,
-    ) -> Written;
-
     fn lemon_new(n: usize, m: usize, tails: *const u16, heads: *const u16, lengths: *const u32) -> *mut c_void;
     fn lemon_run(made: *mut c_void, target: usize);
     fn lemon_distance(made: *mut c_void, node: usize) -> u64;
@@ -97,59 +24,21 @@ pub fn nanoseconds() -> u64 {
     unsafe { thread_time() }
 }
 
-// Each call lends whole slices, by their own pointers and lengths, for the time of the call.
+fn columns(table: &Table) -> Columns<'_> {
+    Columns { tails: &table.tails, heads: &table.heads, lengths: &table.lengths }
+}
 
 pub fn plan(table: &Table, wanted: &[u16], out: &mut Plan) -> Planned {
-    unsafe {
-        kestrelore_plan_routes(
-            table.n as u32, 0,
-            table.tails.as_ptr(), table.tails.len(),
-            table.heads.as_ptr(), table.heads.len(),
-            table.lengths.as_ptr(), table.lengths.len(),
-            wanted.as_ptr(), wanted.len(),
-            out.distances.as_mut_ptr(), out.distances.len(),
-            out.prices.as_mut_ptr(), out.prices.len(),
-            out.tree.as_mut_ptr(), out.tree.len(),
-            out.marks.as_mut_ptr(), out.marks.len(),
-        )
-    }
+    let Plan { distances, prices, tree, marks, .. } = out;
+    abi::plan_routes(table.n as u32, 0, columns(table), wanted, PlanBuffers { distances, prices, tree, marks })
 }
 
 pub fn list(table: &Table, node: u16, tree: &[u16], output: &mut [u16]) -> Listed {
-    unsafe {
-        kestrelore_list_path(
-            0, node,
-            table.tails.as_ptr(), table.tails.len(),
-            table.heads.as_ptr(), table.heads.len(),
-            tree.as_ptr(), tree.len(),
-            output.as_mut_ptr(), output.len(),
-        )
-    }
-}
-
-pub fn read(file: &[u8], tails: &mut [u16], heads: &mut [u16], lengths: &mut [u32], wanted: &mut [u16]) -> TableRead {
-    unsafe {
-        kestrelore_read_link_file(
-            file.as_ptr(), file.len(),
-            tails.as_mut_ptr(), tails.len(),
-            heads.as_mut_ptr(), heads.len(),
-            lengths.as_mut_ptr(), lengths.len(),
-            wanted.as_mut_ptr(), wanted.len(),
-        )
-    }
+    abi::list_path(0, node, &table.tails, &table.heads, tree, output)
 }
 
 pub fn write(table: &Table, wanted: &[u16], output: &mut [u8]) -> Written {
-    unsafe {
-        kestrelore_write_link_file(
-            table.n as u32, 0,
-            table.tails.as_ptr(), table.tails.len(),
-            table.heads.as_ptr(), table.heads.len(),
-            table.lengths.as_ptr(), table.lengths.len(),
-            wanted.as_ptr(), wanted.len(),
-            output.as_mut_ptr(), output.len(),
-        )
-    }
+    abi::write_link_file(table.n as u32, 0, columns(table), wanted, output)
 }
 
 /// A graph of LEMON or Boost, made from a table.

@@ -2,6 +2,8 @@
 //!
 //!     kestrelore-bench PAGE PLOT DATE COMPILERS
 
+#[path = "../tests/abi.rs"]
+mod abi;
 mod auction;
 mod dijkstra;
 mod library;

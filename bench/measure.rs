@@ -1,5 +1,6 @@
 //! Times of the five planners on one table, and the stack that the library's calls need.
 
+use crate::abi::{self, ReadBuffers, LONGEST_FILE, MOST_ARCS, MOST_WANTED};
 use crate::auction::{self, Counts, Plan};
 use crate::dijkstra;
 use crate::library::{self, nanoseconds, Peer};
@@ -136,15 +137,19 @@ pub fn stack(table: &Table) -> Stack {
     let plan_stack = used_by(&mut || finish(library::plan(table, &wanted, &mut plan)));
     let last = wanted[wanted.len() - 1];
     let mut path = vec![0; table.n];
-    let mut file = vec![0; 56_055];
+    let mut file = vec![0; LONGEST_FILE];
     let length = library::write(table, &wanted, &mut file).length as usize;
     let written = file[..length].to_vec();
-    let (mut tails, mut heads, mut lengths) = (vec![0; 6_000], vec![0; 6_000], vec![0; 6_000]);
-    let mut nodes = vec![0; 1_024];
+    let (mut tails, mut heads, mut lengths) = (vec![0; MOST_ARCS], vec![0; MOST_ARCS], vec![0; MOST_ARCS]);
+    let mut nodes = vec![0; MOST_WANTED];
+    let mut read = || {
+        let out = ReadBuffers { tails: &mut tails, heads: &mut heads, lengths: &mut lengths, wanted: &mut nodes };
+        finish(abi::read_link_file(&written, out))
+    };
     Stack {
         plan: plan_stack,
         list: used_by(&mut || finish(library::list(table, last, &plan.tree, &mut path))),
-        read: used_by(&mut || finish(library::read(&written, &mut tails, &mut heads, &mut lengths, &mut nodes))),
+        read: used_by(&mut read),
         write: used_by(&mut || finish(library::write(table, &wanted, &mut file))),
     }
 }

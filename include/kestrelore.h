@@ -4,39 +4,21 @@
  * A table has n nodes, numbered from 0, and m arcs in three columns of equal length: the tail
  * and the head (node numbers) and the length of each arc. An arc's position counts from 0.
  *
- *   n                1 to 1,024
- *   arcs             0 to 6,000; parallel arcs and loops are allowed
+ *   n                1 to KESTRELORE_MOST_NODES
+ *   arcs             0 to KESTRELORE_MOST_ARCS; parallel arcs and loops are allowed
  *   length           1 to 4,294,967,295
- *   wanted nodes     0 to 1,024; repeats and the origin may stand among them
+ *   wanted nodes     0 to KESTRELORE_MOST_WANTED; repeats and the origin may stand among them
  *
  * Every function ends on every input. A list is a pointer and the number of its elements; the
  * pointer is not null and is aligned for its elements, also where the number is 0, and an output
  * list overlaps no other list of the call. Nothing outside the lists is written.
  *
- * Calls share nothing: there is no global state, no allocation and no call out of the library
- * (but memcpy, memmove, memset and memcmp, where the compiler puts them), so two threads may call
- * at once. Stack needed, measured on x86-64 (docs/PERFORMANCE.md): planning 44,072 bytes, each
- * other call less than 512.
+ * Calls share nothing: there is no global state, no allocation and no call out of the library but
+ * to memcpy and memset, so two threads may call at once. Stack needed, measured on x86-64
+ * (docs/PERFORMANCE.md): planning 44,072 bytes, each other call less than 512.
  *
- * Every answer starts with a number and a place. Number 0 is no refusal. The place is 0 where none
- * is named below. After every refusal but 8 the answer's other fields are 0 and every output list
- * is untouched; 8 fills the four lists of the plan and carries all counts.
- *
- *    1  n is 0 or above 1,024
- *    2  columns unequal, or more than 6,000 arcs; in a link file: record 6,001 begins (place 6000)
- *    3  an output list of the plan is not n or m long; a reader's list is too short
- *    4  the origin is not below n
- *    5  more than 1,024 wanted nodes (place 1024); a wanted node is not below n (its index);
- *       a node to list is not below n (place 0)
- *    6  an arc's tail or head is not below n (its position)
- *    7  an arc's length is 0 (its position)
- *    8  a wanted node has no walk from the origin (the first such index)
- *    9  the file is cut inside a field, or empty (the file's length)
- *   10  a bit map has one of bits 3 to 7, or a needed field is absent (the bit map's offset)
- *   11  an implied head is above 65535 (the record's offset)
- *   12  a field is present that says what its absence would say (the offset of its bit map)
- *   13  the output list is too short
- *   14  the tree column does not lead back to the origin
+ * Every answer starts with a number and a place: kestrelore_refusal lists them. docs/RULES.md has
+ * the rules of planning, the file format with an example byte by byte, and the order of the tests.
  */
 #ifndef KESTRELORE_H
 #define KESTRELORE_H
@@ -48,11 +30,47 @@
 extern "C" {
 #endif
 
+#define KESTRELORE_VERSION "0.1.0"
+
+/* The most nodes, arcs and wanted nodes of a table, and the bytes of the longest link file. */
+#define KESTRELORE_MOST_NODES 1024
+#define KESTRELORE_MOST_ARCS 6000
+#define KESTRELORE_MOST_WANTED 1024
+#define KESTRELORE_LONGEST_FILE 56055
+
 /* The entry of a tree column at the origin and at nodes that were not reached. */
 #define KESTRELORE_NO_ARC UINT16_C(65535)
 
 /* The distance of nodes that were not reached. */
 #define KESTRELORE_NO_DISTANCE UINT64_C(18446744073709551615)
+
+/*
+ * The number of an answer, and what its place says; the place is 0 where none is named. After every
+ * refusal but KESTRELORE_NO_ROUTE the answer's other fields are 0 and every output list is
+ * untouched; KESTRELORE_NO_ROUTE fills the four lists of the plan and carries all counts.
+ */
+typedef enum kestrelore_refusal {
+    KESTRELORE_NONE = 0,          /* no refusal */
+    KESTRELORE_NODE_COUNT = 1,    /* n is 0 or above 1,024 */
+    KESTRELORE_COLUMNS = 2,       /* columns unequal, or more than 6,000 arcs; in a link file: record
+                                     6,001 begins (place 6000) */
+    KESTRELORE_BUFFERS = 3,       /* an output list of the plan is not n or m long; a reader's list is
+                                     too short */
+    KESTRELORE_ORIGIN = 4,        /* the origin is not below n */
+    KESTRELORE_WANTED = 5,        /* more than 1,024 wanted nodes (place 1024); a wanted node is not
+                                     below n (its index); a node to list is not below n (place 0) */
+    KESTRELORE_ARC_END = 6,       /* an arc's tail or head is not below n (its position) */
+    KESTRELORE_ARC_LENGTH = 7,    /* an arc's length is 0 (its position) */
+    KESTRELORE_NO_ROUTE = 8,      /* a wanted node has no walk from the origin (the first such index) */
+    KESTRELORE_CUT = 9,           /* the file is cut inside a field, or empty (the file's length) */
+    KESTRELORE_BIT_MAP = 10,      /* a bit map has one of bits 3 to 7, or a needed field is absent (the
+                                     bit map's offset) */
+    KESTRELORE_IMPLIED_HEAD = 11, /* an implied head is above 65535 (the record's offset) */
+    KESTRELORE_NEEDLESS = 12,     /* a field is present that says what its absence would say (the
+                                     offset of its bit map) */
+    KESTRELORE_ROOM = 13,         /* the output list is too short */
+    KESTRELORE_NO_PATH = 14       /* the tree column does not lead back to the origin */
+} kestrelore_refusal;
 
 /* What planning answers. */
 typedef struct kestrelore_planned {
@@ -145,8 +163,8 @@ kestrelore_table_read kestrelore_read_link_file(
 /*
  * Writes a link file, the only one that reads back as this table.
  *
- * The file stands at the start of output, the rest of which is untouched. 56,055 bytes are enough
- * for every table. Tested in the order 1, 2, 5 (the count only), 13.
+ * The file stands at the start of output, the rest of which is untouched. KESTRELORE_LONGEST_FILE
+ * bytes are enough for every table. Tested in the order 1, 2, 5 (the count only), 13.
  */
 kestrelore_written kestrelore_write_link_file(
     uint32_t n, uint16_t origin,

@@ -1,7 +1,9 @@
 //! Runs the product against an independent program written from 01.
 //!
 //!     kestrelore-tests PROGRAM [SEED]
+//!     kestrelore-tests --layout    prints what tests/layout.c prints
 
+mod abi;
 mod cases;
 mod compare;
 mod lent;
@@ -43,10 +45,14 @@ impl Tally {
 
 fn main() -> ExitCode {
     let words: Vec<String> = std::env::args().collect();
+    if words.get(1).map(String::as_str) == Some("--layout") {
+        print!("{}", abi::layout().expect("a string takes every text"));
+        return ExitCode::SUCCESS;
+    }
     let (program, seed) = match (words.get(1), words.get(2).map_or(Ok(1), |word| word.parse())) {
         (Some(program), Ok(seed)) => (program, seed),
         _ => {
-            eprintln!("usage: kestrelore-tests PROGRAM [SEED]");
+            eprintln!("usage: kestrelore-tests PROGRAM [SEED] | --layout");
             return ExitCode::from(2);
         }
     };
@@ -57,6 +63,7 @@ fn main() -> ExitCode {
         tally.run(group.name, seed, |random| (group.run)(&product, random));
     }
     tally.run("program: pipes, endless and unreadable input, unwritable output", seed, |_| cases::program::pipes(&product));
+    tally.run("the cases notice a program that a signal ends", seed, |_| wrong::signals_noticed());
     for fault in model::ALL_WRONG {
         tally.run(&format!("the cases notice a planner with the fault {fault:?}"), seed, |_| wrong::noticed(fault, seed));
     }

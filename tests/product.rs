@@ -3,107 +3,31 @@
 use crate::rules::*;
 use std::fs::File;
 use std::io::{Read, Write};
+use std::os::unix::process::ExitStatusExt;
 use std::path::PathBuf;
 use std::process::{Child, Command, ExitStatus, Stdio};
 use std::thread;
 use std::time::{Duration, Instant};
 
-extern "C" {
-    fn kestrelore_plan_routes(
-        n: u32, origin: u16,
-        tails: *const u16, tails_count: usize,
-        heads: *const u16, heads_count: usize,
-        lengths: *const u32, lengths_count: usize,
-        wanted: *const u16, wanted_count: usize,
-        distances: *mut u64, distances_count: usize,
-        prices: *mut u64, prices_count: usize,
-        tree: *mut u16, tree_count: usize,
-        marks: *mut u8, marks_count: usize,
-    ) -> Planned;
-
-    fn kestrelore_list_path(
-        origin: u16, node: u16,
-        tails: *const u16, tails_count: usize,
-        heads: *const u16, heads_count: usize,
-        tree: *const u16, tree_count: usize,
-        output: *mut u16, output_count: usize,
-    ) -> Listed;
-
-    fn kestrelore_read_link_file(
-        file: *const u8, file_count: usize,
-        tails: *mut u16, tails_count: usize,
-        heads: *mut u16, heads_count: usize,
-        lengths: *mut u32, lengths_count: usize,
-        wanted: *mut u16, wanted_count: usize,
-    ) -> TableRead;
-
-    fn kestrelore_write_link_file(
-        n: u32, origin: u16,
-        tails: *const u16, tails_count: usize,
-        heads: *const u16, heads_count: usize,
-        lengths: *const u32, lengths_count: usize,
-        wanted: *const u16, wanted_count: usize,
-        output: *mut u8, output_count: usize,
-    ) -> Written;
-}
-
 pub struct Product {
     pub program: PathBuf,
 }
 
-// Each call lends whole slices, by their own pointers and lengths, for the time of the call.
 impl Entries for Product {
     fn plan(&self, table: &Table, out: PlanBuffers) -> Planned {
-        unsafe {
-            kestrelore_plan_routes(
-                table.n, table.origin,
-                table.tails.as_ptr(), table.tails.len(),
-                table.heads.as_ptr(), table.heads.len(),
-                table.lengths.as_ptr(), table.lengths.len(),
-                table.wanted.as_ptr(), table.wanted.len(),
-                out.distances.as_mut_ptr(), out.distances.len(),
-                out.prices.as_mut_ptr(), out.prices.len(),
-                out.tree.as_mut_ptr(), out.tree.len(),
-                out.marks.as_mut_ptr(), out.marks.len(),
-            )
-        }
+        plan_routes(table.n, table.origin, table.columns(), &table.wanted, out)
     }
 
     fn list(&self, listing: &Listing, output: &mut [u16]) -> Listed {
-        unsafe {
-            kestrelore_list_path(
-                listing.origin, listing.node,
-                listing.tails.as_ptr(), listing.tails.len(),
-                listing.heads.as_ptr(), listing.heads.len(),
-                listing.tree.as_ptr(), listing.tree.len(),
-                output.as_mut_ptr(), output.len(),
-            )
-        }
+        list_path(listing.origin, listing.node, &listing.tails, &listing.heads, &listing.tree, output)
     }
 
     fn read(&self, file: &[u8], out: ReadBuffers) -> TableRead {
-        unsafe {
-            kestrelore_read_link_file(
-                file.as_ptr(), file.len(),
-                out.tails.as_mut_ptr(), out.tails.len(),
-                out.heads.as_mut_ptr(), out.heads.len(),
-                out.lengths.as_mut_ptr(), out.lengths.len(),
-                out.wanted.as_mut_ptr(), out.wanted.len(),
-            )
-        }
+        read_link_file(file, out)
     }
 
     fn write(&self, table: &Table, output: &mut [u8]) -> Written {
-        unsafe {
-            kestrelore_write_link_file(
-                table.n, table.origin,
-                table.tails.as_ptr(), table.tails.len(),
-                table.heads.as_ptr(), table.heads.len(),
-                table.lengths.as_ptr(), table.lengths.len(),
-                table.wanted.as_ptr(), table.wanted.len(),
-                output.as_mut_ptr(), output.len(),
-            )
-        }
+        write_link_file(table.n, table.origin, table.columns(), &table.wanted, output)
     }
 
     fn print(&self, file: &[u8]) -> Result<String, String> {
@@ -118,6 +42,9 @@ pub enum Unread {
     Abandoned,
     Full,
 }
+
+/// The signal of a write to a pipe that nobody reads.
+const SIGPIPE: i32 = 13;
 
 /// A program that runs longer than this hangs.
 const PATIENCE: Duration = Duration::from_secs(60);
@@ -140,7 +67,7 @@ impl Product {
         finish(self.start(Stdio::from(input))?)
     }
 
-    /// Runs the program with an output that takes nothing, or without one; it must end.
+    /// Runs the program with an output that takes nothing, or without one; it must end, and by no signal but SIGPIPE.
     pub fn end_unread(&self, input: &[u8], output: Unread) -> Result<(), String> {
         let mut command = Command::new("sh");
         command.args(["-c", if output == Unread::Closed { "exec \"$0\" >&-" } else { "exec \"$0\"" }]);
@@ -155,7 +82,10 @@ impl Product {
         // The program may end before it has read everything.
         let _ = pipe.write_all(input);
         drop(pipe);
-        wait(&mut child).map(|_| ())
+        match wait(&mut child)?.signal() {
+            None | Some(SIGPIPE) => Ok(()),
+            Some(signal) => Err(format!("the program was ended by signal {signal}")),
+        }
     }
 
     fn start(&self, input: Stdio) -> Result<Child, String> {

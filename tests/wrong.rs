@@ -1,11 +1,14 @@
 //! Tests that cannot fail are worth nothing: the cases must notice each fault built into the model.
 
 use crate::cases::{self, Tried};
+use crate::product::{Product, Unread};
 use crate::compare::plan_filled;
 use crate::model::{Model, Wrong, RIGHT};
 use crate::optimality;
 use crate::random::Random;
 use crate::shapes::{self, SHAPES};
+use std::fs;
+use std::os::unix::fs::PermissionsExt;
 
 /// Runs the groups on the faulty model until one fails that the right model passes.
 pub fn noticed(fault: Wrong, seed: u64) -> Tried {
@@ -41,4 +44,25 @@ pub fn noticed_by_optimality(fault: Wrong, random: &mut Random) -> Tried {
         }
     }
     Err("the optimality check accepts it".to_string())
+}
+
+/// A program that a signal ends, beside the tests' own.
+fn dies_by(signal: &str) -> std::io::Result<Product> {
+    let program = std::env::current_exe()?.with_file_name(format!("dies-by-{signal}"));
+    fs::write(&program, format!("#!/bin/sh\nkill -{signal} $$\n"))?;
+    fs::set_permissions(&program, fs::Permissions::from_mode(0o755))?;
+    Ok(Product { program })
+}
+
+/// On an output that cannot be written a program may end by SIGPIPE, and by no other signal.
+pub fn signals_noticed() -> Tried {
+    for output in [Unread::Closed, Unread::Abandoned, Unread::Full] {
+        for (signal, right) in [("PIPE", true), ("SEGV", false), ("ABRT", false), ("TERM", false)] {
+            let product = dies_by(signal).map_err(|error| error.to_string())?;
+            if product.end_unread(&[], output).is_ok() != right {
+                return Err(format!("output {output:?}: a program that SIG{signal} ends is judged wrongly"));
+            }
+        }
+    }
+    Ok(12)
 }
