@@ -13,22 +13,28 @@ use Rattle.solver.specs.declared.run.RunEnd.{RunEnd}
 use Rattle.solver.specs.Seen.{seen}
 use Rattle.solver.specs.Steps.{Ran}
 
--- the two arrays are as long as each other, and every reached node has a distance
+-- the bounds and the statuses are those of a run that has ended
 pub record Known (bound status : List ℕ) : Type 0 where
+  -- the two arrays are as long as each other
   pub as-long : length bound ≡ length status
+  -- every reached node has a distance
   pub has-distance : (v : ℕ) → 0 < getD status v 0 → getD bound v 0 ≡ no-distance → ⊥
 
--- the ends of every arc are nodes
+-- the arcs' ends can be looked up
 pub record Arc-ends (tails heads kept status : List ℕ) : Type 0 where
+  -- an arc has a tail and a head, a node a kept arc and a status
   pub tail-count : length tails ≡ length heads
   pub kept-count : length kept ≡ length status
+  -- the ends of every arc are nodes
   pub head-in : (i : ℕ) → i < length heads → getD heads i 0 < length status
   pub tail-in : (i : ℕ) → i < length heads → getD tails i 0 < length status
 
--- the buffers have the room that they need, for few nodes and few arcs
+-- the buffers fit n nodes and m arcs
 pub record Fitting (n m : ℕ) (distances prices tree marks : List ℕ) : Type 0 where
+  -- within the limits
   pub few-nodes : n ≤ most-nodes
   pub few-arcs : m ≤ most-arcs
+  -- an entry for each node, a mark for each arc
   pub distances-long : length distances ≡ n
   pub prices-long : length prices ≡ n
   pub tree-long : length tree ≡ n
@@ -36,7 +42,9 @@ pub record Fitting (n m : ℕ) (distances prices tree marks : List ℕ) : Type 0
 
 -- the columns hold the ends of a table's arcs
 pub record Ends-held (t : Table) (tails heads : List ℕ) : Type 0 where
+  -- they are as long as the table
   pub count : arc-count t ≡ length heads
+  -- and hold its arcs' heads and tails
   pub head : (i : ℕ) → i < arc-count t → head-at t i ≡ getD heads i 0
   pub tail : (i : ℕ) → i < arc-count t → tail-at t i ≡ getD tails i 0
 

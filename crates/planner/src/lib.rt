@@ -133,7 +133,7 @@ fn plan_table(
 }
 
 // Plans the routes of a link table from its origin to the wanted nodes: the answer, and a distance, a price and a tree arc for each
-// node and a mark for each arc in the four buffers. specs/Plan.antt says what they hold, for every input.
+// node and a mark for each arc in the four buffers. The plan of crates/auction/specs/Plan.antt says what they hold, for every input.
 pub fn plan_routes(
     n: u32,
     origin: u16,

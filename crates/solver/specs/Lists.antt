@@ -15,14 +15,20 @@ next-out (suc k) i t v = cond (eqb (tail-at t i) v) i (next-out k (suc i) t v)
 
 -- the column holds the tails of the table
 pub record Tails (t : Table) (tails : List ℕ) : Type 0 where
+  -- it is as long as the table
   pub count : length tails ≡ arc-count t
+  -- and each entry is the tail of the arc at that position
   pub tail : (i : ℕ) → i < arc-count t → getD tails i 0 ≡ tail-at t i
 
 -- `first` gives for each node, and `next` for each arc, the position of the next arc with the same tail
 pub record Linked (t : Table) (first next : List ℕ) : Type 0 where
+  -- an entry for each node
   pub first-count : length first ≡ t .n
+  -- an entry for each arc
   pub next-count : length next ≡ arc-count t
+  -- a node's first outgoing arc
   pub first-arc : (v : ℕ) → v < t .n → getD first v 0 ≡ next-out (arc-count t) 0 t v
+  -- the next arc that leaves the same node
   pub next-arc : (i : ℕ) → i < arc-count t → getD next i 0 ≡ next-out (arc-count t - suc i) (suc i) t (tail-at t i)
 
 -- THE FORWARD STAR, which is all that an iteration sees of a table: the heads and the lengths of the arcs, and the lists of outgoing arcs
@@ -38,15 +44,21 @@ star hs ls first next = record { heads = hs; lengths = ls; first = first; next =
 abbrev pub lent-star : (heads lengths first next : Slice) → Star
 lent-star hs ls first next = star (was hs) (was ls) (was first) (was next)
 
--- it is that of a table whose arcs lead to its nodes
+-- it is that of a table
 pub record Outgoing (t : Table) (o : Star) : Type 0 where
+  -- of few arcs, so that no position stands for no arc
   pub few : arc-count t ≤ most-arcs
+  -- each arc has a head and a length in the columns
   pub head-count : length (o .heads) ≡ arc-count t
   pub length-count : length (o .lengths) ≡ arc-count t
+  -- which are the table's
   pub head : (i : ℕ) → i < arc-count t → getD (o .heads) i 0 ≡ head-at t i
-  pub head-in : (i : ℕ) → i < arc-count t → head-at t i < t .n
   pub arc-length : (i : ℕ) → i < arc-count t → getD (o .lengths) i 0 ≡ length-at t i
+  -- each arc leads to a node
+  pub head-in : (i : ℕ) → i < arc-count t → head-at t i < t .n
+  -- the arcs out of each node are linked
   pub linked : Linked t (o .first) (o .next)
 
+-- it is that of some table
 unfoldable pub Some-table : Star → Type 0
 Some-table o = (t : Table) × Outgoing t o

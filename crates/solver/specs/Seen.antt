@@ -27,7 +27,7 @@ unfoldable pub nodes-of : (depth : ℕ) → (path : List ℕ) → List ℕ
 nodes-of zero p = []
 nodes-of (suc k) p = getD p k 0 ∷ nodes-of k p
 
--- the state that the arrays and the progress hold
+-- THE STATE that the arrays and the progress hold
 unfoldable pub seen : (path price bound kept status : List ℕ) → Progress → State
 seen p u b k s g =
     state (nodes-of (g .depth) p) u (map bound-of b) (map arc-of k) s (g .contractions) (g .extensions) (g .deletions)
@@ -47,7 +47,7 @@ back p u b k s g = arrays (left p) (left u) (left b) (left k) (left s) g
 abbrev pub first-of : (n : ℕ) → RunState → RunState
 first-of n a = arrays (take n (a .path)) (take n (a .price)) (take n (a .bound)) (take n (a .kept)) (take n (a .status)) (a .progress)
 
--- the state that they hold
+-- the state that they hold, which is `seen` of each
 abbrev pub held : RunState → State
 held a = seen (a .path) (a .price) (a .bound) (a .kept) (a .status) (a .progress)
 

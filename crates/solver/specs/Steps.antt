@@ -19,11 +19,13 @@ use Rattle.solver.specs.Lists.{Star, Outgoing}
 abbrev pub Becomes : (o : Star) → (f : Table → State → State) → (a b : RunState) → Type 0
 Becomes o f a b = (t : Table) → Outgoing t o → held b ≡ f t (held a)
 
--- One arc has been offered to its head: the state is the one that `offer` gives, and no bound of a reached node has changed.
+-- One arc, whose head and the bound that it offers are given, has been offered to its head.
 pub record Arc-offered (head position bound : ℕ) (bounds kept status bounds′ kept′ : List ℕ) : Type 0 where
+  -- the state is the one that `offer` gives, in each table that has such an arc there
   pub as-defined : (t : Table) (v : ℕ) (path price : List ℕ) (g : Progress) → tail-at t position ≡ v → head-at t position ≡ head →
       distance (seen path price bounds kept status g) v + length-at t position ≡ bound →
       seen path price bounds′ kept′ status g ≡ offer t v position (seen path price bounds kept status g)
+  -- no distance of a reached node has changed
   pub fixed : (v : ℕ) → 0 < getD status v 0 → getD bounds′ v 0 ≡ getD bounds v 0
 
 -- the lower of two bids, the first where they are equal
@@ -43,39 +45,50 @@ bid-over t i x = with-bid (to-child t (tail-at t i) i x) (bid (length-at t i + p
 abbrev pub Leads : (heads : List ℕ) → (arc child : ℕ) → Type 0
 Leads hs arc child = (arc ≡ no-arc → ⊥) → child ≡ getD hs arc 0
 
--- What an iteration at node v may rely on: it is no stop, since the origin has a child; the arc of the least bid is listed and its head has a bound;
--- and where the path is to be extended there is room for one node more.
+-- What an iteration at node v may rely on, whose least bid is `value` over `arc`
 pub record Can-step (v origin value arc depth : ℕ) (heads path price bound : List ℕ) : Type 0 where
+  -- it is no stop: the origin has a child
   pub no-stop : arc ≡ no-arc → v ≡ origin → ⊥
+  -- the arc of the least bid is an arc of the table
   pub listed : (arc ≡ no-arc → ⊥) → arc < length heads
+  -- where the path is to be extended there is room for one node more
   pub room : (arc ≡ no-arc → ⊥) → value ≤ getD price v 0 → depth < length path
+  -- the child has a bound
   pub bounded : (arc ≡ no-arc → ⊥) → getD bound (getD heads arc 0) 0 ≤ greatest-sum
 
 -- AN ITERATION at node v, whose least bid is given: the arrays hold the next state.
 abbrev pub Steps : (v origin : ℕ) → LeastBid → Star → (a b : RunState) → Type 0
 Steps v origin least o a b = (t : Table) → Outgoing t o → t .origin ≡ origin → iteration (bid-in least) t v (held a) ≡ some (held b)
 
--- The arrays hold a state that each table has, the fresh one or the start, for a table and a wanted list that are not refused.
+-- A run begins: at the state that `from` gives each table, the fresh one or the start
 pub record Begun (from : Table → State) (t : Table) (ws : List ℕ) (origin : ℕ) (o : Star) (x : State) : Type 0 where
+  -- the forward star and the origin are the table's
   pub listed : Outgoing t o
   pub origin-is : t .origin ≡ origin
+  -- the table and the wanted list are not refused
   pub good : is-table t ws ≡ true
+  -- and that is the state
   pub begun : x ≡ from t
 
--- The run has ended in the auction's last state: every wanted node has been reached exactly where none is missing, and the first missing one is known.
--- Every reached node has a distance, and the iterations are few.
+-- THE RUN HAS ENDED; `missing` is the index of the first wanted node that was not reached, or their number where all were
 pub record Ran (t : Table) (ws : List ℕ) (missing : ℕ) (x : State) : Type 0 where
+  -- in the auction's last state, with routes to all exactly where none is missing
   pub ended-so : auction t ws ≡ ended (eqb missing (length ws)) x
+  -- the index is the first missing node's
   pub first-so : missing ≡ first-missing 0 ws x
   pub inside : missing ≤ length ws
+  -- every reached node has a distance
   pub bounded : (v : ℕ) → was-reached x v ≡ true → bound-at x v ≡ none → ⊥
+  -- the iterations are few
   pub few : iterations x < too-many
 
 -- A RUN from the fresh state or the start: in each table in which the arrays hold that, it ends in the auction's last state.
 abbrev pub Runs : (from : Table → State) → (ws : List ℕ) → (origin : ℕ) → Star → (a b : RunState) → (missing : ℕ) → Type 0
 Runs from ws origin o a b missing = (t : Table) → Begun from t ws origin o (held a) → Ran t ws missing (held b)
 
--- The index of the first wanted node, from an index on, that has not been reached.
+-- The index of the first wanted node, from an index on, that has not been reached
 pub record First-from (from : ℕ) (ws status : List ℕ) (r : ℕ) : Type 0 where
+  -- or the number of wanted nodes where there is none
   pub low : r ≤ length ws
+  -- as the definition finds it in every state with these statuses
   pub first : (x : State) → x .status ≡ status → r ≡ first-missing from (drop from ws) x

@@ -7,7 +7,7 @@ use Prim.Native.Nat.{ℕ, _≤_, _<_}
 use native.Mathlib.Omega.{arith}
 use lib.ListN.{length, getD, take, replicate, length-replicate, length-append}
 use lib.Seq.{getD-set-same, take-at}
-use Rattle.table.specs.Table.{Table, table-of, is-table}
+use Rattle.table.specs.Table.{Table, table-of, is-table, most-nodes, most-arcs}
 use Rattle.auction.specs.Auction.{State, state, bound-at, reach, fresh, start}
 use Rattle.auction.proofs.Good.{good}
 use Rattle.solver.specs.declared.state.Progress.{Progress}
@@ -54,10 +54,10 @@ module _ (n o : ℕ) (ts hs ls ws : List ℕ) (eh : length hs ≡ length ts) (el
         tail = λ i h. sym (tail-so n o ts hs ls eh el i (omega (arith, count-so n o ts hs ls eh el)));
       }
 
-  pub few-tails : length ts ≤ 6000
+  pub few-tails : length ts ≤ most-arcs
   few-tails = omega (arith, count-so n o ts hs ls eh el, good _ ws ok .few-arcs)
 
-  pub few-nodes : n ≤ 1024
+  pub few-nodes : n ≤ most-nodes
   few-nodes = omega (arith, nodes-so n o ts hs ls eh el, good _ ws ok .few-nodes)
 
   pub tails-below : (i : ℕ) → i < length ts → getD ts i 0 < n

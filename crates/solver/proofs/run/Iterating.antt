@@ -18,7 +18,7 @@ use Rattle.auction.proofs.Steps.Effects.{reached-status, status-reached, known-
 use Rattle.auction.proofs.Steps.Bids.{best-bid}
 use Rattle.auction.proofs.Run.{Running, begins, goes-on, done, stuck, stepped}
 use Rattle.solver.specs.declared.state.Progress.{Progress}
-use Rattle.solver.specs.Seen.{bound-of, bid-of, seen, Sized, greatest-sum}
+use Rattle.solver.specs.Seen.{bound-of, bid-of, seen, Sized, greatest-sum, too-many}
 use Rattle.solver.specs.Lists.{star, Outgoing}
 use Rattle.solver.specs.Steps.{Can-step, Begun, Ran, First-from}
 use Rattle.solver.proofs.Arrays.{seen-price, seen-bound, some-bid, some-bound, no-bound}
@@ -26,11 +26,11 @@ use Rattle.solver.proofs.steps.Stepping.{last-entry, as-many, is-extens
 use Rattle.solver.proofs.run.Wanted.{some-missing, none-missing, jump}
 
 -- the bound in numbers
-pub few-in-all : (n : ℕ) → n ≤ most-nodes → most-iterations n < 4294967296
+pub few-in-all : (n : ℕ) → n ≤ most-nodes → most-iterations n < too-many
 unfolding most-iterations
 few-in-all n h =
-    let a : n * n ≤ n * 1024 = mul-le-mul-left n h in
-    let b : n * n * n ≤ n * n * 1024 = mul-le-mul-left (n * n) h in
+    let a : n * n ≤ n * most-nodes = mul-le-mul-left n h in
+    let b : n * n * n ≤ n * n * most-nodes = mul-le-mul-left (n * n) h in
     omega arith
 
 -- an extension puts the child on the path
@@ -221,7 +221,7 @@ module _ {ws : List ℕ} {o : ℕ} {hs ls first nexts : List ℕ} where
         let e = next-is p u b k s g r v o value arc (now-ready t bg .terminal-is ∙ sym ev) (bg .origin-is) (bids t (bg .listed)) ∙ steps t (bg .listed) (bg .origin-is) in
         goes-on r (seen p′ u′ b′ k′ s′ g′) (still-missing h t bg) e .1
 
-    counted-so : (t : Table) (bg : Begun start t ws o (star hs ls first nexts) x₀) → iterations (seen p u b k s g) < 4294967296
+    counted-so : (t : Table) (bg : Begun start t ws o (star hs ls first nexts) x₀) → iterations (seen p u b k s g) < too-many
     counted-so t bg = omega (arith, i .round t bg .running .few, few-in-all (t .n) (i .round t bg .running .good .few-nodes))
 
     bounded-so : (t : Table) (bg : Begun start t ws o (star hs ls first nexts) x₀) (v : ℕ) → was-reached (seen p u b k s g) v ≡ true →

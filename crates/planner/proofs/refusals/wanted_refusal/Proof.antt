@@ -16,6 +16,18 @@ Inv-loop n wanted i₀ i = (length wanted ≤ most-wanted) × (i ≤ length want
 abbrev μ-loop : tie.MeasureT-loop
 μ-loop n wanted i₀ i = length wanted - i
 
+-- THE PLACES on the way, each named from the one after it: at the loop's head; where a wanted node is read.
+module _ (c : tie.At-loop Inv-loop μ-loop) where
+  abbrev start : tie.Start Inv-loop μ-loop
+  start = c .before .before .before
+
+module _ (c : tie.After-wide Inv-loop μ-loop) where
+  abbrev within : tie.In-loop Inv-loop μ-loop
+  within = c .before .before
+
+  abbrev head : tie.At-loop Inv-loop μ-loop
+  head = within .before
+
 place-requires : tie.Need-place-requires Inv-loop μ-loop
 place-requires c κs = omega arith
 
@@ -42,10 +54,11 @@ place-requires-2 c κs = omega arith
 returns-2 : tie.Need-returns-2 Inv-loop μ-loop
 unfolding refusal
 returns-2 c =
-    let a = c .before .before .before .before .before .before .before .before .args in
-    let i = c .before .before .before .before .before .loop .i in
-    wanted-bad (a .n) (a .wanted .now) i (c .place2 .result) (c .place2 .ensures) (c .before .before .before .before .loop-test .taken) (omega (arith, c .before .before .wide .ensures .0, c .before .if2 .taken))
-    ∙ c .before .before .before .before .before .loop .inv .2
+    let w = c .before .before in
+    let h = head w in
+    let a = start h .args in
+    wanted-bad (a .n) (a .wanted .now) (h .loop .i) (c .place2 .result) (c .place2 .ensures) (within w .loop-test .taken) (omega (arith, w .wide .ensures .0, c .before .if2 .taken))
+    ∙ h .loop .inv .2
 
 add-i : tie.Need-add-i Inv-loop μ-loop
 add-i c = search needs
@@ -55,11 +68,12 @@ loop-less c = omega arith
 
 loop-again : tie.Need-loop-again Inv-loop μ-loop
 loop-again c =
-    let a = c .before .before .before .before .before .before .before .args in
-    let l = c .before .before .before .before .loop in (
-      l .inv .0,
+    let w = c .before in
+    let h = head w in
+    let a = start h .args in (
+      h .loop .inv .0,
       omega arith,
-      wanted-good (a .n) (a .wanted .now) (l .i) (c .before .before .before .loop-test .taken) (omega (arith, c .before .wide .ensures .0, c .if2 .left)) ∙ l .inv .2,
+      wanted-good (a .n) (a .wanted .now) (h .loop .i) (within w .loop-test .taken) (omega (arith, w .wide .ensures .0, c .if2 .left)) ∙ h .loop .inv .2,
     )
 
 none-requires : tie.Need-none-requires Inv-loop μ-loop
@@ -67,8 +81,9 @@ none-requires c κs = search needs
 
 returns-3 : tie.Need-returns-3 Inv-loop μ-loop
 returns-3 c =
-    let a = c .before .before .before .before .before .args in
-    c .none .ensures ∙ wanted-done (a .n) (a .wanted .now) (c .before .before .loop .i) (c .before .loop-test .left) ∙ c .before .before .loop .inv .2
+    let h = c .before .before in
+    let a = start h .args in
+    c .none .ensures ∙ wanted-done (a .n) (a .wanted .now) (h .loop .i) (c .before .loop-test .left) ∙ h .loop .inv .2
 
 pub wanted-refusal-spec : {M : Type 1} → statement M
 wanted-refusal-spec =

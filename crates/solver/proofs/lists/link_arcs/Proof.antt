@@ -1,7 +1,8 @@
 -- The arcs from p on are linked; p falls to 0. Assumes nothing.
-use Prim.Native.Nat.{_-_}
+use Prim.Native.Nat.{_-_, _<_}
 use borrow.Author.Needs.{needs}
 use native.Mathlib.Omega.{arith}
+use lib.ListN.{length}
 use Rattle.solver.proofs.lists.Linking.{Linking, begins, goes-on, ends}
 use Rattle.solver.proofs.lists.link_arcs.Statement.{statement}
 use Rattle.solver.proofs.lists.link_arcs.Tie as tie
@@ -11,6 +12,23 @@ Inv-loop tails first₀ next₀ p₀ first next p = Linking tails first₀ first
 
 abbrev μ-loop : tie.MeasureT-loop
 μ-loop tails first₀ next₀ p₀ first next p = p
+
+-- THE PLACES on the way, each named from the one after it: at the loop's head; where the arc's tail is read.
+module _ (c : tie.At-loop Inv-loop μ-loop) where
+  abbrev start : tie.Start Inv-loop μ-loop
+  start = c .before .before .before .before
+
+module _ (c : tie.After-wide Inv-loop μ-loop) where
+  abbrev within : tie.In-loop Inv-loop μ-loop
+  within = c .before .before
+
+  abbrev head : tie.At-loop Inv-loop μ-loop
+  head = within .before
+
+  tail-in : c .wide .result < length (head .loop .first)
+  tail-in =
+      let i = head .loop .inv in
+      omega (arith, i .low, i .first-long, c .wide .ensures .0, start head .pre .1 .0 (head .loop .p - 1) (omega (arith, i .low)))
 
 loop-holds : tie.Need-loop-holds Inv-loop μ-loop
 loop-holds c = begins (c .before .before .before .pre .0 .0) (c .before .before .before .pre .1 .1)
@@ -31,32 +49,30 @@ mul-next : tie.Need-mul-next Inv-loop μ-loop
 mul-next c = search needs
 
 slice-read-next : tie.Need-slice-read-next Inv-loop μ-loop
-slice-read-next c =
-    let l = c .before .before .before .before .loop in
-    omega (arith, l .inv .low, l .inv .first-long, c .before .wide .ensures .0, c .before .before .before .before .before .before .before .before .pre .1 .0 (l .p - 1) (omega (arith, l .inv .low)))
+slice-read-next c = tail-in (c .before)
 
 mul-next-2 : tie.Need-mul-next-2 Inv-loop μ-loop
 mul-next-2 c = search needs
 
 slice-write-next : tie.Need-slice-write-next Inv-loop μ-loop
-slice-write-next c = omega (arith, c .before .before .before .before .loop .inv .low, c .before .before .before .before .loop .inv .next-long)
+slice-write-next c = let i = head (c .before) .loop .inv in omega (arith, i .low, i .next-long)
 
 narrow-requires : tie.Need-narrow-requires Inv-loop μ-loop
-narrow-requires c κs = omega (arith, c .before .before .before .before .loop .inv .low, c .before .before .before .before .before .before .before .before .pre .0 .1)
+narrow-requires c κs = let h = head (c .before) in omega (arith, h .loop .inv .low, start h .pre .0 .1)
 
 mul-first : tie.Need-mul-first Inv-loop μ-loop
 mul-first c = search needs
 
 slice-write-first : tie.Need-slice-write-first Inv-loop μ-loop
-slice-write-first c =
-    let l = c .before .before .before .before .before .loop in
-    omega (arith, l .inv .low, l .inv .first-long, c .before .before .wide .ensures .0, c .before .before .before .before .before .before .before .before .before .pre .1 .0 (l .p - 1) (omega (arith, l .inv .low)))
+slice-write-first c = tail-in (c .before .before)
 
 loop-less : tie.Need-loop-less Inv-loop μ-loop
 loop-less c = omega arith
 
 loop-again : tie.Need-loop-again Inv-loop μ-loop
-loop-again c = goes-on (c .before .before .wide .result) (c .narrow .result) (c .before .before .before .before .before .loop .inv) (c .before .before .before .before .loop-test .taken) (c .before .before .wide .ensures .0) (c .narrow .ensures) (c .before .before .before .before .before .before .before .before .before .pre .1 .0)
+loop-again c =
+    let w = c .before .before in
+    goes-on (w .wide .result) (c .narrow .result) (head w .loop .inv) (within w .loop-test .taken) (w .wide .ensures .0) (c .narrow .ensures) (start (head w) .pre .1 .0)
 
 same-length : tie.Need-same-length Inv-loop μ-loop
 same-length c = c .before .loop .inv .first-long

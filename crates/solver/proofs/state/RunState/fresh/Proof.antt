@@ -2,7 +2,7 @@
 use mathlib.Core.Path.{refl}
 use Prim.Native.Nat.{ℕ}
 use lib.ListN.{length-replicate}
-use Rattle.table.specs.Table.{no-arc, no-distance}
+use Rattle.table.specs.Table.{no-arc, no-distance, most-nodes}
 use Rattle.solver.proofs.Arrays.{fresh-seen, stored-long}
 use borrow.Author.Needs.{needs}
 use Rattle.solver.proofs.state.RunState.fresh.Statement.{statement}
@@ -22,14 +22,14 @@ array-write-bound c = search needs
 
 returns : tie.Need-returns
 returns c = (
-  λ t eo h l. fresh-seen 1024 t (c .before .args .origin) (c .wide .result) _ (c .wide .ensures .0) eo h l refl refl refl refl,
+  λ t eo h l. fresh-seen most-nodes t (c .before .args .origin) (c .wide .result) _ (c .wide .ensures .0) eo h l refl refl refl refl,
   (
-    stored-long 1024 0 0 (c .before .args .origin),
+    stored-long most-nodes 0 0 (c .before .args .origin),
     record {
-      prices = length-replicate {A = ℕ} 1024 0;
-      bounds = stored-long 1024 no-distance (c .wide .result) 0;
-      kepts = length-replicate {A = ℕ} 1024 no-arc;
-      statuses = length-replicate {A = ℕ} 1024 0;
+      prices = length-replicate {A = ℕ} most-nodes 0;
+      bounds = stored-long most-nodes no-distance (c .wide .result) 0;
+      kepts = length-replicate {A = ℕ} most-nodes no-arc;
+      statuses = length-replicate {A = ℕ} most-nodes 0;
     },
   ),
 )
