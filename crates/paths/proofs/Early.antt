@@ -1,6 +1,6 @@
 -- The refusals 1, 2, 4 and 5: what holds where none applies. Assumes nothing.
 use mathlib.Core.Path.{_≡_, refl}
-use mathlib.Core.Bool.{true, false, _&&_, _||_, not}
+use mathlib.Core.Bool.{false, _&&_, _||_, not}
 use Prim.Native.Nat.{ℕ, _≤_, _<_}
 use native.Mathlib.Omega.{arith}
 use lib.Dec.{ltb, leb, eqb}

@@ -5,7 +5,7 @@ use mathlib.Core.List.{List, [], _∷_}
 use Prim.Native.Nat.{ℕ, zero, suc, _<_}
 use native.Mathlib.Omega.{arith}
 use lib.ListN.{length, getD}
-use Rattle.table.specs.Table.{Table, Arc, arc, table, table-of, arcs-of, is-table, arc-count, arc-at, tail-at, head-at, is-walk, no-arc, most-nodes, most-arcs}
+use Rattle.table.specs.Table.{Table, Arc, arc, table, table-of, arcs-of, is-table, arc-count, arc-at, tail-at, head-at, is-walk, no-arc}
 use Rattle.auction.specs.HandOver.{returned}
 use Rattle.auction.proofs.Good.{good}
 use Rattle.paths.specs.Listing.{Tree, tree-in, path, nodes-of, early-of, listed}

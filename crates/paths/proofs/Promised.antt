@@ -1,6 +1,5 @@
 -- The promises of specs/Promises.antt, each proved under its own name in small letters. Assumes nothing.
-use mathlib.Core.Path.{_≡_, sym, subst}
-use mathlib.Core.List.{List}
+use mathlib.Core.Path.{sym, subst}
 use Rattle.table.specs.Table.{table, table-of, is-walk}
 use Rattle.auction.specs.HandOver.{Answer, handed-over, tree}
 use Rattle.auction.specs.Plan.{routes-of}

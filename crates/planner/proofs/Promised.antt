@@ -12,20 +12,20 @@ use Rattle.auction.specs.HandOver.{Answer, handed-over, route-refusal}
 use Rattle.auction.specs.Demands.{Demands, Demands-met}
 use Rattle.table.proofs.Basics.{true-or}
 use Rattle.auction.proofs.Demanded.{demands-met}
+use Rattle.auction.proofs.Made.{made}
 use Rattle.auction.specs.Plan.{plan-refusal, plan, routes-of, refused-plan}
 use Rattle.planner.specs.Plan.{answered}
 use Rattle.planner.specs.Promise.{Plans-kept, Refusals-touch-nothing}
-use Rattle.planner.proofs.Planning.{of-the-auction}
 
 pub plans-kept : Plans-kept
 unfolding Plans-kept Demands-met answered routes-of
 plans-kept n o ts hs ls ws ds ps tr ms ds′ ps′ tr′ ms′ r fits e number =
     let t = table-of n o ts hs ls in
     let same : plan n o ts hs ls ws ds ps tr ms .number ≡ r .number = ap (λ (a : Answer). a .number) (sym e) in
-    let q =
-    of-the-auction n o ts hs ls ws ds ps tr ms fits
+    let m =
+    made n o ts hs ls ws ds ps tr ms fits
     (⊎-elim (λ (z : r .number ≡ 0). inl (same ∙ z)) (λ (z : r .number ≡ 8). inr (same ∙ z)) number) in
-    subst (λ (a : Answer). Demands t ws a) (sym (e ∙ q .1)) (demands-met t ws (q .0))
+    subst (λ (a : Answer). Demands t ws a) (sym (e ∙ m .routes)) (demands-met t ws (m .fine .table-good))
 
 -- a table that is not refused gives number 0 or 8
 route-number : (t : Table) (ws : List ℕ) → (routes-of t ws .number ≡ 0) ⊎ (routes-of t ws .number ≡ 8)

@@ -5,7 +5,7 @@ use mathlib.Core.List.{List}
 use Prim.Native.Nat.{ℕ}
 use Rattle.auction.specs.HandOver.{Answer, answer}
 use Rattle.auction.specs.Plan.{plan}
-use Rattle.solver.specs.Slices.{Slice, was, left}
+use Rattle.table.specs.Slices.{Slice, was, left}
 use Rattle.planner.specs.declared.Planned.{Planned}
 
 -- the code's answer, with what it left in the buffers

@@ -9,7 +9,7 @@ ghost use Rattle.table.specs.Table.{Table, no-arc, no-distance, most-nodes, mos
 ghost use Rattle.table.specs.Refusals.{no-refusal, refusal};
 ghost use Rattle.auction.specs.HandOver.{horizon, reached-count, distances, prices, tree, marks, mark-number};
 ghost use Rattle.solver.specs.declared.state.Progress.{Progress};
-ghost use Rattle.solver.specs.Slices.{was, left};
+ghost use Rattle.table.specs.Slices.{was, left};
 ghost use Rattle.solver.specs.Seen.{seen, too-many};
 ghost use Rattle.planner.specs.Plan.{answered};
 ghost use Rattle.planner.specs.ReadOff.{Known, Arc-ends, Fitting, Ends-held, None-farther, Read-off, Hands-over, mark-entry};

@@ -6,7 +6,7 @@ ghost use Rattle.table.specs.Table.{table-of, is-table};
 ghost use Rattle.auction.specs.Auction.{fresh};
 ghost use Rattle.solver.specs.Seen.{seen, Sized};
 ghost use Rattle.auction.specs.Plan.{routes-of};
-ghost use Rattle.solver.specs.Slices.{was, left};
+ghost use Rattle.table.specs.Slices.{was, left};
 ghost use Rattle.planner.specs.Plan.{answered, Plans};
 ghost use Rattle.planner.specs.ReadOff.{Fitting};
 use hand_over::hand_over;

@@ -6,7 +6,7 @@ ghost use lib.ListN.{length};
 ghost use Rattle.table.specs.Table.{arc, arcs-of, most-arcs};
 ghost use Rattle.table.specs.Refusals.{rooms-fit, arc-fault, arcs-refusal, wanted-refusal, table-refusal};
 ghost use Rattle.auction.specs.Plan.{rooms};
-ghost use Rattle.solver.specs.Slices.{was};
+ghost use Rattle.table.specs.Slices.{was};
 use table::MOST_WANTED;
 use table::Refusal;
 use table::bad_columns;

@@ -2,7 +2,6 @@
 use mathlib.Core.Path.{_≡_, refl, sym, ap, subst, _∙_}
 use mathlib.Core.Bool.{Bool, true, false, cond}
 use mathlib.Core.List.{List, [], _∷_, _++_}
-use mathlib.Core.Logic.{_⊎_, ⊎-elim}
 use Prim.Native.Nat.{ℕ, _≤_, _<_}
 use native.Mathlib.Omega.{arith}
 use lib.ListN.{length, take, drop, replicate, length-replicate, length-map, length-take}
@@ -12,7 +11,6 @@ use borrow.Author.Tests.{lt-ltb, le-ltb}
 use Rattle.table.specs.Table.{Arc, most-arcs, most-wanted}
 use Rattle.table.specs.Refusals.{refusal, no-refusal}
 use Rattle.auction.specs.HandOver.{Answer}
-use Rattle.auction.specs.Plan.{plan}
 use Rattle.auction.specs.Demands.{distance-of, price-of, link-of}
 use Rattle.link_format.specs.Format.{Content, content, tails-of, heads-of, lengths-of}
 use Rattle.link_format.specs.Reading.{Outcome, got, refused, read-file}
@@ -22,7 +20,7 @@ use Rattle.link_file.specs.declared.TableRead.{TableRead}
 use Rattle.link_file.specs.Entries.{read-answer, Left-by-reading, Read-says}
 use Rattle.planner.specs.declared.Planned.{Planned}
 use Rattle.planner.specs.Plan.{answered, Plan-made}
-use Rattle.sheet.specs.Sheet.{Finished, finished, refused-line, reached-nodes, path-nodes, node-lines, path-lines, after-counts, from-counts, from-reached, sheet}
+use Rattle.sheet.specs.Sheet.{finished, refused-line, reached-nodes, path-nodes, node-lines, path-lines, after-counts, from-counts, from-reached, sheet}
 use Rattle.sheet.specs.Printed.{most-input, read-input, plan-of, lines-of}
 use Rattle.sheet.specs.Promises.{Refusals-printed}
 use Rattle.sheet.proofs.Promised.{refusals-printed}
@@ -60,9 +58,12 @@ pub input-read : (input ts hs ls ws ts′ hs′ ls′ ws′ : List ℕ) (r : Tab
 unfolding read-input reading too-short
 input-read input ts hs ls ws ts′ hs′ ls′ ws′ r h room says =
     let long : reading input ts hs ls ws ≡ read-file input =
-    rw
-    (le-ltb (length ts) most-arcs (room .tails-long), le-ltb (length hs) most-arcs (room .heads-long), le-ltb (length ls) most-arcs (room .lengths-long),
-    le-ltb (length ws) most-wanted (room .wanted-long)) in
+    rw (
+      le-ltb (length ts) most-arcs (room .tails-long),
+      le-ltb (length hs) most-arcs (room .heads-long),
+      le-ltb (length ls) most-arcs (room .lengths-long),
+      le-ltb (length ws) most-wanted (room .wanted-long),
+    ) in
     subst (λ (o : Outcome Content). Left-by-reading o ts hs ls ws ts′ hs′ ls′ ws′ r)
     (long ∙ sym (ap (λ (b : Bool). cond b (refused 2 most-arcs) (read-file input)) (le-ltb most-input (length input) h))) says
 

@@ -1,5 +1,5 @@
 -- The pieces one after the other are the lines of the sheet, and so what is printed of the input. Assumes nothing.
-use mathlib.Core.Path.{_≡_, refl, sym, ap, _∙_}
+use mathlib.Core.Path.{_≡_, sym, ap, _∙_}
 use mathlib.Core.List.{List, [], _∷_, _++_}
 use Prim.Native.Nat.{ℕ}
 use Rattle.sheet.specs.Sheet.{Finished}

@@ -7,10 +7,10 @@ use mathlib.Core.List.{List, [], _∷_, _++_}
 use Prim.Native.Nat.{ℕ, _+_, _-_, _≤_, _<_}
 use native.Mathlib.Omega.{arith}
 use lib.Dec.{ltb, eqb}
-use lib.ListN.{length, getD, take, drop, length-append}
+use lib.ListN.{length, take, drop, length-append}
 use lib.Seq.{take-at}
-use borrow.Author.Tests.{ltb-false, lt-ltb, le-ltb, eq-eqb, ne-eqb}
-use Rattle.table.specs.Table.{no-arc, most-nodes}
+use borrow.Author.Tests.{ltb-false, eq-eqb, ne-eqb}
+use Rattle.table.specs.Table.{most-nodes}
 use Rattle.auction.specs.Demands.{distance-of, price-of, link-of}
 use Rattle.paths.specs.declared.Listed.{Listed}
 use Rattle.paths.specs.Listing.{Tree, Listing, Lists, listing, into, listed, refused, path, early-of, tree-in}

@@ -1,24 +1,23 @@
 -- The promises of specs/Promises.antt, each proved under its own name in small letters. Assumes nothing.
-use mathlib.Core.Path.{_≡_, refl, sym, ap, _∙_}
-use mathlib.Core.Bool.{Bool, true, false, _&&_, cond}
-use mathlib.Core.List.{List, [], _∷_, _++_}
+use mathlib.Core.Path.{_≡_, refl, ap, _∙_}
+use mathlib.Core.Bool.{true, false}
+use mathlib.Core.List.{List, _++_}
 use mathlib.Core.Logic.{_⊎_, ⊎-elim}
-use Prim.Native.Nat.{ℕ, _^_, _≤_, _<_, min}
+use Prim.Native.Nat.{ℕ, _^_, _≤_}
 use native.Mathlib.Omega.{arith}
-use lib.Dec.{eqb}
 use lib.ListN.{length}
 use borrow.Author.Tests.{eq-eqb, ne-eqb}
 use Rattle.table.specs.Table.{Table, table, table-of, most-nodes, Below}
-use Rattle.table.proofs.Basics.{both-true, true-both, and-false, true-or, not-both}
+use Rattle.table.proofs.Basics.{both-true, true-both, and-false, true-or}
 use Rattle.auction.specs.HandOver.{Answer, handed-over, distances, tree}
 use Rattle.auction.specs.Plan.{plan, routes-of}
-use Rattle.auction.specs.Demands.{Given, walk-of}
+use Rattle.auction.specs.Demands.{walk-of}
 use Rattle.auction.proofs.Made.{made}
 use Rattle.auction.proofs.Sums.{entries-length}
 use Rattle.paths.specs.Listing.{tree-in, listing, listed}
-use Rattle.paths.specs.Promises.{Plans-listed, Gives, nodes-of-walk}
+use Rattle.paths.specs.Promises.{Plans-listed, nodes-of-walk}
 use Rattle.paths.proofs.Promised.{plans-listed}
-use Rattle.sheet.specs.Sheet.{Finished, finished, refused-line, path-line, node-count, has-distance, has-path, holds, reached-nodes, path-nodes, node-lines, path-lines, after-counts, from-counts, from-reached, sheet}
+use Rattle.sheet.specs.Sheet.{Finished, finished, path-line, node-count, has-distance, has-path, holds, reached-nodes, path-nodes, node-lines, path-lines, after-counts, from-counts, from-reached, sheet}
 use Rattle.sheet.specs.Promises.{Each-once, refusal-lines, totals-lines, Shows, Plans-printed, Refusals-printed, Promises}
 use Rattle.sheet.proofs.Nodes.{absent, present, agree, given-has, has-given, not-given, given-low}
 

@@ -1,5 +1,5 @@
 -- What the buffers held before a plan does not show on its sheet: a plan that is made fills them, and one that is refused prints one line. Assumes nothing.
-use mathlib.Core.Path.{_≡_, sym, ap, subst, _∙_}
+use mathlib.Core.Path.{_≡_, sym, ap, _∙_}
 use mathlib.Core.Bool.{Bool, cond}
 use mathlib.Core.List.{List, [], _∷_}
 use mathlib.Core.Logic.{⊎-elim}
@@ -11,7 +11,7 @@ use Rattle.table.specs.Table.{table-of}
 use Rattle.table.specs.declared.Refusal.{Refusal}
 use Rattle.table.proofs.Basics.{same-or}
 use Rattle.auction.specs.HandOver.{Answer}
-use Rattle.auction.specs.Plan.{rooms, plan-refusal, plan, routes-of, refused-plan}
+use Rattle.auction.specs.Plan.{plan-refusal, plan, routes-of, refused-plan}
 use Rattle.auction.proofs.Made.{refusal-low, routes-so}
 use Rattle.sheet.specs.Sheet.{finished, refused-line, sheet}
 use Rattle.sheet.specs.Promises.{Refusals-printed}

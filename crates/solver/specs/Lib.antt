@@ -1,4 +1,3 @@
-pub mod Slices
 pub mod Seen
 pub mod Lists
 pub mod Steps

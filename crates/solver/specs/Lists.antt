@@ -6,7 +6,7 @@ use Prim.Native.Nat.{ℕ, zero, suc, _-_, _≤_, _<_}
 use lib.Dec.{eqb}
 use lib.ListN.{length, getD}
 use Rattle.table.specs.Table.{Table, arc-count, tail-at, head-at, length-at, no-arc, most-arcs}
-use Rattle.solver.specs.Slices.{Slice, was}
+use Rattle.table.specs.Slices.{Slice, was}
 
 -- the first of the `left` positions from `position` on whose arc leaves node v, or no arc
 unfoldable pub next-out : (left position : ℕ) → Table → (v : ℕ) → ℕ

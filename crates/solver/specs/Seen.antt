@@ -10,7 +10,7 @@ use Rattle.table.specs.Table.{no-arc, no-distance, most-nodes, longest}
 use Rattle.auction.specs.Auction.{State, state, Bid, bid}
 use Rattle.solver.specs.declared.state.Progress.{Progress}
 use Rattle.solver.specs.declared.state.RunState.{RunState}
-use Rattle.solver.specs.Slices.{Slice, was, left}
+use Rattle.table.specs.Slices.{Slice, was, left}
 
 -- a number that stands for a bound, for a kept arc, for the least bid; one that stands for none
 unfoldable pub bound-of : ℕ → Option ℕ

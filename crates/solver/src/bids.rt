@@ -6,7 +6,7 @@ ghost use lib.ListN.{length, getD};
 ghost use Rattle.table.specs.Table.{Table, head-at, length-at, no-arc};
 ghost use Rattle.auction.specs.Auction.{best};
 ghost use Rattle.solver.specs.declared.state.Progress.{Progress};
-ghost use Rattle.solver.specs.Slices.{was};
+ghost use Rattle.table.specs.Slices.{was};
 ghost use Rattle.solver.specs.Seen.{All-long, seen, greatest-sum};
 ghost use Rattle.solver.specs.Lists.{star, lent-star, Outgoing, Some-table};
 ghost use Rattle.solver.specs.Steps.{lower-of, bid-in, bid-over, Leads};

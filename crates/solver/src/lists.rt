@@ -3,7 +3,7 @@ ghost use mathlib.Core.Path.{_≡_};
 ghost use Prim.Native.Nat.{ℕ, _≤_, _<_};
 ghost use lib.ListN.{length, getD};
 ghost use Rattle.table.specs.Table.{Table, no-arc, most-arcs};
-ghost use Rattle.solver.specs.Slices.{was, left};
+ghost use Rattle.table.specs.Slices.{was, left};
 ghost use Rattle.solver.specs.Lists.{Tails, Linked};
 use table::wide;
 

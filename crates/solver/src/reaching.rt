@@ -6,7 +6,7 @@ ghost use lib.ListN.{length, getD};
 ghost use Rattle.table.specs.Table.{arc-count, no-arc, no-distance};
 ghost use Rattle.auction.specs.Auction.{improves, offers, reach};
 ghost use Rattle.solver.specs.declared.state.Progress.{Progress};
-ghost use Rattle.solver.specs.Slices.{was, left};
+ghost use Rattle.table.specs.Slices.{was, left};
 ghost use Rattle.solver.specs.Seen.{All-long, bound-of, arc-of, arrays, greatest-sum};
 ghost use Rattle.solver.specs.Lists.{star, lent-star, Some-table};
 ghost use Rattle.solver.specs.Steps.{Becomes, Arc-offered};

@@ -6,7 +6,7 @@ ghost use Prim.Native.Nat.{ℕ, _+_, _≤_, _<_};
 ghost use lib.ListN.{length, getD};
 ghost use Rattle.table.specs.Table.{Table, table-of, is-table};
 ghost use Rattle.auction.specs.Auction.{fresh, start};
-ghost use Rattle.solver.specs.Slices.{was};
+ghost use Rattle.table.specs.Slices.{was};
 ghost use Rattle.solver.specs.Seen.{seen, lent, back, held, Sized};
 ghost use Rattle.solver.specs.Lists.{star, lent-star};
 ghost use Rattle.solver.specs.Steps.{Begun, Ran, Runs, First-from};

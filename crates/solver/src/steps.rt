@@ -5,7 +5,7 @@ ghost use Prim.Native.Nat.{ℕ, _+_, _≤_, _<_};
 ghost use lib.ListN.{length, getD};
 ghost use Rattle.table.specs.Table.{Table};
 ghost use Rattle.auction.specs.Auction.{deletion, contraction, extension};
-ghost use Rattle.solver.specs.Slices.{was, left};
+ghost use Rattle.table.specs.Slices.{was, left};
 ghost use Rattle.solver.specs.Seen.{All-long, seen, arrays, lent, back, greatest-sum, too-many};
 ghost use Rattle.solver.specs.Lists.{star, lent-star, Some-table};
 ghost use Rattle.solver.specs.Steps.{Becomes, Can-step, Leads, Steps};

@@ -23,14 +23,18 @@ plan-read-requires c κs =
     let tails = heads .before .before in
     let call = tails .before in
     let s = entry call in
-    let room = s .pre .0 in
-    (call .read-input .ensures .1,
-    (record {
-      tails-long = omega (arith, room .tails-long, tails .tails .given);
-      heads-long = omega (arith, room .heads-long, heads .heads .given);
-      lengths-long = omega (arith, room .lengths-long, lengths .lengths .given);
-      wanted-long = omega (arith, room .wanted-long, wanted .wanted .given);
-    }, s .pre .1))
+    let room = s .pre .0 in (
+      call .read-input .ensures .1,
+      (
+        record {
+          tails-long = omega (arith, room .tails-long, tails .tails .given);
+          heads-long = omega (arith, room .heads-long, heads .heads .given);
+          lengths-long = omega (arith, room .lengths-long, lengths .lengths .given);
+          wanted-long = omega (arith, room .wanted-long, wanted .wanted .given);
+        },
+        s .pre .1,
+      ),
+    )
 
 same-length : tie.Need-same-length
 same-length c = search needs

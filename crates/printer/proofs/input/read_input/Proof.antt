@@ -35,9 +35,10 @@ returns-2 c =
     let call = c .before .before .before .before .before .before .before .before in
     let test = call .before .before .before .before .before in
     let bytes = test .before .before .before .before .before in
-    let r = call .read-link-file in
-    (input-read _ _ _ _ _ _ _ _ _ (r .result) (test .if1 .left) (bytes .before .pre) (r .ensures),
-    answers-fit _ _ _ _ _ _ _ _ _ (r .result) (λ i. bytes .shared-slice-known .given i .fits) (r .ensures))
+    let r = call .read-link-file in (
+      input-read _ _ _ _ _ _ _ _ _ (r .result) (test .if1 .left) (bytes .before .pre) (r .ensures),
+      answers-fit _ _ _ _ _ _ _ _ _ (r .result) (λ i. bytes .shared-slice-known .given i .fits) (r .ensures),
+    )
 
 pub read-input-spec : {M : Type 1} → statement M
 read-input-spec =

@@ -1,9 +1,8 @@
 -- `printer::lines::first_line` meets its contract: the refusal's line first, and what follows it. Assumes nothing.
 use mathlib.Core.Path.{refl}
-use mathlib.Core.List.{List}
 use borrow.Author.Needs.{needs}
 use Rattle.planner.specs.Plan.{answered}
-use Rattle.sheet.specs.Sheet.{Finished, from-reached}
+use Rattle.sheet.specs.Sheet.{from-reached}
 use Rattle.printer.specs.declared.lines.Cursor.the-variants.{Reached, Counts, End}
 use Rattle.printer.specs.Lines.{printing, rest}
 use Rattle.printer.proofs.Rest.{gives-put, refused-some, reached-some, start-unrefused, start-no-route, start-refused-only}
