@@ -1,0 +1,107 @@
+-- The page of specs/Promise.antt, each promise by the proof that its crate has of it; and the demands once more, field by field, so that none of them can go
+-- missing. Assumes nothing.
+use mathlib.Core.List.{List}
+use Prim.Native.Nat.{ℕ}
+use Rattle.table.specs.Table.{Table}
+use Rattle.auction.specs.HandOver.{Answer}
+use Rattle.auction.specs.Demands.{Demands}
+use Rattle.auction.proofs.Promised.{promised}
+use Rattle.auction.proofs.Demanded.{demands-met, counts-pinned, hollow-fails}
+use Rattle.auction.proofs.Stability.{stability}
+use Rattle.auction.proofs.Answers.{rack-holds}
+use Rattle.planner.proofs.Promised.{plans-kept, refusals-touch-nothing}
+use Rattle.paths.proofs.Promised.{routes-listed, plans-listed}
+use Rattle.paths.proofs.Examples as Paths
+use Rattle.link_format.proofs.ReadThenWrite.{accepted-files-write-back}
+use Rattle.link_format.proofs.WriteThenRead.{written-tables-read-back, long-files-are-refused}
+use Rattle.link_format.proofs.Outcomes.{files-refused-by-number}
+use Rattle.link_format.proofs.BitMaps.{needless-record, needless-header-bits}
+use Rattle.link_format.proofs.Rows.{rows}
+use Rattle.link_file.proofs.EntryTrips.{write-then-read, read-then-write, answers-fit}
+use Rattle.sheet.proofs.Promised.{each-once, plans-printed, refusals-printed}
+use Rattle.sheet.proofs.Examples as Sheets
+use Rattle.printer.proofs.Promised.{pieces-printed}
+use Rattle.promise.specs.Promise.{Promise}
+
+pub kept : Promise
+kept =
+    record {
+      plans-kept = plans-kept;
+      refusals-touch-nothing = refusals-touch-nothing;
+      demands-met = demands-met;
+      counts-pinned = counts-pinned;
+      hollow-fails = hollow-fails;
+      walk-shortest = promised .walk-shortest;
+      walk-given = promised .walk-given;
+      prices-fit = promised .prices-fit;
+      prices-show = promised .prices-show;
+      earliest-link = promised .earliest-link;
+      route-to-all = promised .route-to-all;
+      no-route = promised .no-route;
+      ends-by-itself = promised .ends-by-itself;
+      iterations-counted = promised .iterations-counted;
+      few-iterations = promised .few-iterations;
+      fewer-iterations = promised .fewer-iterations;
+      never-above = promised .never-above;
+      distances-stay = promised .distances-stay;
+      ascending = promised .ascending;
+      small-distances = promised .small-distances;
+      small-sums = promised .small-sums;
+      unrefused-is-table = promised .unrefused-is-table;
+      table-is-unrefused = promised .table-is-unrefused;
+      longest-of-32-bits = promised .longest-of-32-bits;
+      lengths-of-32-bits = promised .lengths-of-32-bits;
+      same-choice = stability .same-choice;
+      route-stays = stability .route-stays;
+      wanted-route-stays = stability .wanted-route-stays;
+      link-added = stability .link-added;
+      routes-listed = routes-listed;
+      plans-listed = plans-listed;
+      accepted-files-write-back = accepted-files-write-back;
+      written-tables-read-back = written-tables-read-back;
+      read-then-write = read-then-write;
+      write-then-read = write-then-read;
+      long-files-are-refused = long-files-are-refused;
+      files-refused-by-number = files-refused-by-number;
+      needless-is-not-canonical = needless-record;
+      needless-header-is-not-canonical = needless-header-bits;
+      answers-fit = answers-fit;
+      plans-printed = plans-printed;
+      refusals-printed = refusals-printed;
+      each-once = each-once;
+      pieces-printed = pieces-printed;
+      rack = rack-holds;
+      listings = Paths.examples;
+      files = rows;
+      sheets = Sheets.examples;
+    }
+
+-- what is demanded of an answer, by name
+pub demanded : (t : Table) (ws : List ℕ) (a : Answer) → Demands t ws a → Demands t ws a
+demanded t ws a d =
+    record {
+      given = d .given;
+      walk = d .walk;
+      short = d .short;
+      as-long = d .as-long;
+      least = d .least;
+      attains = d .attains;
+      earliest = d .earliest;
+      near-end = d .near-end;
+      no-link = d .no-link;
+      prices-fit = d .prices-fit;
+      prices-equal = d .prices-equal;
+      prices-show = d .prices-show;
+      numbers = d .numbers;
+      route = d .route;
+      no-route = d .no-route;
+      counts = d .counts;
+      last = d .last;
+      steps = d .steps;
+      counted = d .counted;
+      found = d .found;
+      stuck = d .stuck;
+      not-before = d .not-before;
+      few = d .few;
+      fewer = d .fewer;
+    }

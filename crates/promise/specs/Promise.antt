@@ -1,0 +1,76 @@
+-- THE WHOLE PROMISE OF THE PRODUCT, on one page: a field for each promise of every crate, by its type. A promise that goes missing anywhere fails the check
+-- of this page, and so does one whose proof does (proofs/Kept.antt). Each type has its sentence in plain words where it stands. Assumes nothing.
+use Rattle.auction.specs.Promises.{Walk-shortest, Walk-given, Prices-fit, Prices-show, Route-to-all, No-route, Few-iterations, Fewer-iterations, Ends-by-itself, Iterations-counted, Earliest-link, Never-above, Distances-stay, Ascending, Small-distances, Small-sums, Unrefused-is-table, Table-is-unrefused, Longest-of-32-bits, Lengths-of-32-bits}
+use Rattle.auction.specs.Demands.{Demands-met, Counts-pinned, Hollow-fails}
+use Rattle.auction.specs.Stability.{Same-choice, Route-stays, Wanted-route-stays, Link-added}
+use Rattle.auction.specs.Rack.{Rack-holds}
+use Rattle.planner.specs.Promise.{Plans-kept, Refusals-touch-nothing}
+use Rattle.paths.specs.Promises.{Routes-listed, Plans-listed}
+use Rattle.paths.specs.Examples as Paths
+use Rattle.link_format.specs.Promises.{Accepted-files-write-back, Written-tables-read-back, Long-files-are-refused, Files-refused-by-number, Needless-is-not-canonical, Needless-header-is-not-canonical}
+use Rattle.link_format.specs.Rows as Files
+use Rattle.link_file.specs.Promises.{Write-then-read, Read-then-write, Answers-fit}
+use Rattle.sheet.specs.Promises.{Each-once, Plans-printed, Refusals-printed}
+use Rattle.sheet.specs.Examples as Sheets
+use Rattle.printer.specs.Promises.{Pieces-printed}
+
+pub record Promise : Type 0 where
+  -- THE PAGE FOR USERS: demands 2 and 3 of every answer 0 or 8 and its four buffers; any other number touches nothing
+  pub plans-kept : Plans-kept
+  pub refusals-touch-nothing : Refusals-touch-nothing
+  pub demands-met : Demands-met
+  pub counts-pinned : Counts-pinned
+  pub hollow-fails : Hollow-fails
+  -- THE RUN: shortest walks and the prices that show it
+  pub walk-shortest : Walk-shortest
+  pub walk-given : Walk-given
+  pub prices-fit : Prices-fit
+  pub prices-show : Prices-show
+  pub earliest-link : Earliest-link
+  -- "no route" exactly where there is none
+  pub route-to-all : Route-to-all
+  pub no-route : No-route
+  -- it ends by itself, soon, with the auction's own counts
+  pub ends-by-itself : Ends-by-itself
+  pub iterations-counted : Iterations-counted
+  pub few-iterations : Few-iterations
+  pub fewer-iterations : Fewer-iterations
+  -- at every state of it
+  pub never-above : Never-above
+  pub distances-stay : Distances-stay
+  pub ascending : Ascending
+  pub small-distances : Small-distances
+  pub small-sums : Small-sums
+  -- WHAT IS REFUSED: the tables that are not refused are just those of which all this is promised
+  pub unrefused-is-table : Unrefused-is-table
+  pub table-is-unrefused : Table-is-unrefused
+  pub longest-of-32-bits : Longest-of-32-bits
+  pub lengths-of-32-bits : Lengths-of-32-bits
+  -- WHAT STAYS: a spare chooses as the old unit did; a route stays while nothing shorter exists, also when a link is added at the end
+  pub same-choice : Same-choice
+  pub route-stays : Route-stays
+  pub wanted-route-stays : Wanted-route-stays
+  pub link-added : Link-added
+  -- LISTING: a path lists the nodes of the walk returned
+  pub routes-listed : Routes-listed
+  pub plans-listed : Plans-listed
+  -- THE LINK FILE: every accepted file writes back unchanged, every written table reads back as it was
+  pub accepted-files-write-back : Accepted-files-write-back
+  pub written-tables-read-back : Written-tables-read-back
+  pub read-then-write : Read-then-write
+  pub write-then-read : Write-then-read
+  pub long-files-are-refused : Long-files-are-refused
+  pub files-refused-by-number : Files-refused-by-number
+  pub needless-is-not-canonical : Needless-is-not-canonical
+  pub needless-header-is-not-canonical : Needless-header-is-not-canonical
+  pub answers-fit : Answers-fit
+  -- THE SHEET AND THE PROGRAM: a plan is shown whole, each path once, and the pieces that are written are what is printed of the input
+  pub plans-printed : Plans-printed
+  pub refusals-printed : Refusals-printed
+  pub each-once : Each-once
+  pub pieces-printed : Pieces-printed
+  -- THE ROWS: tables, listings, files and sheets, computed
+  pub rack : Rack-holds
+  pub listings : Paths.Examples
+  pub files : Files.Rows
+  pub sheets : Sheets.Examples
