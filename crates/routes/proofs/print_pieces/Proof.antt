@@ -1,59 +1,65 @@
+-- `routes::print_pieces` ends: each piece but the last has a line, so fewer lines are to come after it. Assumes nothing.
+use mathlib.Core.Path.{_≡_, refl, sym, _∙_}
+use native.Mathlib.Omega.{arith}
+use borrow.Author.Needs.{needs}
+use lib.ListN.{length}
+use lib.Seq.{length-take-le}
+use Rattle.printer.specs.Lines.{printing, rest}
 use Rattle.routes.proofs.print_pieces.Statement.{statement}
 use Rattle.routes.proofs.print_pieces.Tie as tie
-use Rattle.routes.proofs.print_pieces.Reads as reads
-use Rattle.routes.proofs.print_pieces.Lts as lts
-use Rattle.io.proofs.write_all.Reads as write-all-reads
-use Rattle.printer.proofs.next_piece.Reads as next-piece-reads
 
 abbrev Inv-loop : tie.InvT-loop
-Inv-loop input answer origin tails heads wanted distances prices tree out₀ cursor₀ out cursor = ?
+Inv-loop input answer origin tails heads wanted distances prices tree out₀ cursor₀ out cursor = length out ≡ length out₀
 
 abbrev μ-loop : tie.MeasureT-loop
-μ-loop input answer origin tails heads wanted distances prices tree out₀ cursor₀ out cursor = ?
+μ-loop input answer origin tails heads wanted distances prices tree out₀ cursor₀ out cursor =
+    length (rest (printing answer origin tails heads wanted distances prices tree) cursor)
 
--- src/main.rt:35:5
 loop-holds : tie.Need-loop-holds Inv-loop μ-loop
-loop-holds c = ?
+loop-holds c = refl
 
--- src/main.rt:36:13
 next-piece-requires : tie.Need-next-piece-requires Inv-loop μ-loop
-next-piece-requires c κs = ?
+next-piece-requires c κs =
+    let l = c .before in
+    let known = l .before in
+    let s = known .before .before .before .before .before .before .before .before in
+    omega (arith, l .loop .inv, s .pre .1)
 
--- src/main.rt:50:13
 same-length : tie.Need-same-length Inv-loop μ-loop
-same-length c = ?
+same-length c =
+    let back = c .before .before in
+    back .out .given ∙ back .before .before .before .loop .inv
 
--- src/main.rt:50:13
 returns : tie.Need-returns Inv-loop μ-loop
-returns c = ?
+returns c = tt
 
--- src/main.rt:52:44
 slice-reshare-prefix-write-all : tie.Need-slice-reshare-prefix-write-all Inv-loop μ-loop
-slice-reshare-prefix-write-all c = ?
+slice-reshare-prefix-write-all c = c .before .before .before .next-piece .ensures .inside
 
--- src/main.rt:52:44
 slice-aggregate-write-all : tie.Need-slice-aggregate-write-all Inv-loop μ-loop
-slice-aggregate-write-all c = ?
+slice-aggregate-write-all c = sym (length-take-le _ _ (c .before .before .before .before .next-piece .ensures .inside))
 
--- src/main.rt:52:13
 write-all-requires : tie.Need-write-all-requires Inv-loop μ-loop
-write-all-requires c κs = ?
+write-all-requires c κs = tt
 
--- src/main.rt:53:13
 same-length-2 : tie.Need-same-length-2 Inv-loop μ-loop
-same-length-2 c = ?
+same-length-2 c =
+    let back = c .before .before .before .before .before in
+    back .out .given ∙ back .before .before .before .loop .inv
 
--- src/main.rt:53:13
 returns-2 : tie.Need-returns-2 Inv-loop μ-loop
-returns-2 c = ?
+returns-2 c = tt
 
--- src/main.rt:35:5
 loop-less : tie.Need-loop-less Inv-loop μ-loop
-loop-less c = ?
+loop-less c =
+    let test = c .before .before .before in
+    let call = test .before .before .before in
+    call .next-piece .ensures .fewer (omega (arith, test .if1 .left))
 
--- src/main.rt:35:5
 loop-again : tie.Need-loop-again Inv-loop μ-loop
-loop-again c = ?
+loop-again c =
+    let back = c .before .before .before .before .before in
+    back .out .given ∙ back .before .before .before .loop .inv
 
 pub print-pieces-spec : {M : Type 1} → statement M
 print-pieces-spec =
