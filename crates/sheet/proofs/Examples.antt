@@ -7,7 +7,7 @@ use Rattle.table.specs.Refusals.{refusal, no-refusal, or-else, count-bad, colum
 use Rattle.auction.specs.Auction.{state, terminal, price-at, bound-at, kept-at, status-at, or-zero, distance, was-reached, is-deleted, iterations, improves, with-kept, with-status, takes, offer, offers, reach, fresh, start, bid, is-kept, to-child, lower-bid, with-bid, best-from, best, without-terminal, deletion, contraction, longer, extension, iteration, next, ended, go-on, run, all-reached, most-iterations, auction}
 use Rattle.auction.specs.HandOver.{entries, greatest, sum, horizon, reached-count, distances, prices, arc-or-none, tree, mark-number, mark, marks, first-missing, route-refusal, handed-over}
 use Rattle.link_format.specs.Format.{content, bytes, bit-map, has, field-bytes, count-up, counts-from, all-nodes, nodes-bytes, wanted-bytes, header-bits, header-bytes, record-bits, fields-bytes, record-bytes, records-bytes, file-bytes, tails-of, heads-of, lengths-of}
-use Rattle.link_format.specs.Reading.{and-then, give, here, refuse-if, number, field, optional, implied, forbidden-header, forbidden, read-nodes, read-wanted, read-header, read-record, read-records, read-content, read-file}
+use Rattle.link_format.specs.Reading.{_>>_, _>>=_, and-then, give, here, refuse-if, number, field, optional, implied, forbidden-header, forbidden, read-nodes, read-wanted, read-header, read-record, read-records, read-content, read-file}
 use Rattle.auction.specs.Plan.{rooms, plan-refusal, refused-plan, routes-of, plan}
 use Rattle.auction.specs.Demands.{distance-of, price-of, link-of}
 use Rattle.paths.specs.Listing.{entry, node-before, leads-back, back-to, path, listed, refused, early-number, early-of, into, listing}
