@@ -69,6 +69,10 @@ lent-printing a o ts hs ws ds ps tr = printing a o (was ts) (was hs) (was ws) (w
 abbrev pub Next-line : Cursor → Finished → (out : Slice) → Line → Type 0
 Next-line c p out r = Gives p (rest p c) r (was out) (left out)
 
+-- the same of the first line, for which the answer is enough: it is put whatever the origin and the columns are
+abbrev pub First-line : Planned → (out : Slice) → Line → Type 0
+First-line a out r = (o : ℕ) (ts hs ws ds ps tr : List ℕ) → Next-line Start (printing a o ts hs ws ds ps tr) out r
+
 -- the first node from v on that passes a test, n where there is none
 pub record First-passing (test : ℕ → Bool) (n v u : ℕ) : Type 0 where
   pub low : u ≤ n

@@ -1,15 +1,14 @@
 // The lines of a sheet, one at a time.
 ghost use mathlib.Core.Path.{_≡_};
-ghost use mathlib.Core.Bool.{true};
-ghost use mathlib.Core.List.{List, [], _++_};
-ghost use Prim.Native.Nat.{ℕ, _+_, _≤_, _<_};
+ghost use Prim.Native.Nat.{_+_, _≤_};
 ghost use lib.ListN.{length, getD};
 ghost use Rattle.table.specs.Table.{no-arc, most-nodes};
-ghost use Rattle.sheet.specs.Text.{decimal, spaced, text};
+ghost use Rattle.table.specs.Slices.{was, left};
+ghost use Rattle.sheet.specs.Text.{spaced};
 ghost use Rattle.sheet.specs.Sheet.{refused-line, reached-line, counts-line, arc-text, node-line, path-line, node-count, has-distance, has-path};
-ghost use Rattle.printer.specs.Buffers.{Begins};
-ghost use Rattle.printer.specs.declared.lines.Cursor.the-variants.{Start, Node, Path};
-ghost use Rattle.printer.specs.Lines.{printing, lent-printing, Next-line, line-room, most-digits, most-path, First-passing, Lesser};
+ghost use Rattle.printer.specs.Buffers.{Puts-line, Extends, Puts-behind};
+ghost use Rattle.printer.specs.declared.lines.Cursor.the-variants.{Node, Path};
+ghost use Rattle.printer.specs.Lines.{lent-printing, Next-line, First-line, line-room, most-digits, most-path, First-passing, Lesser};
 use crate::text::put;
 use crate::text::put_field;
 use crate::text::put_number;
@@ -36,7 +35,7 @@ pub enum Line {
 
 fn put_refused(number: u32, place: u32, out: &mut [u8]) -> usize
     requires { ⌜ line-room ≤ length (now out) ⌝ }
-    ensures { λ r. ⌜ Begins (refused-line number place) (now (out .entry)) (now (out .exit)) r ⌝ }
+    ensures { λ r. ⌜ Puts-line (refused-line number place) out r ⌝ }
 {
     let a = put_field(b"refused ", number as u64, 0, out);
     let b = put_field(b" at ", place as u64, a, out);
@@ -45,7 +44,7 @@ fn put_refused(number: u32, place: u32, out: &mut [u8]) -> usize
 
 fn put_reached(reached: u32, horizon: u64, iterations: u64, out: &mut [u8]) -> usize
     requires { ⌜ line-room ≤ length (now out) ⌝ }
-    ensures { λ r. ⌜ Begins (reached-line reached horizon iterations) (now (out .entry)) (now (out .exit)) r ⌝ }
+    ensures { λ r. ⌜ Puts-line (reached-line reached horizon iterations) out r ⌝ }
 {
     let a = put_field(b"reached ", reached as u64, 0, out);
     let b = put_field(b" horizon ", horizon, a, out);
@@ -55,7 +54,7 @@ fn put_reached(reached: u32, horizon: u64, iterations: u64, out: &mut [u8]) -> u
 
 fn put_counts(contractions: u64, extensions: u64, deletions: u64, out: &mut [u8]) -> usize
     requires { ⌜ line-room ≤ length (now out) ⌝ }
-    ensures { λ r. ⌜ Begins (counts-line contractions extensions deletions) (now (out .entry)) (now (out .exit)) r ⌝ }
+    ensures { λ r. ⌜ Puts-line (counts-line contractions extensions deletions) out r ⌝ }
 {
     let a = put_field(b"contractions ", contractions, 0, out);
     let b = put_field(b" extensions ", extensions, a, out);
@@ -66,8 +65,8 @@ fn put_counts(contractions: u64, extensions: u64, deletions: u64, out: &mut [u8]
 // An arc's position, "-" where there is none.
 fn put_arc(arc: u16, at: usize, out: &mut [u8]) -> usize
     requires { ⌜ at + most-digits ≤ length (now out) ⌝ }
-    ensures begins { λ r. ⌜ ((with before : List ℕ) → Begins with before (now (out .entry)) at → Begins (with ++ arc-text arc) before (now (out .exit)) r) ⌝ }
-    ensures long { λ r. ⌜ (r ≤ at + most-digits) × (length (now (out .exit)) ≡ length (now (out .entry))) ⌝ }
+    ensures begins { λ r. ⌜ Puts-behind (arc-text arc) at out r ⌝ }
+    ensures long { λ r. ⌜ (r ≤ at + most-digits) × (length (left out) ≡ length (was out)) ⌝ }
 {
     if arc == table::NO_ARC {
         return put(b"-", at, out);
@@ -77,7 +76,7 @@ fn put_arc(arc: u16, at: usize, out: &mut [u8]) -> usize
 
 fn put_node(node: usize, distance: u64, price: u64, arc: u16, out: &mut [u8]) -> usize
     requires { ⌜ line-room ≤ length (now out) ⌝ }
-    ensures { λ r. ⌜ Begins (node-line node distance price arc) (now (out .entry)) (now (out .exit)) r ⌝ }
+    ensures { λ r. ⌜ Puts-line (node-line node distance price arc) out r ⌝ }
 {
     let a = put_field(b"node ", node as u64, 0, out);
     let b = put_field(b" distance ", distance, a, out);
@@ -91,8 +90,8 @@ fn put_node(node: usize, distance: u64, price: u64, arc: u16, out: &mut [u8]) ->
 fn put_spaced(nodes: &[u16], at: usize, out: &mut [u8]) -> usize
     requires { ⌜ length (now nodes) ≤ most-nodes ⌝ }
     requires { ⌜ at + most-path ≤ length (now out) ⌝ }
-    ensures begins { λ r. ⌜ ((with before : List ℕ) → Begins with before (now (out .entry)) at → Begins (spaced with (now (nodes .entry))) before (now (out .exit)) r) ⌝ }
-    ensures long { λ r. ⌜ (r ≤ at + most-path) × (length (now (out .exit)) ≡ length (now (out .entry))) ⌝ }
+    ensures begins { λ r. ⌜ Extends (λ with. spaced with (was nodes)) at out r ⌝ }
+    ensures long { λ r. ⌜ (r ≤ at + most-path) × (length (left out) ≡ length (was out)) ⌝ }
 {
     let mut end = at;
     let mut i = 0;
@@ -106,7 +105,7 @@ fn put_spaced(nodes: &[u16], at: usize, out: &mut [u8]) -> usize
 fn put_path(node: usize, nodes: &[u16], out: &mut [u8]) -> usize
     requires { ⌜ length (now nodes) ≤ most-nodes ⌝ }
     requires { ⌜ line-room ≤ length (now out) ⌝ }
-    ensures { λ r. ⌜ Begins (path-line node (now (nodes .entry))) (now (out .entry)) (now (out .exit)) r ⌝ }
+    ensures { λ r. ⌜ Puts-line (path-line node (was nodes)) out r ⌝ }
 {
     let a = put_field(b"path ", node as u64, 0, out);
     let b = put(b":", a, out);
@@ -116,8 +115,8 @@ fn put_path(node: usize, nodes: &[u16], out: &mut [u8]) -> usize
 
 // How many nodes may have lines.
 fn node_count(distances: &[u64]) -> usize
-    ensures { λ r. ⌜ r ≡ node-count (now (distances .entry)) ⌝ }
-    ensures { λ r. ⌜ (r ≤ length (now (distances .entry))) × (r ≤ most-nodes) ⌝ }
+    ensures { λ r. ⌜ r ≡ node-count (was distances) ⌝ }
+    ensures { λ r. ⌜ (r ≤ length (was distances)) × (r ≤ most-nodes) ⌝ }
 {
     if distances.len() < MOST_NODES {
         distances.len()
@@ -129,7 +128,7 @@ fn node_count(distances: &[u64]) -> usize
 // The first node with a distance, from a node on.
 fn next_with_distance(from: usize, n: usize, distances: &[u64]) -> usize
     requires { ⌜ n ≤ length (now distances) ⌝ }
-    ensures { λ r. ⌜ First-passing (has-distance (now (distances .entry))) n from r ⌝ }
+    ensures { λ r. ⌜ First-passing (has-distance (was distances)) n from r ⌝ }
 {
     let mut v = from;
     while v < n {
@@ -144,7 +143,7 @@ fn next_with_distance(from: usize, n: usize, distances: &[u64]) -> usize
 // The lesser of the node found so far and another one, which counts where it has a distance and is not before a node.
 fn lesser(from: usize, found: usize, v: usize, distances: &[u64]) -> usize
     requires { ⌜ found ≤ length (now distances) ⌝ }
-    ensures { λ r. ⌜ Lesser (now (distances .entry)) from found v r ⌝ }
+    ensures { λ r. ⌜ Lesser (was distances) from found v r ⌝ }
 {
     if v < from {
         return found;
@@ -161,7 +160,7 @@ fn lesser(from: usize, found: usize, v: usize, distances: &[u64]) -> usize
 // The first wanted node with a distance, from a node on: one look at each entry of the wanted list.
 fn next_with_path(from: usize, n: usize, distances: &[u64], wanted: &[u16]) -> usize
     requires { ⌜ n ≤ length (now distances) ⌝ }
-    ensures { λ r. ⌜ First-passing (has-path (now (distances .entry)) (now (wanted .entry))) n from r ⌝ }
+    ensures { λ r. ⌜ First-passing (has-path (was distances) (was wanted)) n from r ⌝ }
 {
     let mut found = n;
     let mut i = 0;
@@ -173,13 +172,13 @@ fn next_with_path(from: usize, n: usize, distances: &[u64], wanted: &[u16]) -> u
 }
 
 fn price_at(node: usize, prices: &[u64]) -> u64
-    ensures { λ r. ⌜ r ≡ getD (now (prices .entry)) node 0 ⌝ }
+    ensures { λ r. ⌜ r ≡ getD (was prices) node 0 ⌝ }
 {
     if node < prices.len() { prices[node] } else { 0 }
 }
 
 fn arc_at(node: usize, tree: &[u16]) -> u16
-    ensures { λ r. ⌜ r ≡ getD (now (tree .entry)) node no-arc ⌝ }
+    ensures { λ r. ⌜ r ≡ getD (was tree) node no-arc ⌝ }
 {
     if node < tree.len() {
         tree[node]
@@ -257,7 +256,7 @@ fn next_node(
 // The first line: a refusal's where there is one. Behind it the sheet ends, unless the plan was made all the same.
 fn first_line(answer: Planned, out: &mut [u8]) -> Line
     requires { ⌜ line-room ≤ length (now out) ⌝ }
-    ensures { λ r. ⌜ ((o : ℕ) (ts hs ws ds ps tr : List ℕ) → Next-line Start (printing answer o ts hs ws ds ps tr) out r) ⌝ }
+    ensures { λ r. ⌜ First-line answer out r ⌝ }
 {
     let number = answer.number;
     if number == Refusal::NONE {

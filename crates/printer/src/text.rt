@@ -1,10 +1,11 @@
 // Putting texts and numbers one after the other at the start of a buffer.
 ghost use mathlib.Core.Path.{_≡_};
-ghost use mathlib.Core.List.{List, _++_};
-ghost use Prim.Native.Nat.{ℕ, _+_, _≤_};
+ghost use mathlib.Core.List.{_++_};
+ghost use Prim.Native.Nat.{_+_, _≤_};
 ghost use lib.ListN.{length};
+ghost use Rattle.table.specs.Slices.{was, left};
 ghost use Rattle.sheet.specs.Text.{decimal};
-ghost use Rattle.printer.specs.Buffers.{Begins};
+ghost use Rattle.printer.specs.Buffers.{Extends, Puts-behind};
 ghost use Rattle.printer.specs.Lines.{most-digits};
 
 // The most digits a number has.
@@ -13,8 +14,8 @@ pub const MOST_DIGITS: usize = 20;
 // Puts a text behind what the buffer begins with, and answers how long that is then.
 pub fn put(text: &[u8], at: usize, out: &mut [u8]) -> usize
     requires { ⌜ at + length (now text) ≤ length (now out) ⌝ }
-    ensures begins { λ r. ⌜ ((with before : List ℕ) → Begins with before (now (out .entry)) at → Begins (with ++ now (text .entry)) before (now (out .exit)) r) ⌝ }
-    ensures long { λ r. ⌜ (r ≡ at + length (now (text .entry))) × (length (now (out .exit)) ≡ length (now (out .entry))) ⌝ }
+    ensures begins { λ r. ⌜ Puts-behind (was text) at out r ⌝ }
+    ensures long { λ r. ⌜ (r ≡ at + length (was text)) × (length (left out) ≡ length (was out)) ⌝ }
 {
     let mut i = 0;
     while i < text.len() {
@@ -27,8 +28,8 @@ pub fn put(text: &[u8], at: usize, out: &mut [u8]) -> usize
 // Puts a number in decimal.
 pub fn put_number(n: u64, at: usize, out: &mut [u8]) -> usize
     requires { ⌜ at + most-digits ≤ length (now out) ⌝ }
-    ensures begins { λ r. ⌜ ((with before : List ℕ) → Begins with before (now (out .entry)) at → Begins (with ++ decimal n) before (now (out .exit)) r) ⌝ }
-    ensures long { λ r. ⌜ (r ≤ at + most-digits) × (length (now (out .exit)) ≡ length (now (out .entry))) ⌝ }
+    ensures begins { λ r. ⌜ Puts-behind (decimal n) at out r ⌝ }
+    ensures long { λ r. ⌜ (r ≤ at + most-digits) × (length (left out) ≡ length (was out)) ⌝ }
 {
     let mut digits = [0u8; MOST_DIGITS];
     let k = io::decimal(n, &mut digits);
@@ -38,8 +39,8 @@ pub fn put_number(n: u64, at: usize, out: &mut [u8]) -> usize
 // Puts a text and then a number.
 pub fn put_field(name: &[u8], n: u64, at: usize, out: &mut [u8]) -> usize
     requires { ⌜ at + (length (now name) + most-digits) ≤ length (now out) ⌝ }
-    ensures begins { λ r. ⌜ ((with before : List ℕ) → Begins with before (now (out .entry)) at → Begins (with ++ now (name .entry) ++ decimal n) before (now (out .exit)) r) ⌝ }
-    ensures long { λ r. ⌜ (r ≤ at + (length (now (name .entry)) + most-digits)) × (length (now (out .exit)) ≡ length (now (out .entry))) ⌝ }
+    ensures begins { λ r. ⌜ Extends (λ with. with ++ was name ++ decimal n) at out r ⌝ }
+    ensures long { λ r. ⌜ (r ≤ at + (length (was name) + most-digits)) × (length (left out) ≡ length (was out)) ⌝ }
 {
     let next = put(name, at, out);
     put_number(n, next, out)

@@ -9,19 +9,25 @@ use Rattle.printer.proofs.input.plan_input.Tie as tie
 -- the arguments, from where the input has been read
 abbrev entry : tie.After-read-input → tie.Start
 entry c =
-    let lent = c .before .before .before .before in
-    lent .before .before .before .before .before .before .before .before .before .before
+    let lent = c .before .before .before .before .before in
+    let columns = lent .before .before .before .before in
+    columns .before .before .before .before .before
+
+-- the reading of the input, from where the columns are lent again
+abbrev reading : tie.After-wanted → tie.After-read-input
+reading c = let heads = c .before .before .before .before in heads .before .before .before
 
 read-input-requires : tie.Need-read-input-requires
 read-input-requires c κs = search needs
 
 plan-read-requires : tie.Need-plan-read-requires
 plan-read-requires c κs =
-    let wanted = c .before .before .before .before .before .before .before .before .before in
+    let columns = c .before .before .before .before in
+    let wanted = columns .before .before .before .before .before in
     let lengths = wanted .before .before in
     let heads = lengths .before .before in
     let tails = heads .before .before in
-    let call = tails .before in
+    let call = reading wanted in
     let s = entry call in
     let room = s .pre .0 in (
       call .read-input .ensures .1,
@@ -63,9 +69,10 @@ same-length-8 c = search needs
 returns : tie.Need-returns
 unfolding printed
 returns c =
-    let plan = c .before .before .before .before .before .before .before .before in
-    let wanted = plan .before .before .before .before .before .before .before .before .before .before in
-    let call = wanted .before .before .before .before .before .before .before in
+    let prices = c .before .before .before .before .before in
+    let plan = prices .before .before .before in
+    let columns = plan .before .before .before .before .before in
+    let call = reading (columns .before .before .before .before .before) in
     let input = entry call .args .input .now in
     record {
       counts = call .read-input .ensures .1;

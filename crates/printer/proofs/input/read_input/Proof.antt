@@ -32,7 +32,8 @@ same-length-4 c = search needs
 returns-2 : tie.Need-returns-2
 unfolding Below
 returns-2 c =
-    let call = c .before .before .before .before .before .before .before .before in
+    let lengths = c .before .before .before in
+    let call = lengths .before .before .before .before .before in
     let test = call .before .before .before .before .before in
     let bytes = test .before .before .before .before .before in
     let r = call .read-link-file in (

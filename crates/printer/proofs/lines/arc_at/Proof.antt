@@ -7,8 +7,6 @@ use Rattle.printer.proofs.Passing.{inside-same}
 use borrow.Author.Needs.{needs}
 use Rattle.printer.proofs.lines.arc_at.Statement.{statement}
 use Rattle.printer.proofs.lines.arc_at.Tie as tie
-use Rattle.printer.proofs.lines.arc_at.Reads as reads
-use Rattle.printer.proofs.lines.arc_at.Lts as lts
 
 mul-result : tie.Need-mul-result
 mul-result c = search needs

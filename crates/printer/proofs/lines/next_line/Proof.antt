@@ -12,13 +12,16 @@ use Rattle.printer.proofs.lines.next_line.Tie as tie
 
 -- what is printed, and from where
 module _ (c : tie.After-slice-known) where
+  abbrev entry : tie.Start
+  entry = let wanted = c .before .before .before .before in wanted .before .before .before
+
   abbrev subject : Finished
   subject =
-      let a = c .before .before .before .before .before .before .before .args in
+      let a = entry .args in
       printing (a .answer) (a .origin) (a .tails .now) (a .heads .now) (a .wanted .now) (a .distances .now) (a .prices .now) (a .tree .now)
 
   abbrev from : Cursor
-  from = c .before .before .before .before .before .before .before .args .cursor
+  from = entry .args .cursor
 
 enum-told : tie.Need-enum-told
 enum-told c = search needs
@@ -96,7 +99,7 @@ returns-4 c =
     let put = c .before .before in
     let told = put .before .before .before in
     let s = told .before .before in
-    at-cursor (subject s) (from s) (Node _) _ _ _ (told .cursor .given .1) (put .next-node .ensures)
+    at-cursor (subject s) (from s) (Node _) (put .next-node .result) (entry s .args .out .now) _ (told .cursor .given .1) (put .next-node .ensures)
 
 same-length-5 : tie.Need-same-length-5
 same-length-5 c = search needs
@@ -106,7 +109,7 @@ returns-5 c =
     let put = c .before .before in
     let told = put .before .before .before in
     let s = told .before .before in
-    at-cursor (subject s) (from s) (Path _) _ _ _ (told .cursor2 .given .1) (put .next-path .ensures)
+    at-cursor (subject s) (from s) (Path _) (put .next-path .result) (entry s .args .out .now) _ (told .cursor2 .given .1) (put .next-path .ensures)
 
 returns-6 : tie.Need-returns-6
 unfolding rest

@@ -1,22 +1,25 @@
 -- `printer::lines::next_node` meets its contract: the node's line is put, and the search goes on behind it. Assumes nothing.
-use native.Mathlib.Omega.{arith}
+use native.Mathlib.Nat.{le-trans}
 use Rattle.table.specs.Table.{no-distance}
 use Rattle.auction.specs.Demands.{distance-of, price-of, link-of}
 use Rattle.planner.specs.Plan.{answered}
 use Rattle.printer.proofs.Passing.{inside-same}
+use Rattle.sheet.specs.Sheet.{Finished}
 use Rattle.printer.specs.Lines.{printing, rest}
 use Rattle.printer.proofs.Rest.{node-last, node-put}
 use borrow.Author.Needs.{needs}
 use Rattle.printer.proofs.lines.next_node.Statement.{statement}
 use Rattle.printer.proofs.lines.next_node.Tie as tie
-use Rattle.printer.proofs.lines.next_node.Reads as reads
-use Rattle.printer.proofs.lines.next_node.Lts as lts
-use Rattle.printer.proofs.lines.arc_at.Reads as arc-at-reads
-use Rattle.printer.proofs.lines.next_path.Reads as next-path-reads
-use Rattle.printer.proofs.lines.next_with_distance.Reads as next-with-distance-reads
-use Rattle.printer.proofs.lines.node_count.Reads as node-count-reads
-use Rattle.printer.proofs.lines.price_at.Reads as price-at-reads
-use Rattle.printer.proofs.lines.put_node.Reads as put-node-reads
+
+-- what is printed, and from where
+module _ (c : tie.After-slice-known) where
+  abbrev entry : tie.Start
+  entry = let wanted = c .before .before .before .before in wanted .before .before .before
+
+  abbrev subject : Finished
+  subject =
+      let a = entry .args in
+      printing (a .answer) (a .origin) (a .tails .now) (a .heads .now) (a .wanted .now) (a .distances .now) (a .prices .now) (a .tree .now)
 
 node-count-requires : tie.Need-node-count-requires
 node-count-requires c κs = search needs
@@ -33,10 +36,15 @@ same-length c = search needs
 returns : tie.Need-returns
 unfolding printing answered rest
 returns c =
-    let a = c .before .before .before .before .before .before .before .before .before .before .before .before .before .before .args in
-    let n = c .before .before .before .before .before .before .node-count in
-    let f = c .before .before .before .before .before .next-with-distance in
-    node-last (printing (a .answer) (a .origin) (a .tails .now) (a .heads .now) (a .wanted .now) (a .distances .now) (a .prices .now) (a .tree .now)) (n .result) (a .from) (f .result) (n .ensures .0) (f .ensures) _ _ _ (omega arith) (c .before .before .next-path .ensures)
+    let call = c .before .before in
+    let test = call .before .before in
+    let found = test .before in
+    let count = found .before in
+    let s = count .before in
+    let f = found .next-with-distance in
+    let n = count .node-count in
+    node-last (subject s) (n .result) (entry s .args .from) (f .result) (n .ensures .0) (f .ensures) (call .next-path .result) (entry s .args .out .now) _ (test .if1 .taken)
+    (call .next-path .ensures)
 
 price-at-requires : tie.Need-price-at-requires
 price-at-requires c κs = search needs
@@ -62,13 +70,18 @@ same-length-2 c = search needs
 returns-2 : tie.Need-returns-2
 unfolding printing answered rest distance-of price-of link-of
 returns-2 c =
-    let a = c .before .before .before .before .before .before .before .before .before .before .before .before .before .before .before .before .before .args in
-    let n = c .before .before .before .before .before .before .before .before .before .node-count in
-    let f = c .before .before .before .before .before .before .before .before .next-with-distance in
-    let q = c .before .before .before .before .before .before .price-at in
-    let t = c .before .before .before .before .before .arc-at in
-    let p = c .before .before .put-node in
-    node-put (printing (a .answer) (a .origin) (a .tails .now) (a .heads .now) (a .wanted .now) (a .distances .now) (a .prices .now) (a .tree .now)) (n .result) (a .from) (f .result) (n .ensures .0) (f .ensures) (omega arith) (inside-same (a .distances .now) (f .result) 0 no-distance (omega (arith, n .ensures .1 .0))) (q .ensures) (t .ensures) (p .ensures)
+    let put = c .before .before in
+    let arc = put .before .before .before in
+    let price = arc .before in
+    let test = price .before in
+    let found = test .before in
+    let count = found .before in
+    let s = count .before in
+    let f = found .next-with-distance in
+    let n = count .node-count in
+    let there = le-trans (test .if1 .left) (n .ensures .1 .0) in
+    node-put (subject s) (n .result) (entry s .args .from) (f .result) (n .ensures .0) (f .ensures) (test .if1 .left)
+    (inside-same (entry s .args .distances .now) (f .result) 0 no-distance there) (price .price-at .ensures) (arc .arc-at .ensures) (put .put-node .ensures)
 
 pub next-node-spec : {M : Type 1} → statement M
 next-node-spec =

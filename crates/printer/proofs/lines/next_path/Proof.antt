@@ -1,20 +1,47 @@
 -- `printer::lines::next_path` meets its contract: the path listed is put, and the search goes on behind its node. Assumes nothing.
-use mathlib.Core.Path.{ap}
+use mathlib.Core.Path.{_≡_, ap}
+use mathlib.Core.List.{List}
+use Prim.Native.Nat.{ℕ, _≤_}
 use native.Mathlib.Omega.{arith}
-use lib.ListN.{length, length-take}
-use Rattle.paths.specs.Listing.{tree-in}
+use lib.ListN.{length, take, length-take}
+use Rattle.table.specs.Table.{most-nodes}
+use Rattle.paths.specs.Listing.{Listing, listing, tree-in}
 use Rattle.planner.specs.Plan.{answered}
+use Rattle.sheet.specs.Sheet.{Finished}
 use Rattle.printer.specs.Lines.{printing, rest}
 use Rattle.printer.proofs.Rest.{path-last, path-put, listed-count, listed-nodes, listing-fits}
 use borrow.Author.Needs.{needs}
 use Rattle.printer.proofs.lines.next_path.Statement.{statement}
 use Rattle.printer.proofs.lines.next_path.Tie as tie
-use Rattle.printer.proofs.lines.next_path.Reads as reads
-use Rattle.printer.proofs.lines.next_path.Lts as lts
-use Rattle.paths.proofs.list_path.Reads as list-path-reads
-use Rattle.printer.proofs.lines.next_with_path.Reads as next-with-path-reads
-use Rattle.printer.proofs.lines.node_count.Reads as node-count-reads
-use Rattle.printer.proofs.lines.put_path.Reads as put-path-reads
+
+-- what is printed, and from where
+module _ (c : tie.After-slice-known) where
+  abbrev entry : tie.Start
+  entry = let wanted = c .before .before .before .before in wanted .before .before .before
+
+  abbrev subject : Finished
+  subject =
+      let a = entry .args in
+      printing (a .answer) (a .origin) (a .tails .now) (a .heads .now) (a .wanted .now) (a .distances .now) (a .prices .now) (a .tree .now)
+
+-- where the path has been listed: the listing, and that its nodes stand at the start of the array
+module _ (c : tie.After-list-path) where
+  abbrev start : tie.Start
+  start = let found = c .before .before .before in entry (found .before .before)
+
+  abbrev path-there : Listing
+  path-there =
+      let a = start .args in
+      listing (a .origin) (c .before .before .before .next-with-path .result) (tree-in (a .tails .now) (a .heads .now) (a .tree .now)) most-nodes
+
+  abbrev nodes : List ℕ
+  nodes = c .list-path .last .1 .1 .1 .1 .1 .0
+
+  count-fits : c .list-path .result .count ≤ length nodes
+  count-fits = listed-count path-there (c .list-path .result) _ nodes (c .list-path .ensures)
+
+  nodes-there : take (c .list-path .result .count) nodes ≡ path-there .nodes
+  nodes-there = listed-nodes path-there (c .list-path .result) _ nodes (c .list-path .ensures)
 
 node-count-requires : tie.Need-node-count-requires
 node-count-requires c κs = search needs
@@ -25,10 +52,12 @@ next-with-path-requires c κs = search needs
 returns : tie.Need-returns
 unfolding printing answered rest
 returns c =
-    let a = c .before .before .before .before .before .before .before .before .before .before .args in
-    let n = c .before .before .node-count in
-    let f = c .before .next-with-path in
-    path-last (printing (a .answer) (a .origin) (a .tails .now) (a .heads .now) (a .wanted .now) (a .distances .now) (a .prices .now) (a .tree .now)) (n .result) (a .from) (f .result) (n .ensures .0) (f .ensures) _ (omega arith)
+    let found = c .before in
+    let count = found .before in
+    let s = count .before in
+    let f = found .next-with-path in
+    let n = count .node-count in
+    path-last (subject s) (n .result) (entry s .args .from) (f .result) (n .ensures .0) (f .ensures) _ (c .if1 .taken)
 
 cast-list-path : tie.Need-cast-list-path
 cast-list-path c = search needs
@@ -43,23 +72,20 @@ cast-k : tie.Need-cast-k
 cast-k c = search needs
 
 array-share-prefix-nodes : tie.Need-array-share-prefix-nodes
-array-share-prefix-nodes c =
-    let l = c .before .before .list-path in
-    listed-count _ (l .result) _ _ (l .ensures)
+array-share-prefix-nodes c = count-fits (c .before .before)
 
 slice-aggregate-put-path : tie.Need-slice-aggregate-put-path
 slice-aggregate-put-path c =
-    let l = c .before .before .before .list-path in
-    omega (arith, listed-count _ (l .result) _ _ (l .ensures), length-take (l .result .count) (l .last .1 .1 .1 .1 .1 .0))
+    let list = c .before .before .before in
+    omega (arith, count-fits list, length-take (list .list-path .result .count) (nodes list))
 
 put-path-requires : tie.Need-put-path-requires
 put-path-requires c κs =
-    let a = c .before .before .before .before .before .before .before .before .before .before .before .before .before .before .before .before in
-    let l = c .before .before .before .before .list-path in
-    let f = c .before .before .before .before .before .before .before .next-with-path in
-    let room =
-    listing-fits (a .args .origin) (f .result) (tree-in (a .args .tails .now) (a .args .heads .now) (a .args .tree .now)) 1024 in
-    (omega (arith, room, ap length (listed-nodes _ (l .result) _ _ (l .ensures))), a .pre)
+    let list = c .before .before .before .before in
+    let a = start list .args in
+    let v = list .before .before .before .next-with-path .result in
+    let room = listing-fits (a .origin) v (tree-in (a .tails .now) (a .heads .now) (a .tree .now)) most-nodes in
+    (omega (arith, room, ap length (nodes-there list)), start list .pre)
 
 add-t25 : tie.Need-add-t25
 add-t25 c = search needs
@@ -70,12 +96,15 @@ same-length c = search needs
 returns-2 : tie.Need-returns-2
 unfolding printing answered rest
 returns-2 c =
-    let a = c .before .before .before .before .before .before .before .before .before .before .before .before .before .before .before .before .before .before .before .args in
-    let n = c .before .before .before .before .before .before .before .before .before .before .before .node-count in
-    let f = c .before .before .before .before .before .before .before .before .before .before .next-with-path in
-    let l = c .before .before .before .before .before .before .before .list-path in
-    let p = c .before .before .put-path in
-    path-put (printing (a .answer) (a .origin) (a .tails .now) (a .heads .now) (a .wanted .now) (a .distances .now) (a .prices .now) (a .tree .now)) (n .result) (a .from) (f .result) (n .ensures .0) (f .ensures) (omega arith) (listed-nodes _ (l .result) _ _ (l .ensures)) (p .ensures)
+    let put = c .before .before in
+    let list = put .before .before .before .before .before in
+    let test = list .before .before in
+    let found = test .before in
+    let count = found .before in
+    let s = count .before in
+    let f = found .next-with-path in
+    let n = count .node-count in
+    path-put (subject s) (n .result) (entry s .args .from) (f .result) (n .ensures .0) (f .ensures) (test .if1 .left) (nodes-there list) (put .put-path .ensures)
 
 pub next-path-spec : {M : Type 1} → statement M
 next-path-spec =

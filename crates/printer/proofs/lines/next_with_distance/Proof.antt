@@ -7,8 +7,6 @@ use Rattle.sheet.specs.Sheet.{passing, has-distance}
 use Rattle.printer.proofs.Passing.{passing-later, found, none-found, distance-there, distance-missing}
 use Rattle.printer.proofs.lines.next_with_distance.Statement.{statement}
 use Rattle.printer.proofs.lines.next_with_distance.Tie as tie
-use Rattle.printer.proofs.lines.next_with_distance.Reads as reads
-use Rattle.printer.proofs.lines.next_with_distance.Lts as lts
 
 abbrev Inv-loop : tie.InvT-loop
 Inv-loop from n distances v₀ v = passing (has-distance distances) (n - from) from ≡ passing (has-distance distances) (n - v) v

@@ -28,7 +28,9 @@ wide-requires : tie.Need-wide-requires Inv-loop μ-loop
 wide-requires c κs = search needs
 
 lesser-requires : tie.Need-lesser-requires Inv-loop μ-loop
-lesser-requires c κs = omega (arith, c .before .before .before .loop .inv .low, c .before .before .before .before .before .before .pre)
+lesser-requires c κs =
+    let loop = c .before .before .before in
+    omega (arith, loop .loop .inv .low, loop .before .before .before .pre)
 
 add-i : tie.Need-add-i Inv-loop μ-loop
 add-i c = omega arith
@@ -38,11 +40,12 @@ loop-less c = omega arith
 
 loop-again : tie.Need-loop-again Inv-loop μ-loop
 loop-again c =
-    let l = c .before .before .before .before in
+    let number = c .before in
+    let test = number .before .before in
+    let l = test .before in
     let a = l .before .before .before .args in
-    let w = c .before .wide in
-    least-next (a .distances .now) (a .wanted .now) (a .from) (a .n) (l .loop .i) (l .loop .found) (c .lesser .result) (c .before .before .before .loop-test .taken) (l .loop .inv)
-    (subst (λ (v : ℕ). Lesser (a .distances .now) (a .from) (l .loop .found) v (c .lesser .result)) (w .ensures .0) (c .lesser .ensures))
+    least-next (a .distances .now) (a .wanted .now) (a .from) (a .n) (l .loop .i) (l .loop .found) (c .lesser .result) (test .loop-test .taken) (l .loop .inv)
+    (subst (λ (v : ℕ). Lesser (a .distances .now) (a .from) (l .loop .found) v (c .lesser .result)) (number .wide .ensures .0) (c .lesser .ensures))
 
 returns : tie.Need-returns Inv-loop μ-loop
 returns c =

@@ -3,8 +3,6 @@ use native.Mathlib.Omega.{arith}
 use Rattle.sheet.specs.Sheet.{node-count}
 use Rattle.printer.proofs.lines.node_count.Statement.{statement}
 use Rattle.printer.proofs.lines.node_count.Tie as tie
-use Rattle.printer.proofs.lines.node_count.Reads as reads
-use Rattle.printer.proofs.lines.node_count.Lts as lts
 
 returns : tie.Need-returns
 unfolding node-count

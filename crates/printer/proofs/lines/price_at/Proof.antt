@@ -5,8 +5,6 @@ use lib.ListN.{List·getD-eq-default}
 use borrow.Author.Needs.{needs}
 use Rattle.printer.proofs.lines.price_at.Statement.{statement}
 use Rattle.printer.proofs.lines.price_at.Tie as tie
-use Rattle.printer.proofs.lines.price_at.Reads as reads
-use Rattle.printer.proofs.lines.price_at.Lts as lts
 
 mul-result : tie.Need-mul-result
 mul-result c = search needs

@@ -9,10 +9,6 @@ use Rattle.sheet.specs.Sheet.{arc-text}
 use Rattle.printer.proofs.Begins.{begins-as}
 use Rattle.printer.proofs.lines.put_arc.Statement.{statement}
 use Rattle.printer.proofs.lines.put_arc.Tie as tie
-use Rattle.printer.proofs.lines.put_arc.Reads as reads
-use Rattle.printer.proofs.lines.put_arc.Lts as lts
-use Rattle.printer.proofs.text.put.Reads as put-reads
-use Rattle.printer.proofs.text.put_number.Reads as put-number-reads
 
 slice-aggregate-put : tie.Need-slice-aggregate-put
 slice-aggregate-put c = search needs
@@ -26,9 +22,11 @@ same-length c = search needs
 returns : tie.Need-returns
 unfolding arc-text
 returns c =
-    let p = c .before .before .put in
-    let a = c .before .before .before .before .before .before .before .args .arc in
-    let dash : text "-" ≡ arc-text a = rw (eq-eqb a no-arc (c .before .before .before .before .before .if1 .taken)) in
+    let put = c .before .before in
+    let test = put .before .before .before in
+    let p = put .put in
+    let arc = test .before .before .args .arc in
+    let dash : text "-" ≡ arc-text arc = rw (eq-eqb arc no-arc (test .if1 .taken)) in
     ((λ with before b. begins-as with dash (p .ensures .0 with before b)), (omega (arith, p .ensures .1 .0), p .ensures .1 .1))
 
 put-number-requires : tie.Need-put-number-requires
@@ -40,9 +38,11 @@ same-length-2 c = search needs
 returns-2 : tie.Need-returns-2
 unfolding arc-text
 returns-2 c =
-    let p = c .before .before .put-number in
-    let a = c .before .before .before .before .before .before .args .arc in
-    let number : decimal a ≡ arc-text a = rw (ne-eqb a no-arc (c .before .before .before .before .if1 .left)) in
+    let put = c .before .before in
+    let test = put .before .before in
+    let p = put .put-number in
+    let arc = test .before .before .args .arc in
+    let number : decimal arc ≡ arc-text arc = rw (ne-eqb arc no-arc (test .if1 .left)) in
     ((λ with before b. begins-as with number (p .ensures .0 with before b)), p .ensures .1)
 
 pub put-arc-spec : {M : Type 1} → statement M

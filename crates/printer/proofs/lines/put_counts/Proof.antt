@@ -5,10 +5,6 @@ use Rattle.sheet.specs.Sheet.{counts-line}
 use Rattle.printer.proofs.Begins.{begins-nothing}
 use Rattle.printer.proofs.lines.put_counts.Statement.{statement}
 use Rattle.printer.proofs.lines.put_counts.Tie as tie
-use Rattle.printer.proofs.lines.put_counts.Reads as reads
-use Rattle.printer.proofs.lines.put_counts.Lts as lts
-use Rattle.printer.proofs.text.put.Reads as put-reads
-use Rattle.printer.proofs.text.put_field.Reads as put-field-reads
 
 slice-aggregate-put-field : tie.Need-slice-aggregate-put-field
 slice-aggregate-put-field c = search needs
@@ -40,8 +36,14 @@ same-length c = search needs
 returns : tie.Need-returns
 unfolding counts-line
 returns c =
-    let o = c .before .before .before .before .before .before .before .before .before .before .before .before .before .before .before .before .before .before .before .before .before .args .out .now in
-    c .before .before .put .ensures .0 _ o (c .before .before .before .before .before .before .before .put-field3 .ensures .0 _ o (c .before .before .before .before .before .before .before .before .before .before .before .before .put-field2 .ensures .0 _ o (c .before .before .before .before .before .before .before .before .before .before .before .before .before .before .before .before .before .put-field .ensures .0 [] o (begins-nothing o))))
+    let end = c .before .before in
+    let deletions = end .before .before .before .before .before in
+    let extensions = deletions .before .before .before .before .before in
+    let contractions = extensions .before .before .before .before .before in
+    let out = contractions .before .before .before .before .args .out .now in
+    end .put .ensures .0 _ out
+    (deletions .put-field3 .ensures .0 _ out
+    (extensions .put-field2 .ensures .0 _ out (contractions .put-field .ensures .0 [] out (begins-nothing out))))
 
 pub put-counts-spec : {M : Type 1} → statement M
 put-counts-spec =

@@ -5,11 +5,6 @@ use Rattle.sheet.specs.Sheet.{node-line}
 use Rattle.printer.proofs.Begins.{begins-nothing}
 use Rattle.printer.proofs.lines.put_node.Statement.{statement}
 use Rattle.printer.proofs.lines.put_node.Tie as tie
-use Rattle.printer.proofs.lines.put_node.Reads as reads
-use Rattle.printer.proofs.lines.put_node.Lts as lts
-use Rattle.printer.proofs.lines.put_arc.Reads as put-arc-reads
-use Rattle.printer.proofs.text.put.Reads as put-reads
-use Rattle.printer.proofs.text.put_field.Reads as put-field-reads
 
 slice-aggregate-put-field : tie.Need-slice-aggregate-put-field
 slice-aggregate-put-field c = search needs
@@ -50,8 +45,18 @@ same-length c = search needs
 returns : tie.Need-returns
 unfolding node-line
 returns c =
-    let o = c .before .before .before .before .before .before .before .before .before .before .before .before .before .before .before .before .before .before .before .before .before .before .before .before .before .before .before .before .before .before .args .out .now in
-    c .before .before .put2 .ensures .0 _ o (c .before .before .before .before .before .before .before .put-arc .ensures .0 _ o (c .before .before .before .before .before .before .before .before .before .before .before .put .ensures .0 _ o (c .before .before .before .before .before .before .before .before .before .before .before .before .before .before .before .before .put-field3 .ensures .0 _ o (c .before .before .before .before .before .before .before .before .before .before .before .before .before .before .before .before .before .before .before .before .before .put-field2 .ensures .0 _ o (c .before .before .before .before .before .before .before .before .before .before .before .before .before .before .before .before .before .before .before .before .before .before .before .before .before .before .put-field .ensures .0 [] o (begins-nothing o))))))
+    let end = c .before .before in
+    let arc = end .before .before .before .before .before in
+    let name = arc .before .before .before .before in
+    let price = name .before .before .before .before .before in
+    let distance = price .before .before .before .before .before in
+    let node = distance .before .before .before .before .before in
+    let out = node .before .before .before .before .args .out .now in
+    end .put2 .ensures .0 _ out
+    (arc .put-arc .ensures .0 _ out
+    (name .put .ensures .0 _ out
+    (price .put-field3 .ensures .0 _ out
+    (distance .put-field2 .ensures .0 _ out (node .put-field .ensures .0 [] out (begins-nothing out))))))
 
 pub put-node-spec : {M : Type 1} → statement M
 put-node-spec =

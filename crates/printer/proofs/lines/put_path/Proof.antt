@@ -5,11 +5,6 @@ use Rattle.sheet.specs.Sheet.{path-line}
 use Rattle.printer.proofs.Begins.{begins-nothing}
 use Rattle.printer.proofs.lines.put_path.Statement.{statement}
 use Rattle.printer.proofs.lines.put_path.Tie as tie
-use Rattle.printer.proofs.lines.put_path.Reads as reads
-use Rattle.printer.proofs.lines.put_path.Lts as lts
-use Rattle.printer.proofs.lines.put_spaced.Reads as put-spaced-reads
-use Rattle.printer.proofs.text.put.Reads as put-reads
-use Rattle.printer.proofs.text.put_field.Reads as put-field-reads
 
 slice-aggregate-put-field : tie.Need-slice-aggregate-put-field
 slice-aggregate-put-field c = search needs
@@ -38,8 +33,13 @@ same-length c = search needs
 returns : tie.Need-returns
 unfolding path-line
 returns c =
-    let o = c .before .before .before .before .before .before .before .before .before .before .before .before .before .before .before .before .before .before .before .before .before .args .out .now in
-    c .before .before .put2 .ensures .0 _ o (c .before .before .before .before .before .before .before .put-spaced .ensures .0 _ o (c .before .before .before .before .before .before .before .before .before .before .before .put .ensures .0 _ o (c .before .before .before .before .before .before .before .before .before .before .before .before .before .before .before .before .put-field .ensures .0 [] o (begins-nothing o))))
+    let end = c .before .before in
+    let nodes = end .before .before .before .before .before in
+    let colon = nodes .before .before .before .before in
+    let node = colon .before .before .before .before .before in
+    let out = node .before .before .before .before .before .args .out .now in
+    end .put2 .ensures .0 _ out
+    (nodes .put-spaced .ensures .0 _ out (colon .put .ensures .0 _ out (node .put-field .ensures .0 [] out (begins-nothing out))))
 
 pub put-path-spec : {M : Type 1} → statement M
 put-path-spec =

@@ -5,10 +5,6 @@ use Rattle.sheet.specs.Sheet.{reached-line}
 use Rattle.printer.proofs.Begins.{begins-nothing}
 use Rattle.printer.proofs.lines.put_reached.Statement.{statement}
 use Rattle.printer.proofs.lines.put_reached.Tie as tie
-use Rattle.printer.proofs.lines.put_reached.Reads as reads
-use Rattle.printer.proofs.lines.put_reached.Lts as lts
-use Rattle.printer.proofs.text.put.Reads as put-reads
-use Rattle.printer.proofs.text.put_field.Reads as put-field-reads
 
 slice-aggregate-put-field : tie.Need-slice-aggregate-put-field
 slice-aggregate-put-field c = search needs
@@ -40,8 +36,14 @@ same-length c = search needs
 returns : tie.Need-returns
 unfolding reached-line
 returns c =
-    let o = c .before .before .before .before .before .before .before .before .before .before .before .before .before .before .before .before .before .before .before .before .before .args .out .now in
-    c .before .before .put .ensures .0 _ o (c .before .before .before .before .before .before .before .put-field3 .ensures .0 _ o (c .before .before .before .before .before .before .before .before .before .before .before .before .put-field2 .ensures .0 _ o (c .before .before .before .before .before .before .before .before .before .before .before .before .before .before .before .before .before .put-field .ensures .0 [] o (begins-nothing o))))
+    let end = c .before .before in
+    let iterations = end .before .before .before .before .before in
+    let horizon = iterations .before .before .before .before .before in
+    let reached = horizon .before .before .before .before .before in
+    let out = reached .before .before .before .before .args .out .now in
+    end .put .ensures .0 _ out
+    (iterations .put-field3 .ensures .0 _ out
+    (horizon .put-field2 .ensures .0 _ out (reached .put-field .ensures .0 [] out (begins-nothing out))))
 
 pub put-reached-spec : {M : Type 1} → statement M
 put-reached-spec =

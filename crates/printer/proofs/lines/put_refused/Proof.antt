@@ -5,10 +5,6 @@ use Rattle.sheet.specs.Sheet.{refused-line}
 use Rattle.printer.proofs.Begins.{begins-nothing}
 use Rattle.printer.proofs.lines.put_refused.Statement.{statement}
 use Rattle.printer.proofs.lines.put_refused.Tie as tie
-use Rattle.printer.proofs.lines.put_refused.Reads as reads
-use Rattle.printer.proofs.lines.put_refused.Lts as lts
-use Rattle.printer.proofs.text.put.Reads as put-reads
-use Rattle.printer.proofs.text.put_field.Reads as put-field-reads
 
 slice-aggregate-put-field : tie.Need-slice-aggregate-put-field
 slice-aggregate-put-field c = search needs
@@ -34,8 +30,11 @@ same-length c = search needs
 returns : tie.Need-returns
 unfolding refused-line
 returns c =
-    let o = c .before .before .before .before .before .before .before .before .before .before .before .before .before .before .before .before .args .out .now in
-    c .before .before .put .ensures .0 _ o (c .before .before .before .before .before .before .before .put-field2 .ensures .0 _ o (c .before .before .before .before .before .before .before .before .before .before .before .before .put-field .ensures .0 [] o (begins-nothing o)))
+    let end = c .before .before in
+    let place = end .before .before .before .before .before in
+    let number = place .before .before .before .before .before in
+    let out = number .before .before .before .before .args .out .now in
+    end .put .ensures .0 _ out (place .put-field2 .ensures .0 _ out (number .put-field .ensures .0 [] out (begins-nothing out)))
 
 pub put-refused-spec : {M : Type 1} → statement M
 put-refused-spec =

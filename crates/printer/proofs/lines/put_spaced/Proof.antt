@@ -6,9 +6,6 @@ use lib.ListN.{length}
 use Rattle.printer.proofs.Spaced.{Spacing, spacing-starts, spacing-next, spacing-done}
 use Rattle.printer.proofs.lines.put_spaced.Statement.{statement}
 use Rattle.printer.proofs.lines.put_spaced.Tie as tie
-use Rattle.printer.proofs.lines.put_spaced.Reads as reads
-use Rattle.printer.proofs.lines.put_spaced.Lts as lts
-use Rattle.printer.proofs.text.put_field.Reads as put-field-reads
 
 abbrev Inv-loop : tie.InvT-loop
 Inv-loop nodes at out₀ end₀ i₀ t6 out end i = Spacing nodes out₀ out at end i
@@ -17,7 +14,7 @@ abbrev μ-loop : tie.MeasureT-loop
 μ-loop nodes at out₀ end₀ i₀ t6 out end i = length nodes - i
 
 loop-holds : tie.Need-loop-holds Inv-loop μ-loop
-loop-holds c = spacing-starts (c .before .before .args .nodes .now) (c .before .before .args .out .now) (c .before .before .args .at)
+loop-holds c = let a = c .before .before .args in spacing-starts (a .nodes .now) (a .out .now) (a .at)
 
 slice-aggregate-put-field : tie.Need-slice-aggregate-put-field Inv-loop μ-loop
 slice-aggregate-put-field c = search needs
@@ -42,10 +39,13 @@ loop-less c = omega arith
 
 loop-again : tie.Need-loop-again Inv-loop μ-loop
 loop-again c =
-    let a = c .before .before .before .before .before .before .before .before .before .before .before .args in
-    let l = c .before .before .before .before .before .before .before .before .loop in
-    let f = c .before .before .put-field in
-    let w = c .before .before .before .before .wide in
+    let field = c .before .before in
+    let number = field .before .before in
+    let loop = number .before .before .before .before in
+    let a = loop .before .before .before .args in
+    let l = loop .loop in
+    let f = field .put-field in
+    let w = number .wide in
     spacing-next (a .nodes .now) (a .out .now) (l .out) _ (a .at) (l .end) (f .result) (l .i) (w .result) (l .inv) (omega arith) (w .ensures .0) (f .ensures .0)
     (f .ensures .1)
 
@@ -54,8 +54,9 @@ same-length c = c .before .loop .inv .same
 
 returns : tie.Need-returns Inv-loop μ-loop
 returns c =
-    let a = c .before .before .before .before .args in
-    let l = c .before .loop in (
+    let loop = c .before in
+    let a = loop .before .before .before .args in
+    let l = loop .loop in (
       spacing-done (a .nodes .now) (a .out .now) (l .out) (a .at) (l .end) (l .i) (l .inv) (omega arith),
       (omega (arith, l .inv .short, l .inv .low), l .inv .same),
     )

@@ -22,6 +22,10 @@ abbrev μ-loop : tie.MeasureT-loop
 μ-loop answer origin tails heads wanted distances prices tree out₀ at₀ next₀ out at next =
     length (rest (printing answer origin tails heads wanted distances prices tree) next)
 
+-- the arguments, from the loop
+abbrev entry : tie.At-loop Inv-loop μ-loop → tie.Start Inv-loop μ-loop
+entry c = let wanted = c .before .before .before .before .before in wanted .before .before .before
+
 loop-holds : tie.Need-loop-holds Inv-loop μ-loop
 loop-holds c = filling-starts _ _ _
 
@@ -35,7 +39,7 @@ part-next-line-start : tie.Need-part-next-line-start Inv-loop μ-loop
 part-next-line-start c = search (needs, c .before .loop .inv .inside)
 
 part-next-line-end : tie.Need-part-next-line-end Inv-loop μ-loop
-part-next-line-end c = search (needs, c .before .loop .inv .inside)
+part-next-line-end c = search needs
 
 next-line-requires : tie.Need-next-line-requires Inv-loop μ-loop
 next-line-requires c κs =
@@ -52,8 +56,7 @@ enum-told c = search needs
 module _ (c : tie.After-next-line Inv-loop μ-loop) where
   abbrev subject : Finished
   subject =
-      let known = c .before .before .before .before in
-      let a = known .before .before .before .before .before .before .before .args in
+      let a = entry (c .before .before .before) .args in
       printing (a .answer) (a .origin) (a .tails .now) (a .heads .now) (a .wanted .now) (a .distances .now) (a .prices .now) (a .tree .now)
 
   abbrev at : ℕ
@@ -72,9 +75,8 @@ add-at : tie.Need-add-at Inv-loop μ-loop
 add-at c =
     let back = c .before .before .before .before in
     let call = back .before in
-    let entry = call .before .before .before .before .before .before .before .before .before .before .before in
     let f = filling-next (subject call) _ _ (out call) (at call) _ (call .before .before .before .loop .inv) (part call) _ _ (back .out .given .0) (answers call _ (c .before .line .given .1)) in
-    omega (arith, f .inside, f .same, entry .good .1 .1 .1 .1 .1 .1)
+    omega (arith, f .inside, f .same, entry (call .before .before .before) .good .1 .1 .1 .1 .1 .1)
 
 loop-less : tie.Need-loop-less Inv-loop μ-loop
 loop-less c =
@@ -93,7 +95,7 @@ same-length c = c .before .loop .inv .same
 returns : tie.Need-returns Inv-loop μ-loop
 returns c =
     let l = c .before .loop in
-    filled _ _ _ _ _ _ (l .inv) (omega (arith, c .loop-test .left, l .inv .same, c .before .before .before .before .before .before .before .before .before .pre))
+    filled _ _ _ _ _ _ (l .inv) (omega (arith, c .loop-test .left, l .inv .same, entry (c .before) .pre))
 
 same-length-2 : tie.Need-same-length-2 Inv-loop μ-loop
 same-length-2 c =

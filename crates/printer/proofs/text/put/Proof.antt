@@ -7,8 +7,6 @@ use lib.Seq.{paste, paste-zero}
 use Rattle.printer.proofs.Begins.{pasted-length, pasted-next, pasted-whole}
 use Rattle.printer.proofs.text.put.Statement.{statement}
 use Rattle.printer.proofs.text.put.Tie as tie
-use Rattle.printer.proofs.text.put.Reads as reads
-use Rattle.printer.proofs.text.put.Lts as lts
 
 abbrev Inv-loop : tie.InvT-loop
 Inv-loop text at out₀ i₀ out i = (i ≤ length text) × (out ≡ paste out₀ at text i)

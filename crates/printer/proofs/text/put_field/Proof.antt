@@ -4,10 +4,6 @@ use native.Mathlib.Omega.{arith}
 use borrow.Author.Needs.{needs}
 use Rattle.printer.proofs.text.put_field.Statement.{statement}
 use Rattle.printer.proofs.text.put_field.Tie as tie
-use Rattle.printer.proofs.text.put_field.Reads as reads
-use Rattle.printer.proofs.text.put_field.Lts as lts
-use Rattle.printer.proofs.text.put.Reads as put-reads
-use Rattle.printer.proofs.text.put_number.Reads as put-number-reads
 
 put-requires : tie.Need-put-requires
 put-requires c κs = search needs
@@ -20,8 +16,10 @@ same-length c = search needs
 
 returns : tie.Need-returns
 returns c =
-    let q = c .before .before .put-number in
-    let p = c .before .before .before .before .before .before .put in (
+    let number = c .before .before in
+    let name = number .before .before .before .before in
+    let q = number .put-number in
+    let p = name .put in (
       (λ with before b. q .ensures .0 _ before (p .ensures .0 with before b)),
       (omega (arith, q .ensures .1 .0, p .ensures .1 .0), q .ensures .1 .1 ∙ p .ensures .1 .1),
     )

@@ -6,10 +6,6 @@ use Rattle.printer.proofs.Begins.{begins-as}
 use Rattle.printer.proofs.Decimal.{fewest-few, fewest-decimal}
 use Rattle.printer.proofs.text.put_number.Statement.{statement}
 use Rattle.printer.proofs.text.put_number.Tie as tie
-use Rattle.printer.proofs.text.put_number.Reads as reads
-use Rattle.printer.proofs.text.put_number.Lts as lts
-use Rattle.io.proofs.decimal.Reads as decimal-reads
-use Rattle.printer.proofs.text.put.Reads as put-reads
 
 decimal-requires : tie.Need-decimal-requires
 decimal-requires c κs = search needs
@@ -22,20 +18,23 @@ slice-aggregate-put c = search needs
 
 put-requires : tie.Need-put-requires
 put-requires c κs =
-    let d = c .before .before .decimal in
-    let a = c .before .before .before .before .before in
-    omega (arith, d .ensures .0 .1, fewest-few (a .args .n) (d .result) (d .ensures .1 .0) (a .fits .n .fits), a .pre)
+    let spell = c .before .before in
+    let s = spell .before .before .before in
+    let d = spell .decimal in
+    omega (arith, d .ensures .0 .1, fewest-few (s .args .n) (d .result) (d .ensures .1 .0) (s .fits .n .fits), s .pre)
 
 same-length : tie.Need-same-length
 same-length c = search needs
 
 returns : tie.Need-returns
 returns c =
-    let p = c .before .before .put in
-    let d = c .before .before .before .before .before .decimal in
-    let a = c .before .before .before .before .before .before .before .before in
-    let n = a .args .n in
-    let small = a .fits .n .fits in
+    let put = c .before .before in
+    let spell = put .before .before .before in
+    let s = spell .before .before .before in
+    let p = put .put in
+    let d = spell .decimal in
+    let n = s .args .n in
+    let small = s .fits .n .fits in
     let spelt = d .ensures .1 .1 ∙ fewest-decimal n (d .result) (d .ensures .1 .0) small in (
       (λ with before b. begins-as with spelt (p .ensures .0 with before b)),
       (omega (arith, p .ensures .1 .0, d .ensures .0 .1, fewest-few n (d .result) (d .ensures .1 .0) small), p .ensures .1 .1),
