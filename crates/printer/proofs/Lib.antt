@@ -4,5 +4,4 @@ pub mod Passing
 pub mod Spaced
 pub mod Rest
 pub mod Filling
-pub mod Planning
 pub mod Promised

@@ -8,7 +8,7 @@ use Rattle.printer.specs.declared.lines.Cursor.{Cursor}
 use Rattle.printer.specs.declared.lines.Cursor.the-variants.{Start}
 use Rattle.printer.specs.Lines.{rest}
 use Rattle.printer.specs.Pieces.{Pieces}
-use Rattle.printer.specs.Input.{printing-read}
+use Rattle.input.specs.Input.{printing-read}
 use Rattle.printer.specs.Promises.{Pieces-printed}
 
 pieces-joined : (p : Finished) (from : Cursor) (pieces : List (List ℕ)) → Pieces p from pieces → joined pieces ≡ joined (rest p from)

@@ -9,16 +9,13 @@ use Rattle.table.specs.Table.{most-nodes}
 use Rattle.table.specs.Slices.{Slice, was, left}
 use Rattle.planner.specs.declared.Planned.{Planned}
 use Rattle.planner.specs.Plan.{answered}
+use Rattle.input.specs.Printing.{printing}
 use Rattle.sheet.specs.Sheet.{Finished, finished, node-count, has-distance, has-path, passing, path-nodes, node-lines, path-lines, from-counts, from-reached, sheet}
 use Rattle.printer.specs.declared.lines.Cursor.{Cursor}
 use Rattle.printer.specs.declared.lines.Cursor.the-variants.{Start, Reached, Counts, Node, Path, End}
 use Rattle.printer.specs.declared.lines.Line.{Line}
 use Rattle.printer.specs.declared.lines.Line.the-variants.{Put, Last}
 use Rattle.printer.specs.Buffers.{Begins}
-
--- what is printed, as the code has it: the answer and the columns. A sheet does not show the marks.
-unfoldable pub printing : Planned → (origin : ℕ) → (tails heads wanted distances prices tree : List ℕ) → Finished
-printing a o ts hs ws ds ps tr = finished o ts hs ws (answered a ds ps tr [])
 
 -- the lines from the line of a node on, and from the path line of a node on
 unfoldable pub paths-from : Finished → (v : ℕ) → List (List ℕ)

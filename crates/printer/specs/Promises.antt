@@ -5,9 +5,9 @@ use Prim.Native.Nat.{ℕ}
 use Rattle.sheet.specs.Sheet.{Finished}
 use Rattle.sheet.specs.Printed.{joined, printed}
 use Rattle.printer.specs.declared.lines.Cursor.the-variants.{Start}
-use Rattle.printer.specs.declared.input.PlannedInput.{PlannedInput}
+use Rattle.input.specs.declared.PlannedInput.{PlannedInput}
 use Rattle.printer.specs.Pieces.{Pieces}
-use Rattle.printer.specs.Input.{printing-read, Ready}
+use Rattle.input.specs.Input.{printing-read, Ready}
 
 -- THE PIECES ARE WHAT IS PRINTED. From what plan_input leaves of an input, the pieces from the start to the end, one after the other, are the lines that are
 -- printed of that input.

@@ -1,12 +1,12 @@
 // The program: reads a link file from standard input, plans its routes and prints the sheet. It only moves bytes: what is printed of an input is defined in
-// crates/sheet (specs/Printed.antt), and crates/printer has the two calls that are made here, plan_input once and next_piece until there is no more.
+// crates/sheet (specs/Printed.antt); the two calls that are made here are input::plan_input, once, and printer::next_piece, until there is no more.
 ghost use Prim.Native.Nat.{_≤_};
 ghost use lib.ListN.{length};
 ghost use Rattle.printer.specs.Lines.{line-room};
-ghost use Rattle.printer.specs.Input.{Prints};
+ghost use Rattle.input.specs.Input.{Prints};
+use input::MOST_INPUT;
 use planner::Planned;
 use printer::Cursor;
-use printer::MOST_INPUT;
 use table::MOST_ARCS;
 use table::MOST_NODES;
 use table::MOST_WANTED;
@@ -66,7 +66,7 @@ fn print_input(input: &[u8]) {
     let mut prices = [0u64; MOST_NODES];
     let mut tree = [0u16; MOST_NODES];
     let mut marks = [0u8; MOST_ARCS];
-    let planned = printer::plan_input(
+    let planned = input::plan_input(
         input,
         &mut tails,
         &mut heads,

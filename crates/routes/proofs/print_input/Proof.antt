@@ -2,8 +2,8 @@
 -- Assumes nothing.
 use native.Mathlib.Omega.{arith}
 use borrow.Author.Needs.{needs}
-use Rattle.printer.specs.Input.{printing-read}
-use Rattle.printer.proofs.Planning.{part-of}
+use Rattle.input.specs.Input.{printing-read}
+use Rattle.input.proofs.Planning.{part-of}
 use Rattle.routes.proofs.print_input.Statement.{statement}
 use Rattle.routes.proofs.print_input.Tie as tie
 

@@ -4,7 +4,8 @@ use native.Mathlib.Omega.{arith}
 use borrow.Author.Needs.{needs}
 use lib.ListN.{length}
 use lib.Seq.{length-take-le}
-use Rattle.printer.specs.Lines.{printing, rest}
+use Rattle.input.specs.Printing.{printing}
+use Rattle.printer.specs.Lines.{rest}
 use Rattle.routes.proofs.print_pieces.Statement.{statement}
 use Rattle.routes.proofs.print_pieces.Tie as tie
 

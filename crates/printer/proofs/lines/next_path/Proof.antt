@@ -8,7 +8,8 @@ use Rattle.table.specs.Table.{most-nodes}
 use Rattle.paths.specs.Listing.{Listing, listing, tree-in}
 use Rattle.planner.specs.Plan.{answered}
 use Rattle.sheet.specs.Sheet.{Finished}
-use Rattle.printer.specs.Lines.{printing, rest}
+use Rattle.input.specs.Printing.{printing}
+use Rattle.printer.specs.Lines.{rest}
 use Rattle.printer.proofs.Rest.{path-last, path-put, listed-count, listed-nodes, listing-fits}
 use borrow.Author.Needs.{needs}
 use Rattle.printer.proofs.lines.next_path.Statement.{statement}

@@ -13,8 +13,8 @@ use Rattle.link_file.specs.Promises.{Counts-fit}
 use Rattle.planner.specs.declared.Planned.{Planned}
 use Rattle.sheet.specs.Sheet.{Finished, sheet}
 use Rattle.sheet.specs.Printed.{read-input, lines-of, printed}
-use Rattle.printer.specs.declared.input.PlannedInput.{PlannedInput}
-use Rattle.printer.specs.Lines.{printing}
+use Rattle.input.specs.declared.PlannedInput.{PlannedInput}
+use Rattle.input.specs.Printing.{printing}
 
 -- the columns and the buffers that are lent have room for every table
 pub record Columns-roomy (tails heads lengths wanted : List ℕ) : Type 0 where

@@ -25,8 +25,8 @@ use Rattle.sheet.specs.Printed.{most-input, read-input, plan-of, lines-of}
 use Rattle.sheet.specs.Promises.{Refusals-printed}
 use Rattle.sheet.proofs.Promised.{refusals-printed}
 use Rattle.sheet.proofs.Unseen.{unseen}
-use Rattle.printer.specs.Lines.{printing}
-use Rattle.printer.specs.Input.{Columns-roomy, printing-read, refused-file, Refuses-well}
+use Rattle.input.specs.Printing.{printing}
+use Rattle.input.specs.Input.{Columns-roomy, printing-read, refused-file, Refuses-well}
 
 -- a list at the start of a buffer
 pub start-of : (xs buffer : List ℕ) (k : ℕ) → k ≡ length xs → take k (over xs buffer) ≡ xs

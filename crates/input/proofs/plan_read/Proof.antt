@@ -1,10 +1,10 @@
--- `printer::input::plan_read` meets its contract: a file that was refused is not planned, another one is. Assumes nothing.
+-- `input::plan_read` meets its contract: a file that was refused is not planned, another one is. Assumes nothing.
 use mathlib.Core.Path.{sym, _∙_}
 use lib.ListN.{take}
 use borrow.Author.Needs.{needs}
-use Rattle.printer.proofs.Planning.{part-of, refused-read, planned-parts}
-use Rattle.printer.proofs.input.plan_read.Statement.{statement}
-use Rattle.printer.proofs.input.plan_read.Tie as tie
+use Rattle.input.proofs.Planning.{part-of, refused-read, planned-parts}
+use Rattle.input.proofs.plan_read.Statement.{statement}
+use Rattle.input.proofs.plan_read.Tie as tie
 
 -- the arguments, from where the slices are known, and from where the counts have been taken
 abbrev entry : tie.After-struct-known → tie.Start

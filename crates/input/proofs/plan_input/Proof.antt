@@ -1,10 +1,10 @@
--- `printer::input::plan_input` meets its contract: what was read is planned, and what is printed of it is printed of the input. Assumes nothing.
+-- `input::plan_input` meets its contract: what was read is planned, and what is printed of it is printed of the input. Assumes nothing.
 use native.Mathlib.Omega.{arith}
 use borrow.Author.Needs.{needs}
 use Rattle.sheet.specs.Printed.{read-input, printed}
-use Rattle.printer.proofs.Planning.{input-refuses-well}
-use Rattle.printer.proofs.input.plan_input.Statement.{statement}
-use Rattle.printer.proofs.input.plan_input.Tie as tie
+use Rattle.input.proofs.Planning.{input-refuses-well}
+use Rattle.input.proofs.plan_input.Statement.{statement}
+use Rattle.input.proofs.plan_input.Tie as tie
 
 -- the arguments, from where the input has been read
 abbrev entry : tie.After-read-input → tie.Start

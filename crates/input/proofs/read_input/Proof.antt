@@ -1,11 +1,11 @@
--- `printer::input::read_input` meets its contract: too long an input is refused, and another one is read. Assumes nothing.
+-- `input::read_input` meets its contract: too long an input is refused, and another one is read. Assumes nothing.
 use native.Mathlib.Omega.{arith}
 use borrow.Author.Needs.{needs}
 use Rattle.table.specs.Table.{Below}
 use Rattle.link_file.proofs.EntryTrips.{answers-fit}
-use Rattle.printer.proofs.Planning.{input-too-long, input-read}
-use Rattle.printer.proofs.input.read_input.Statement.{statement}
-use Rattle.printer.proofs.input.read_input.Tie as tie
+use Rattle.input.proofs.Planning.{input-too-long, input-read}
+use Rattle.input.proofs.read_input.Statement.{statement}
+use Rattle.input.proofs.read_input.Tie as tie
 
 cast-t8 : tie.Need-cast-t8
 cast-t8 c = search needs
