@@ -3,6 +3,7 @@
 mod input;
 mod lines;
 mod pieces;
+mod putting;
 mod text;
 
 pub use input::MOST_INPUT;

@@ -2,7 +2,7 @@
 use native.Mathlib.Omega.{arith}
 use borrow.Author.Needs.{needs}
 use Rattle.sheet.specs.Printed.{read-input, printed}
-use Rattle.printer.proofs.Planning.{input-refuses-well}
+use Rattle.printer.proofs.input.Planning.{input-refuses-well}
 use Rattle.printer.proofs.input.plan_input.Statement.{statement}
 use Rattle.printer.proofs.input.plan_input.Tie as tie
 

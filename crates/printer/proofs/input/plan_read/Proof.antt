@@ -2,7 +2,7 @@
 use mathlib.Core.Path.{sym, _∙_}
 use lib.ListN.{take}
 use borrow.Author.Needs.{needs}
-use Rattle.printer.proofs.Planning.{part-of, refused-read, planned-parts}
+use Rattle.printer.proofs.input.Planning.{part-of, refused-read, planned-parts}
 use Rattle.printer.proofs.input.plan_read.Statement.{statement}
 use Rattle.printer.proofs.input.plan_read.Tie as tie
 

@@ -3,7 +3,7 @@ use native.Mathlib.Omega.{arith}
 use borrow.Author.Needs.{needs}
 use Rattle.table.specs.Table.{Below}
 use Rattle.link_file.proofs.EntryTrips.{answers-fit}
-use Rattle.printer.proofs.Planning.{input-too-long, input-read}
+use Rattle.printer.proofs.input.Planning.{input-too-long, input-read}
 use Rattle.printer.proofs.input.read_input.Statement.{statement}
 use Rattle.printer.proofs.input.read_input.Tie as tie
 

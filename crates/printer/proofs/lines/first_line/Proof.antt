@@ -5,7 +5,7 @@ use Rattle.planner.specs.Plan.{answered}
 use Rattle.sheet.specs.Sheet.{from-reached}
 use Rattle.printer.specs.declared.lines.Cursor.the-variants.{Reached, Counts, End}
 use Rattle.printer.specs.Lines.{printing, rest}
-use Rattle.printer.proofs.Rest.{gives-put, refused-some, reached-some, start-unrefused, start-no-route, start-refused-only}
+use Rattle.printer.proofs.lines.Rest.{gives-put, refused-some, reached-some, start-unrefused, start-no-route, start-refused-only}
 use Rattle.printer.proofs.lines.first_line.Statement.{statement}
 use Rattle.printer.proofs.lines.first_line.Tie as tie
 
