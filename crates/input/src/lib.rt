@@ -17,7 +17,7 @@ pub struct PlannedInput {
     pub answer: Planned,
 }
 
-// Reads the input as a link file, unless it is too long to be one.
+// Reads the input as a link file. One that is too long to be a link file is refused as one with too many arcs, and not read.
 fn read_input(
     input: &[u8],
     tails: &mut [u16],
@@ -58,7 +58,7 @@ fn refused(number: u32, place: u32) -> Planned
     }
 }
 
-// Plans what was read: the starts of the columns, as many entries as were filled.
+// Plans what was read: of each column the start that reading filled, with as much of each buffer as the table needs. The refusal of a file is the answer.
 fn plan_read(
     read: TableRead,
     tails: &[u16],
@@ -95,7 +95,7 @@ fn plan_read(
     )
 }
 
-// Reads the input and plans its table. The buffers have room for every table.
+// Reads the input and plans its table. The columns and buffers have room for every table; what is left in them is what the sheet is printed from.
 pub fn plan_input(
     input: &[u8],
     tails: &mut [u16],

@@ -1,10 +1,8 @@
 // The library for firmware: the four entry points under C names, nothing else. include/kestrelore.h declares them; each has the contract of the function
 // that it hands on to.
-ghost use mathlib.Core.Path.{_≡_};
-ghost use lib.ListN.{length};
 ghost use Rattle.planner.specs.Plan.{Plans};
-ghost use Rattle.paths.specs.Listing.{tree-in, listing, Lists};
-ghost use Rattle.link_file.specs.Entries.{Read-says, Write-says};
+ghost use Rattle.paths.specs.Listing.{Lists-path};
+ghost use Rattle.link_file.specs.Entries.{Reads-file, Writes-file};
 use link_file::TableRead;
 use link_file::Written;
 use paths::Listed;
@@ -50,7 +48,7 @@ pub extern "C" fn kestrelore_list_path(
     tree: &[u16],
     output: &mut [u16],
 ) -> Listed
-    ensures { λ r. ⌜ Lists (listing origin node (tree-in (now (tails .entry)) (now (heads .entry)) (now (tree .entry))) (length (now (output .entry)))) r (now (output .entry)) (now (output .exit)) ⌝ }
+    ensures { λ r. ⌜ Lists-path origin node tails heads tree output r ⌝ }
 {
     paths::list_path(origin, node, tails, heads, tree, output)
 }
@@ -64,7 +62,7 @@ pub extern "C" fn kestrelore_read_link_file(
     lengths: &mut [u32],
     wanted: &mut [u16],
 ) -> TableRead
-    ensures { λ r. ⌜ Read-says (now (file .entry)) (now (tails .entry)) (now (heads .entry)) (now (lengths .entry)) (now (wanted .entry)) (now (tails .exit)) (now (heads .exit)) (now (lengths .exit)) (now (wanted .exit)) r ⌝ }
+    ensures { λ r. ⌜ Reads-file file tails heads lengths wanted r ⌝ }
 {
     link_file::read_link_file(file, tails, heads, lengths, wanted)
 }
@@ -80,7 +78,7 @@ pub extern "C" fn kestrelore_write_link_file(
     wanted: &[u16],
     output: &mut [u8],
 ) -> Written
-    ensures { λ r. ⌜ Write-says n origin (now (tails .entry)) (now (heads .entry)) (now (lengths .entry)) (now (wanted .entry)) (now (output .entry)) (now (output .exit)) r ⌝ }
+    ensures { λ r. ⌜ Writes-file n origin tails heads lengths wanted output r ⌝ }
 {
     link_file::write_link_file(n, origin, tails, heads, lengths, wanted, output)
 }

@@ -5,6 +5,7 @@ use mathlib.Core.Path.{_≡_}
 use Prim.Native.Nat.{ℕ}
 use lib.ListN.{length}
 use Rattle.table.specs.declared.Refusal.{Refusal}
+use Rattle.table.specs.Slices.{Slice, was, left}
 use Rattle.link_format.specs.Buffers.{over, reading, refusal-of, content-of, file-of, writing, put-bytes}
 use Rattle.link_format.specs.Format.{Content, tails-of, heads-of, lengths-of}
 use Rattle.link_format.specs.Reading.{Outcome}
@@ -28,6 +29,10 @@ pub record Left-by-reading (o : Outcome Content) (tails heads lengths wanted tai
 abbrev pub Read-says : (file tails heads lengths wanted tails′ heads′ lengths′ wanted′ : List ℕ) → TableRead → Type 0
 Read-says file ts hs ls ws ts′ hs′ ls′ ws′ r = Left-by-reading (reading file ts hs ls ws) ts hs ls ws ts′ hs′ ls′ ws′ r
 
+-- THE CONTRACT of read_link_file, of the slices that are lent
+abbrev pub Reads-file : (file tails heads lengths wanted : Slice) → TableRead → Type 0
+Reads-file file ts hs ls ws r = Read-says (was file) (was ts) (was hs) (was ls) (was ws) (left ts) (left hs) (left ls) (left ws) r
+
 -- the writer's answer
 unfoldable pub write-answer : Refusal → (size : ℕ) → Written
 write-answer f size = record { number = f .number; place = f .place; length = size }
@@ -41,3 +46,7 @@ pub record Left-by-writing (f : Refusal) (file output output′ : List ℕ) (r :
 abbrev pub Write-says : (n origin : ℕ) → (tails heads lengths wanted output output′ : List ℕ) → Written → Type 0
 Write-says n o ts hs ls ws output output′ r =
     Left-by-writing (writing n o ts hs ls ws (length output)) (file-of n o ts hs ls ws) output output′ r
+
+-- THE CONTRACT of write_link_file, of the slices that are lent
+abbrev pub Writes-file : (n origin : ℕ) → (tails heads lengths wanted output : Slice) → Written → Type 0
+Writes-file n o ts hs ls ws output r = Write-says n o (was ts) (was hs) (was ls) (was ws) (was output) (left output) r

@@ -37,6 +37,7 @@ pub struct Absent {
     pub length: usize,
 }
 
+// A bit of a bit map: its weight where the field stands, else 0.
 fn bit(stands: bool, weight: u8) -> u8
     ensures { λ r. ⌜ (r ≡ cond stands weight 0) × (r ≤ weight) ⌝ }
 {
@@ -90,6 +91,7 @@ pub fn implied(previous: Previous) -> Absent
     }
 }
 
+// Whether no record comes before.
 fn is_first(previous: Previous) -> bool
     ensures { λ r. ⌜ r ≡ first (arc-before previous) ⌝ }
 {

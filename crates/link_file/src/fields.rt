@@ -3,6 +3,7 @@ use table::Refusal;
 ghost use mathlib.Core.Path.{_≡_};
 ghost use Prim.Native.Nat.{_+_, _≤_, _<_};
 ghost use lib.ListN.{length};
+ghost use Rattle.table.specs.Slices.{was, left};
 ghost use Rattle.table.specs.Refusals.{refusal};
 ghost use Rattle.link_format.specs.Format.{length-width, limit, bytes, field-bytes};
 ghost use Rattle.link_format.specs.Reading.{field};
@@ -24,6 +25,7 @@ pub enum Field {
     Cut,
 }
 
+// A byte as a number.
 fn value_of(byte: u8) -> usize
     ensures { λ r. ⌜ r ≡ byte ⌝ }
 {
@@ -33,7 +35,7 @@ fn value_of(byte: u8) -> usize
 // The field of so many bytes at an offset of a part of the file.
 pub fn read_field(part: &[u8], from: usize, width: usize) -> Field
     requires { ⌜ (from ≤ length (now part)) × (width ≤ length-width) ⌝ }
-    ensures { λ r. ⌜ Field-says r (field width) (now (part .entry)) from width (limit width) ⌝ }
+    ensures { λ r. ⌜ Field-says r (field width) (was part) from width (limit width) ⌝ }
 {
     if part.len() - from < width {
         return Field::Cut;
@@ -50,7 +52,7 @@ pub fn read_field(part: &[u8], from: usize, width: usize) -> Field
 // A field that may be absent, and what its absence says.
 pub fn read_optional(part: &[u8], from: usize, width: usize, stands: bool, absent: usize) -> Field
     requires { ⌜ (from ≤ length (now part)) × (width ≤ length-width) ⌝ }
-    ensures { λ r. ⌜ Optional-says r stands absent (now (part .entry)) from width ⌝ }
+    ensures { λ r. ⌜ Optional-says r stands absent (was part) from width ⌝ }
 {
     if stands {
         return read_field(part, from, width);
@@ -80,7 +82,7 @@ pub fn refuse(number: u32, place: usize) -> Refusal
 // Puts a number of so many bytes at an offset, and gives the next one.
 pub fn put_field(output: &mut [u8], at: usize, width: usize, value: usize) -> usize
     requires { ⌜ at + width ≤ length (now output) ⌝ }
-    ensures { λ r. ⌜ Put (now (output .entry)) at (bytes width value) r (now (output .exit)) ⌝ }
+    ensures { λ r. ⌜ Put (was output) at (bytes width value) r (left output) ⌝ }
 {
     let mut left = value;
     let mut i = 0;
@@ -95,7 +97,7 @@ pub fn put_field(output: &mut [u8], at: usize, width: usize, value: usize) -> us
 // Puts a field where it stands.
 pub fn put_optional(output: &mut [u8], at: usize, width: usize, stands: bool, value: usize) -> usize
     requires { ⌜ at + length (field-bytes stands width value) ≤ length (now output) ⌝ }
-    ensures { λ r. ⌜ Put (now (output .entry)) at (field-bytes stands width value) r (now (output .exit)) ⌝ }
+    ensures { λ r. ⌜ Put (was output) at (field-bytes stands width value) r (left output) ⌝ }
 {
     if stands {
         return put_field(output, at, width, value);

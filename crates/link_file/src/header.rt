@@ -13,6 +13,7 @@ ghost use mathlib.Core.Path.{_≡_};
 ghost use Prim.Native.Nat.{_+_, _*_, _≤_};
 ghost use lib.ListN.{length, drop};
 ghost use lib.Seq.{sets};
+ghost use Rattle.table.specs.Slices.{was, left};
 ghost use Rattle.table.specs.Table.{most-nodes, most-wanted};
 ghost use Rattle.link_format.specs.Format.{map-width, node-width, count-up};
 ghost use Rattle.link_format.specs.Reading.{forbidden-header};
@@ -52,6 +53,7 @@ pub enum NodesRead {
     Cut,
 }
 
+// Whether both hold.
 fn both(a: bool, b: bool) -> bool
     ensures { λ r. ⌜ r ≡ (a && b) ⌝ }
 {
@@ -61,7 +63,7 @@ fn both(a: bool, b: bool) -> bool
 // Every one of so many nodes is read, and compared with its index.
 fn check_nodes(file: &[u8], from: usize, count: usize) -> NodesRead
     requires { ⌜ (from ≤ length (now file)) × (count ≤ most-wanted) ⌝ }
-    ensures { λ r. ⌜ Nodes-says r (now (file .entry)) from count ⌝ }
+    ensures { λ r. ⌜ Nodes-says r (was file) from count ⌝ }
 {
     let mut at = from;
     let mut ascending = true;
@@ -80,7 +82,7 @@ fn check_nodes(file: &[u8], from: usize, count: usize) -> NodesRead
 // The wanted list of n nodes.
 fn read_wanted(file: &[u8], from: usize, listed: bool, n: usize) -> WantedRead
     requires { ⌜ (from ≤ length (now file)) × ((from ≤ map-width + node-width + node-width) × (n ≤ most-nodes)) ⌝ }
-    ensures { λ r. ⌜ Wanted-says r (now (file .entry)) from listed n ⌝ }
+    ensures { λ r. ⌜ Wanted-says r (was file) from listed n ⌝ }
 {
     if !listed {
         return WantedRead::Read(n, from, true);
@@ -109,7 +111,7 @@ fn forbidden(bits: u8) -> bool
 
 // The header at the start of a file.
 pub fn read_header(file: &[u8]) -> HeaderRead
-    ensures { λ r. ⌜ Header-says r (now (file .entry)) ⌝ }
+    ensures { λ r. ⌜ Header-says r (was file) ⌝ }
 {
     if file.len() == 0 {
         return HeaderRead::Refused(refuse(Refusal::CUT, 0));
@@ -151,7 +153,7 @@ pub fn read_header(file: &[u8]) -> HeaderRead
 fn fill_nodes(file: &[u8], from: usize, count: usize, wanted: &mut [u16])
     requires { ⌜ from + node-width * count ≤ length (now file) ⌝ }
     requires { ⌜ (count ≤ most-wanted) × (most-wanted ≤ length (now wanted)) ⌝ }
-    ensures { λ _. ⌜ now (wanted .exit) ≡ sets (now (wanted .entry)) 0 (nodes-in count (drop from (now (file .entry)))) ⌝ }
+    ensures { λ _. ⌜ left wanted ≡ sets (was wanted) 0 (nodes-in count (drop from (was file))) ⌝ }
 {
     let mut at = from;
     let mut i = 0;
@@ -168,7 +170,7 @@ fn fill_nodes(file: &[u8], from: usize, count: usize, wanted: &mut [u16])
 // All n nodes, ascending, at the start of a buffer.
 fn fill_all(n: usize, wanted: &mut [u16])
     requires { ⌜ (n ≤ most-nodes) × (most-wanted ≤ length (now wanted)) ⌝ }
-    ensures { λ _. ⌜ now (wanted .exit) ≡ sets (now (wanted .entry)) 0 (count-up 0 n) ⌝ }
+    ensures { λ _. ⌜ left wanted ≡ sets (was wanted) 0 (count-up 0 n) ⌝ }
 {
     let mut i = 0;
     while i < n {
@@ -180,7 +182,7 @@ fn fill_all(n: usize, wanted: &mut [u16])
 // The wanted list of a header that was read, at the start of a buffer.
 pub fn fill_wanted(file: &[u8], header: Header, wanted: &mut [u16])
     requires { ⌜ Header-got (now file) header × (most-wanted ≤ length (now wanted)) ⌝ }
-    ensures { λ _. ⌜ now (wanted .exit) ≡ sets (now (wanted .entry)) 0 (wanted-of (now (file .entry)) header) ⌝ }
+    ensures { λ _. ⌜ left wanted ≡ sets (was wanted) 0 (wanted-of (was file) header) ⌝ }
 {
     let count = header.wanted;
     if header.listed {

@@ -18,7 +18,7 @@ ghost use mathlib.Core.Path.{_≡_};
 ghost use Prim.Native.Nat.{_≤_};
 ghost use Rattle.table.specs.Table.{most-nodes, most-arcs, most-wanted};
 ghost use Rattle.link_format.specs.Buffers.{too-short, no-content};
-ghost use Rattle.link_file.specs.Entries.{read-answer, Read-says, write-answer, Write-says};
+ghost use Rattle.link_file.specs.Entries.{read-answer, Reads-file, write-answer, Writes-file};
 ghost use Rattle.link_file.specs.Says.{header-answer};
 
 // What reading a link file answers: the refusal's number and place, both 0 where there is none, and the node count, the origin and how many
@@ -41,6 +41,7 @@ pub struct Written {
     pub length: u32,
 }
 
+// The answer to a file that is refused: no table.
 fn not_read(refusal: Refusal) -> TableRead
     ensures { λ r. ⌜ r ≡ read-answer refusal no-content ⌝ }
 {
@@ -54,6 +55,7 @@ fn not_read(refusal: Refusal) -> TableRead
     }
 }
 
+// The answer to a file that is read: what its header says, and how many arcs there are.
 fn all_read(header: Header, arcs: usize) -> TableRead
     requires { ⌜ (header .n ≤ most-nodes) × ((header .wanted ≤ most-wanted) × (arcs ≤ most-arcs)) ⌝ }
     ensures { λ r. ⌜ r ≡ header-answer header arcs ⌝ }
@@ -93,8 +95,7 @@ pub fn read_link_file(
     lengths: &mut [u32],
     wanted: &mut [u16],
 ) -> TableRead
-    ensures { λ r. ⌜ Read-says (now (file .entry)) (now (tails .entry)) (now (heads .entry)) (now (lengths .entry)) (now (wanted .entry))
-        (now (tails .exit)) (now (heads .exit)) (now (lengths .exit)) (now (wanted .exit)) r ⌝ }
+    ensures { λ r. ⌜ Reads-file file tails heads lengths wanted r ⌝ }
 {
     if short(tails.len(), heads.len(), lengths.len(), wanted.len()) {
         return not_read(refuse(Refusal::BUFFERS, 0));
@@ -115,6 +116,7 @@ pub fn read_link_file(
     }
 }
 
+// The answer where nothing is written.
 fn not_written(refusal: Refusal) -> Written
     ensures { λ r. ⌜ r ≡ write-answer refusal 0 ⌝ }
 {
@@ -136,8 +138,7 @@ pub fn write_link_file(
     wanted: &[u16],
     output: &mut [u8],
 ) -> Written
-    ensures { λ r. ⌜ Write-says n origin (now (tails .entry)) (now (heads .entry)) (now (lengths .entry)) (now (wanted .entry)) (now (output .entry))
-        (now (output .exit)) r ⌝ }
+    ensures { λ r. ⌜ Writes-file n origin tails heads lengths wanted output r ⌝ }
 {
     let n = n as usize;
     if table::bad_count(n) {

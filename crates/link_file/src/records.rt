@@ -14,6 +14,7 @@ ghost use mathlib.Core.Path.{_≡_};
 ghost use Prim.Native.Nat.{_≤_, _<_};
 ghost use lib.ListN.{length};
 ghost use lib.Seq.{sets};
+ghost use Rattle.table.specs.Slices.{was, left};
 ghost use Rattle.link_format.specs.Format.{tails-of, heads-of, lengths-of, most-header, most-file};
 ghost use Rattle.link_file.specs.Says.{arc-before, Record-says, tally, records-from, arcs-from, Fillable};
 
@@ -26,7 +27,7 @@ pub enum RecordRead {
 // The record at the start of a part of the file, which begins at an offset of the file.
 pub fn read_record(part: &[u8], at: usize, previous: Previous) -> RecordRead
     requires { ⌜ (0 < length (now part)) × (at ≤ most-file) ⌝ }
-    ensures { λ r. ⌜ Record-says r (arc-before previous) (now (part .entry)) at ⌝ }
+    ensures { λ r. ⌜ Record-says r (arc-before previous) (was part) at ⌝ }
 {
     let bits = part[0];
     let file_length = at + part.len();
@@ -81,7 +82,7 @@ pub enum Counted {
 // The first pass: every record from an offset to the end of the file is read, and counted.
 pub fn count_records(file: &[u8], start: usize) -> Counted
     requires { ⌜ (start ≤ length (now file)) × (start ≤ most-header) ⌝ }
-    ensures { λ r. ⌜ r ≡ tally 0 (records-from (now (file .entry)) start) ⌝ }
+    ensures { λ r. ⌜ r ≡ tally 0 (records-from (was file) start) ⌝ }
 {
     let mut at = start;
     let mut count = 0;
@@ -114,9 +115,9 @@ pub fn fill_records(
     lengths: &mut [u32],
 )
     requires { ⌜ Fillable (now file) start (now tails) (now heads) (now lengths) ⌝ }
-    ensures tails { λ _. ⌜ now (tails .exit) ≡ sets (now (tails .entry)) 0 (tails-of (arcs-from (now (file .entry)) start)) ⌝ }
-    ensures heads { λ _. ⌜ now (heads .exit) ≡ sets (now (heads .entry)) 0 (heads-of (arcs-from (now (file .entry)) start)) ⌝ }
-    ensures lengths { λ _. ⌜ now (lengths .exit) ≡ sets (now (lengths .entry)) 0 (lengths-of (arcs-from (now (file .entry)) start)) ⌝ }
+    ensures tails { λ _. ⌜ left tails ≡ sets (was tails) 0 (tails-of (arcs-from (was file) start)) ⌝ }
+    ensures heads { λ _. ⌜ left heads ≡ sets (was heads) 0 (heads-of (arcs-from (was file) start)) ⌝ }
+    ensures lengths { λ _. ⌜ left lengths ≡ sets (was lengths) 0 (lengths-of (arcs-from (was file) start)) ⌝ }
 {
     let mut at = start;
     let mut i = 0;

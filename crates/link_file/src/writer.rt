@@ -15,11 +15,13 @@ ghost use mathlib.Core.Path.{_≡_};
 ghost use Prim.Native.Nat.{_*_, _+_, _≤_, _<_};
 ghost use lib.ListN.{length, getD};
 ghost use lib.Seq.{sets};
+ghost use Rattle.table.specs.Slices.{was, left};
 ghost use Rattle.table.specs.Table.{most-arcs, arc, arcs-of, most-wanted};
 ghost use Rattle.link_format.specs.Buffers.{Equal-columns};
 ghost use Rattle.link_format.specs.Format.{most-record, all-nodes, header-bits, header-bytes, nodes-bytes, wanted-bytes, record-bytes, records-bytes};
 ghost use Rattle.link_file.specs.Says.{arc-of, arc-before, Put, Record-sized, Header-sized, Header-asks};
 
+// The size of a field: its width where it stands, else 0.
 fn field_size(stands: bool, width: usize) -> usize
     ensures { λ r. ⌜ (r ≡ cond stands width 0) × (r ≤ width) ⌝ }
 {
@@ -36,9 +38,10 @@ fn record_size(bits: u8) -> usize
     MAP_WIDTH + (tail + (head + length))
 }
 
+// The arc at a position of the columns.
 fn arc_at(tails: &[u16], heads: &[u16], lengths: &[u32], i: usize) -> Arc
     requires { ⌜ (i < length (now tails)) × ((i < length (now heads)) × (i < length (now lengths))) ⌝ }
-    ensures { λ r. ⌜ arc-of r ≡ arc (getD (now (tails .entry)) i 0) (getD (now (heads .entry)) i 0) (getD (now (lengths .entry)) i 0) ⌝ }
+    ensures { λ r. ⌜ arc-of r ≡ arc (getD (was tails) i 0) (getD (was heads) i 0) (getD (was lengths) i 0) ⌝ }
 {
     Arc {
         tail: tails[i],
@@ -50,7 +53,7 @@ fn arc_at(tails: &[u16], heads: &[u16], lengths: &[u32], i: usize) -> Arc
 // The size of all records.
 pub fn records_size(tails: &[u16], heads: &[u16], lengths: &[u32]) -> usize
     requires { ⌜ Equal-columns (now tails) (now heads) (now lengths) ⌝ }
-    ensures same { λ r. ⌜ r ≡ length (records-bytes none (arcs-of (now (tails .entry)) (now (heads .entry)) (now (lengths .entry)))) ⌝ }
+    ensures same { λ r. ⌜ r ≡ length (records-bytes none (arcs-of (was tails) (was heads) (was lengths))) ⌝ }
     ensures low { λ r. ⌜ r ≤ most-record * most-arcs ⌝ }
 {
     let mut size: usize = 0;
@@ -68,7 +71,7 @@ pub fn records_size(tails: &[u16], heads: &[u16], lengths: &[u32]) -> usize
 // Puts one record.
 fn write_record(output: &mut [u8], at: usize, previous: Previous, arc: Arc) -> usize
     requires { ⌜ at + length (record-bytes (arc-before previous) (arc-of arc)) ≤ length (now output) ⌝ }
-    ensures { λ r. ⌜ Put (now (output .entry)) at (record-bytes (arc-before previous) (arc-of arc)) r (now (output .exit)) ⌝ }
+    ensures { λ r. ⌜ Put (was output) at (record-bytes (arc-before previous) (arc-of arc)) r (left output) ⌝ }
 {
     let bits = arcs::record_bits(previous, arc);
     output[at] = bits;
@@ -85,7 +88,7 @@ fn write_record(output: &mut [u8], at: usize, previous: Previous, arc: Arc) -> u
 pub fn write_records(tails: &[u16], heads: &[u16], lengths: &[u32], start: usize, output: &mut [u8])
     requires { ⌜ Equal-columns (now tails) (now heads) (now lengths) ⌝ }
     requires { ⌜ start + length (records-bytes none (arcs-of (now tails) (now heads) (now lengths))) ≤ length (now output) ⌝ }
-    ensures { λ _. ⌜ now (output .exit) ≡ sets (now (output .entry)) start (records-bytes none (arcs-of (now (tails .entry)) (now (heads .entry)) (now (lengths .entry)))) ⌝ }
+    ensures { λ _. ⌜ left output ≡ sets (was output) start (records-bytes none (arcs-of (was tails) (was heads) (was lengths))) ⌝ }
 {
     let mut at = start;
     let mut previous = Previous::Nothing;
@@ -100,7 +103,7 @@ pub fn write_records(tails: &[u16], heads: &[u16], lengths: &[u32], start: usize
 
 // Whether a wanted list is all n nodes, ascending.
 fn is_all(n: usize, wanted: &[u16]) -> bool
-    ensures { λ r. ⌜ r ≡ all-nodes n (now (wanted .entry)) ⌝ }
+    ensures { λ r. ⌜ r ≡ all-nodes n (was wanted) ⌝ }
 {
     if wanted.len() != n {
         return false;
@@ -117,7 +120,7 @@ fn is_all(n: usize, wanted: &[u16]) -> bool
 
 // The canonical bit map of a header.
 pub fn header_bits(n: usize, origin: u16, wanted: &[u16]) -> u8
-    ensures { λ r. ⌜ r ≡ header-bits n origin (now (wanted .entry)) ⌝ }
+    ensures { λ r. ⌜ r ≡ header-bits n origin (was wanted) ⌝ }
 {
     arcs::bits_of(true, origin != 0, !is_all(n, wanted))
 }
@@ -138,7 +141,7 @@ pub fn header_size(bits: u8, wanted: usize) -> usize
 // Puts the wanted nodes.
 fn write_nodes(wanted: &[u16], start: usize, output: &mut [u8]) -> usize
     requires { ⌜ start + length (nodes-bytes (now wanted)) ≤ length (now output) ⌝ }
-    ensures { λ r. ⌜ Put (now (output .entry)) start (nodes-bytes (now (wanted .entry))) r (now (output .exit)) ⌝ }
+    ensures { λ r. ⌜ Put (was output) start (nodes-bytes (was wanted)) r (left output) ⌝ }
 {
     let mut at = start;
     let mut i = 0;
@@ -152,7 +155,7 @@ fn write_nodes(wanted: &[u16], start: usize, output: &mut [u8]) -> usize
 // Puts the wanted list where it stands: its count and its nodes.
 fn write_wanted(output: &mut [u8], at: usize, stands: bool, wanted: &[u16]) -> usize
     requires { ⌜ (at + length (wanted-bytes stands (now wanted)) ≤ length (now output)) × (length (now wanted) ≤ most-wanted) ⌝ }
-    ensures { λ r. ⌜ Put (now (output .entry)) at (wanted-bytes stands (now (wanted .entry))) r (now (output .exit)) ⌝ }
+    ensures { λ r. ⌜ Put (was output) at (wanted-bytes stands (was wanted)) r (left output) ⌝ }
 {
     if !stands {
         return at;
@@ -164,7 +167,7 @@ fn write_wanted(output: &mut [u8], at: usize, stands: bool, wanted: &[u16]) -> u
 // Puts the header, whose canonical bit map is given.
 pub fn write_header(n: usize, origin: u16, wanted: &[u16], bits: u8, output: &mut [u8]) -> usize
     requires { ⌜ Header-asks n origin (now wanted) bits (now output) ⌝ }
-    ensures { λ r. ⌜ Put (now (output .entry)) 0 (header-bytes n origin (now (wanted .entry))) r (now (output .exit)) ⌝ }
+    ensures { λ r. ⌜ Put (was output) 0 (header-bytes n origin (was wanted)) r (left output) ⌝ }
 {
     output[0] = bits;
     let origin_at = put_field(output, MAP_WIDTH, NODE_WIDTH, n);

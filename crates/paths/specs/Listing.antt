@@ -9,6 +9,7 @@ use lib.Dec.{ltb, leb, eqb}
 use lib.ListN.{length, getD, drop}
 use Rattle.table.specs.Table.{no-arc}
 use Rattle.table.specs.Refusals.{count-bad, columns-bad}
+use Rattle.table.specs.Slices.{Slice, was, left}
 use Rattle.paths.specs.declared.Listed.{Listed}
 
 -- What a listing goes by: the arcs' tails and heads, and a tree column, which has an entry for each node (a predecessor arc, in the field's terms).
@@ -20,6 +21,10 @@ pub record Tree : Type 0 where
 -- a tree of these columns
 abbrev pub tree-in : (tails heads column : List ℕ) → Tree
 tree-in ts hs c = record { tails = ts; heads = hs; column = c }
+
+-- the same of the slices that are lent
+abbrev pub lent-tree : (tails heads column : Slice) → Tree
+lent-tree ts hs c = tree-in (was ts) (was hs) (was c)
 
 -- how many nodes there are: as many as the tree column has entries
 abbrev pub node-count : Tree → ℕ
@@ -83,10 +88,14 @@ into room (some vs) = cond (ltb room (length vs)) (refused 13) (listed vs)
 unfoldable pub listing : (origin node : ℕ) → Tree → (room : ℕ) → Listing
 listing o v k room = cond (eqb (early-of o v k) 0) (into room (path o v k)) (refused (early-of o v k))
 
--- THE CONTRACT of list_path: its answer, and what the out buffer holds before and after the call. The nodes listed stand at the buffer's start and
+-- A listing as list_path gives it: its answer, and what the out buffer holds before and after the call. The nodes listed stand at the buffer's start and
 -- the rest is as it was; a refusal lists none, so the whole buffer is. No refusal of a listing names a place.
 pub record Lists (l : Listing) (answer : Listed) (output-before output-after : List ℕ) : Type 0 where
   pub number : answer .number ≡ l .number
   pub place : answer .place ≡ 0
   pub count : answer .count ≡ length (l .nodes)
   pub output : output-after ≡ l .nodes ++ drop (length (l .nodes)) output-before
+
+-- THE CONTRACT of list_path, of the slices that are lent
+abbrev pub Lists-path : (origin node : ℕ) → (tails heads tree output : Slice) → Listed → Type 0
+Lists-path o v ts hs k out r = Lists (listing o v (lent-tree ts hs k) (length (was out))) r (was out) (left out)

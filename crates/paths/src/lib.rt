@@ -8,7 +8,8 @@ ghost use mathlib.Core.List.{_++_};
 ghost use Prim.Native.Nat.{_≤_, _<_};
 ghost use lib.ListN.{length, getD, drop};
 ghost use Rattle.table.specs.Table.{no-arc};
-ghost use Rattle.paths.specs.Listing.{tree-in, node-before, leads-back, path, nodes-of, early-number, listing, Lists};
+ghost use Rattle.table.specs.Slices.{was, left};
+ghost use Rattle.paths.specs.Listing.{tree-in, lent-tree, node-before, leads-back, path, nodes-of, early-number, Lists-path};
 use table::Refusal;
 use table::bad_columns;
 use table::bad_count;
@@ -44,7 +45,7 @@ fn early_number(n: usize, tails: usize, heads: usize, origin: u16, node: u16) ->
 // A node's tree entry.
 fn entry_at(node: u16, tree: &[u16]) -> usize
     requires { ⌜ node < length (now tree) ⌝ }
-    ensures { λ r. ⌜ r ≡ getD (now (tree .entry)) node no-arc ⌝ }
+    ensures { λ r. ⌜ r ≡ getD (was tree) node no-arc ⌝ }
 {
     wide(tree[wide(node)])
 }
@@ -53,7 +54,7 @@ fn entry_at(node: u16, tree: &[u16]) -> usize
 fn leads_back(node: u16, tails: &[u16], heads: &[u16], tree: &[u16]) -> bool
     requires { ⌜ node < length (now tree) ⌝ }
     requires { ⌜ length (now tails) ≡ length (now heads) ⌝ }
-    ensures { λ r. ⌜ r ≡ leads-back (tree-in (now (tails .entry)) (now (heads .entry)) (now (tree .entry))) node ⌝ }
+    ensures { λ r. ⌜ r ≡ leads-back (lent-tree tails heads tree) node ⌝ }
 {
     let entry = entry_at(node, tree);
     if tails.len() <= entry {
@@ -69,7 +70,7 @@ fn leads_back(node: u16, tails: &[u16], heads: &[u16], tree: &[u16]) -> bool
 fn node_before(node: u16, tails: &[u16], heads: &[u16], tree: &[u16]) -> u16
     requires { ⌜ node < length (now tree) ⌝ }
     requires { ⌜ leads-back (tree-in (now tails) (now heads) (now tree)) node ≡ true ⌝ }
-    ensures { λ r. ⌜ r ≡ node-before (tree-in (now (tails .entry)) (now (heads .entry)) (now (tree .entry))) node ⌝ }
+    ensures { λ r. ⌜ r ≡ node-before (lent-tree tails heads tree) node ⌝ }
 {
     tails[entry_at(node, tree)]
 }
@@ -78,7 +79,7 @@ fn node_before(node: u16, tails: &[u16], heads: &[u16], tree: &[u16]) -> u16
 fn count_nodes(origin: u16, node: u16, tails: &[u16], heads: &[u16], tree: &[u16]) -> usize
     requires { ⌜ node < length (now tree) ⌝ }
     requires { ⌜ length (now tails) ≡ length (now heads) ⌝ }
-    ensures { λ r. ⌜ r ≡ length (nodes-of (path origin node (tree-in (now (tails .entry)) (now (heads .entry)) (now (tree .entry))))) ⌝ }
+    ensures { λ r. ⌜ r ≡ length (nodes-of (path origin node (lent-tree tails heads tree))) ⌝ }
 {
     let mut v = node;
     let mut count = 1;
@@ -109,7 +110,7 @@ fn write_nodes(
     requires { ⌜ count ≡ length (nodes-of (path origin node (tree-in (now tails) (now heads) (now tree)))) ⌝ }
     requires { ⌜ 0 < count ⌝ }
     requires { ⌜ count ≤ length (now output) ⌝ }
-    ensures { λ _. ⌜ now (output .exit) ≡ nodes-of (path origin node (tree-in (now (tails .entry)) (now (heads .entry)) (now (tree .entry)))) ++ drop count (now (output .entry)) ⌝ }
+    ensures { λ _. ⌜ left output ≡ nodes-of (path origin node (lent-tree tails heads tree)) ++ drop count (was output) ⌝ }
 {
     let mut v = node;
     let mut at = count - 1;
@@ -141,7 +142,7 @@ pub fn list_path(
     tree: &[u16],
     output: &mut [u16],
 ) -> Listed
-    ensures { λ r. ⌜ Lists (listing origin node (tree-in (now (tails .entry)) (now (heads .entry)) (now (tree .entry))) (length (now (output .entry)))) r (now (output .entry)) (now (output .exit)) ⌝ }
+    ensures { λ r. ⌜ Lists-path origin node tails heads tree output r ⌝ }
 {
     let number = early_number(tree.len(), tails.len(), heads.len(), origin, node);
     if number != Refusal::NONE {

@@ -1,7 +1,3 @@
-pub mod Begins
-pub mod Decimal
-pub mod Passing
-pub mod Spaced
-pub mod Rest
-pub mod Filling
+-- The promise. The laws of one Rust module stand beside its functions' proofs, named in the module's node file (text.antt, putting.antt, lines.antt,
+-- pieces.antt).
 pub mod Promised

@@ -2,6 +2,7 @@
 // the next of them, as many as fit into the lent buffer.
 mod lines;
 mod pieces;
+mod putting;
 mod text;
 
 pub use lines::Cursor;

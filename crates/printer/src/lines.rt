@@ -1,23 +1,25 @@
-// The lines of a sheet, one at a time.
+// The lines of a sheet one after the other: which comes next, and where the one behind it stands.
 ghost use mathlib.Core.Path.{_≡_};
-ghost use Prim.Native.Nat.{_+_, _≤_};
+ghost use Prim.Native.Nat.{_≤_};
 ghost use lib.ListN.{length, getD};
 ghost use Rattle.table.specs.Table.{no-arc, most-nodes};
-ghost use Rattle.table.specs.Slices.{was, left};
-ghost use Rattle.sheet.specs.Text.{spaced};
-ghost use Rattle.sheet.specs.Sheet.{refused-line, reached-line, counts-line, arc-text, node-line, path-line, node-count, has-distance, has-path};
-ghost use Rattle.printer.specs.Buffers.{Puts-line, Extends, Puts-behind};
+ghost use Rattle.table.specs.Slices.{was};
+ghost use Rattle.sheet.specs.Sheet.{node-count, has-distance, has-path};
 ghost use Rattle.printer.specs.declared.lines.Cursor.the-variants.{Node, Path};
-ghost use Rattle.printer.specs.Lines.{lent-printing, Next-line, First-line, line-room, most-digits, most-path, First-passing, Lesser};
-use crate::text::put;
-use crate::text::put_field;
-use crate::text::put_number;
+ghost use Rattle.printer.specs.Lines.{lent-printing, Next-line, First-line, line-room, First-passing, Lesser};
+use crate::putting::put_counts;
+use crate::putting::put_node;
+use crate::putting::put_path;
+use crate::putting::put_reached;
+use crate::putting::put_refused;
 use planner::Planned;
 use table::MOST_NODES;
 use table::Refusal;
 use table::wide;
 
-// Where in a sheet the next line stands: at the start, at the two lines of counts, at the line of a node or of a path from a node on, or past all lines.
+// Where in a sheet the next line stands: at its start; at the line of the reached nodes; at the line of the other counts; at the line of the first node
+// that has one, from a node on, and past the last of these at the first path line; at the path line of the first node that has one, from a node on; or past
+// all lines.
 pub enum Cursor {
     Start,
     Reached,
@@ -27,93 +29,13 @@ pub enum Cursor {
     End,
 }
 
-// The next line was put, this many bytes long, with the cursor of the one after it; or there is no next line.
+// The next line was put: how many bytes it has, and the cursor of the one behind it. Or there is no line any more.
 pub enum Line {
     Put(usize, Cursor),
     Last,
 }
 
-fn put_refused(number: u32, place: u32, out: &mut [u8]) -> usize
-    requires { ⌜ line-room ≤ length (now out) ⌝ }
-    ensures { λ r. ⌜ Puts-line (refused-line number place) out r ⌝ }
-{
-    let a = put_field(b"refused ", number as u64, 0, out);
-    let b = put_field(b" at ", place as u64, a, out);
-    put(b"\n", b, out)
-}
-
-fn put_reached(reached: u32, horizon: u64, iterations: u64, out: &mut [u8]) -> usize
-    requires { ⌜ line-room ≤ length (now out) ⌝ }
-    ensures { λ r. ⌜ Puts-line (reached-line reached horizon iterations) out r ⌝ }
-{
-    let a = put_field(b"reached ", reached as u64, 0, out);
-    let b = put_field(b" horizon ", horizon, a, out);
-    let c = put_field(b" iterations ", iterations, b, out);
-    put(b"\n", c, out)
-}
-
-fn put_counts(contractions: u64, extensions: u64, deletions: u64, out: &mut [u8]) -> usize
-    requires { ⌜ line-room ≤ length (now out) ⌝ }
-    ensures { λ r. ⌜ Puts-line (counts-line contractions extensions deletions) out r ⌝ }
-{
-    let a = put_field(b"contractions ", contractions, 0, out);
-    let b = put_field(b" extensions ", extensions, a, out);
-    let c = put_field(b" deletions ", deletions, b, out);
-    put(b"\n", c, out)
-}
-
-// An arc's position, "-" where there is none.
-fn put_arc(arc: u16, at: usize, out: &mut [u8]) -> usize
-    requires { ⌜ at + most-digits ≤ length (now out) ⌝ }
-    ensures begins { λ r. ⌜ Puts-behind (arc-text arc) at out r ⌝ }
-    ensures long { λ r. ⌜ (r ≤ at + most-digits) × (length (left out) ≡ length (was out)) ⌝ }
-{
-    if arc == table::NO_ARC {
-        return put(b"-", at, out);
-    }
-    put_number(arc as u64, at, out)
-}
-
-fn put_node(node: usize, distance: u64, price: u64, arc: u16, out: &mut [u8]) -> usize
-    requires { ⌜ line-room ≤ length (now out) ⌝ }
-    ensures { λ r. ⌜ Puts-line (node-line node distance price arc) out r ⌝ }
-{
-    let a = put_field(b"node ", node as u64, 0, out);
-    let b = put_field(b" distance ", distance, a, out);
-    let c = put_field(b" price ", price, b, out);
-    let d = put(b" arc ", c, out);
-    let e = put_arc(arc, d, out);
-    put(b"\n", e, out)
-}
-
-// Puts the numbers of nodes, each after a space.
-fn put_spaced(nodes: &[u16], at: usize, out: &mut [u8]) -> usize
-    requires { ⌜ length (now nodes) ≤ most-nodes ⌝ }
-    requires { ⌜ at + most-path ≤ length (now out) ⌝ }
-    ensures begins { λ r. ⌜ Extends (λ with. spaced with (was nodes)) at out r ⌝ }
-    ensures long { λ r. ⌜ (r ≤ at + most-path) × (length (left out) ≡ length (was out)) ⌝ }
-{
-    let mut end = at;
-    let mut i = 0;
-    while i < nodes.len() {
-        end = put_field(b" ", wide(nodes[i]) as u64, end, out);
-        i += 1;
-    }
-    end
-}
-
-fn put_path(node: usize, nodes: &[u16], out: &mut [u8]) -> usize
-    requires { ⌜ length (now nodes) ≤ most-nodes ⌝ }
-    requires { ⌜ line-room ≤ length (now out) ⌝ }
-    ensures { λ r. ⌜ Puts-line (path-line node (was nodes)) out r ⌝ }
-{
-    let a = put_field(b"path ", node as u64, 0, out);
-    let b = put(b":", a, out);
-    let c = put_spaced(nodes, b, out);
-    put(b"\n", c, out)
-}
-
-// How many nodes may have lines.
+// How many nodes may have lines: as many as there are distances, but no more than a table has.
 fn node_count(distances: &[u64]) -> usize
     ensures { λ r. ⌜ r ≡ node-count (was distances) ⌝ }
     ensures { λ r. ⌜ (r ≤ length (was distances)) × (r ≤ most-nodes) ⌝ }
@@ -125,7 +47,7 @@ fn node_count(distances: &[u64]) -> usize
     }
 }
 
-// The first node with a distance, from a node on.
+// The first node with a distance, from a node on; n where there is none below n.
 fn next_with_distance(from: usize, n: usize, distances: &[u64]) -> usize
     requires { ⌜ n ≤ length (now distances) ⌝ }
     ensures { λ r. ⌜ First-passing (has-distance (was distances)) n from r ⌝ }
@@ -140,7 +62,8 @@ fn next_with_distance(from: usize, n: usize, distances: &[u64]) -> usize
     n
 }
 
-// The lesser of the node found so far and another one, which counts where it has a distance and is not before a node.
+// One step of the search for the least node that has a path, from a node on: the least found so far, or v in its place, where v is less and is not before
+// `from` and has a distance.
 fn lesser(from: usize, found: usize, v: usize, distances: &[u64]) -> usize
     requires { ⌜ found ≤ length (now distances) ⌝ }
     ensures { λ r. ⌜ Lesser (was distances) from found v r ⌝ }
@@ -157,7 +80,7 @@ fn lesser(from: usize, found: usize, v: usize, distances: &[u64]) -> usize
     v
 }
 
-// The first wanted node with a distance, from a node on: one look at each entry of the wanted list.
+// The first wanted node with a distance, from a node on; n where there is none below n. The wanted list is in no order, so that every entry is looked at.
 fn next_with_path(from: usize, n: usize, distances: &[u64], wanted: &[u16]) -> usize
     requires { ⌜ n ≤ length (now distances) ⌝ }
     ensures { λ r. ⌜ First-passing (has-path (was distances) (was wanted)) n from r ⌝ }
@@ -171,12 +94,14 @@ fn next_with_path(from: usize, n: usize, distances: &[u64], wanted: &[u16]) -> u
     found
 }
 
+// A node's price, 0 where the prices have no entry for it.
 fn price_at(node: usize, prices: &[u64]) -> u64
     ensures { λ r. ⌜ r ≡ getD (was prices) node 0 ⌝ }
 {
     if node < prices.len() { prices[node] } else { 0 }
 }
 
+// The position of a node's tree arc, no arc where the tree column has no entry for it.
 fn arc_at(node: usize, tree: &[u16]) -> u16
     ensures { λ r. ⌜ r ≡ getD (was tree) node no-arc ⌝ }
 {
@@ -253,7 +178,7 @@ fn next_node(
     Line::Put(count, Cursor::Node(v + 1))
 }
 
-// The first line: a refusal's where there is one. Behind it the sheet ends, unless the plan was made all the same.
+// The first line: the refusal's where there is one. It is the only one, but for "no route", on which a plan is made all the same and its lines follow.
 fn first_line(answer: Planned, out: &mut [u8]) -> Line
     requires { ⌜ line-room ≤ length (now out) ⌝ }
     ensures { λ r. ⌜ First-line answer out r ⌝ }

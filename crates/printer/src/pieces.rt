@@ -18,7 +18,7 @@ pub struct Piece {
     pub next: Cursor,
 }
 
-// The next piece of a plan's sheet, from a cursor on, at the start of a buffer with room for a line.
+// The next piece of a plan's sheet, from a cursor on, at the start of a buffer with room for a line: line after line, while there is room for any line.
 pub fn next_piece(
     cursor: Cursor,
     answer: Planned,

@@ -11,7 +11,7 @@ ghost use Rattle.printer.specs.Lines.{most-digits};
 // The most digits a number has.
 pub const MOST_DIGITS: usize = 20;
 
-// Puts a text behind what the buffer begins with, and answers how long that is then.
+// Puts a text at an offset of a buffer, behind what it begins with, and answers the offset behind the text.
 pub fn put(text: &[u8], at: usize, out: &mut [u8]) -> usize
     requires { ⌜ at + length (now text) ≤ length (now out) ⌝ }
     ensures begins { λ r. ⌜ Puts-behind (was text) at out r ⌝ }
@@ -25,7 +25,7 @@ pub fn put(text: &[u8], at: usize, out: &mut [u8]) -> usize
     at + text.len()
 }
 
-// Puts a number in decimal.
+// Puts a number in decimal, in the same way.
 pub fn put_number(n: u64, at: usize, out: &mut [u8]) -> usize
     requires { ⌜ at + most-digits ≤ length (now out) ⌝ }
     ensures begins { λ r. ⌜ Puts-behind (decimal n) at out r ⌝ }
@@ -36,7 +36,7 @@ pub fn put_number(n: u64, at: usize, out: &mut [u8]) -> usize
     put(&digits[..k], at, out)
 }
 
-// Puts a text and then a number.
+// Puts a text and then a number in decimal.
 pub fn put_field(name: &[u8], n: u64, at: usize, out: &mut [u8]) -> usize
     requires { ⌜ at + (length (now name) + most-digits) ≤ length (now out) ⌝ }
     ensures begins { λ r. ⌜ Extends (λ with. with ++ was name ++ decimal n) at out r ⌝ }

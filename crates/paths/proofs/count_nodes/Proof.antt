@@ -20,19 +20,27 @@ loop-holds : tie.Need-loop-holds Inv-loop μ-loop
 loop-holds c = begins _ _ _ (c .before .before .before .pre .0)
 
 returns : tie.Need-returns Inv-loop μ-loop
-returns c = too-many _ _ _ _ _ (c .before .before .loop .inv) (c .before .loop-test .taken) (omega arith)
+returns c =
+    let test = c .before in
+    too-many _ _ _ _ _ (test .before .loop .inv) (test .loop-test .taken) (c .if1 .taken)
 
 leads-back-requires : tie.Need-leads-back-requires Inv-loop μ-loop
-leads-back-requires c κs = (c .before .before .loop .inv .low, c .before .before .before .before .before .before .pre .1)
+leads-back-requires c κs =
+    let loop = c .before .before in
+    let s = loop .before .before .before .before in
+    (loop .loop .inv .low, s .pre .1)
 
 returns-2 : tie.Need-returns-2 Inv-loop μ-loop
 returns-2 c =
-    stray _ _ _ _ _ (c .before .before .before .before .loop .inv) (c .before .before .before .loop-test .taken)
-    (sym (c .before .leads-back .ensures) ∙ not-true _ (c .if2 .taken))
+    let back = c .before in
+    let test = back .before .before in
+    stray _ _ _ _ _ (test .before .loop .inv) (test .loop-test .taken) (sym (back .leads-back .ensures) ∙ not-true _ (c .if2 .taken))
 
 node-before-requires : tie.Need-node-before-requires Inv-loop μ-loop
 node-before-requires c κs =
-    (c .before .before .before .before .loop .inv .low, sym (c .before .leads-back .ensures) ∙ not-false _ (c .if2 .left))
+    let back = c .before in
+    let test = back .before .before in
+    (test .before .loop .inv .low, sym (back .leads-back .ensures) ∙ not-false _ (c .if2 .left))
 
 add-count : tie.Need-add-count Inv-loop μ-loop
 add-count c = omega arith
@@ -42,10 +50,12 @@ loop-less c = omega arith
 
 loop-again : tie.Need-loop-again Inv-loop μ-loop
 loop-again c =
-    let d = c .before .before .before in
+    let leads = c .before in
+    let short = leads .before .before in
+    let test = short .before in
     rw (c .node-before .ensures)
-    (next _ _ _ _ _ (d .before .before .loop .inv) (d .before .loop-test .taken) (d .if1 .left)
-    (sym (c .before .before .leads-back .ensures) ∙ not-false _ (c .before .if2 .left)))
+    (next _ _ _ _ _ (test .before .loop .inv) (test .loop-test .taken) (short .if1 .left)
+    (sym (leads .before .leads-back .ensures) ∙ not-false _ (leads .if2 .left)))
 
 returns-3 : tie.Need-returns-3 Inv-loop μ-loop
 returns-3 c = arrived _ _ _ _ _ (c .before .loop .inv) (c .loop-test .left)

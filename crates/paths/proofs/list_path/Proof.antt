@@ -1,12 +1,44 @@
 -- `paths::list_path` meets its contract: each way out of the code is one of the definition. Assumes nothing.
-use mathlib.Core.Path.{refl, sym, _∙_}
+use mathlib.Core.Path.{_≡_, refl, sym, _∙_}
+use Prim.Native.Nat.{ℕ}
 use borrow.Author.Needs.{needs}
 use native.Mathlib.Omega.{arith}
-use Rattle.paths.specs.Listing.{tree-in, early-of}
-use Rattle.paths.proofs.Early.{passed}
+use lib.ListN.{length}
+use Rattle.paths.specs.Listing.{Tree, tree-in, node-count, path, nodes-of, listing, early-of}
+use Rattle.paths.proofs.Early.{Passed, passed}
 use Rattle.paths.proofs.Answers.{at-most-n, refused-early, without-path, without-room, fits, refuses, gives}
 use Rattle.paths.proofs.list_path.Statement.{statement}
 use Rattle.paths.proofs.list_path.Tie as tie
+
+-- from where the refusals 1, 2, 4 and 5 have been tested: the arguments, and the tree that they are
+module _ (c : tie.After-early-number) where
+  abbrev start : tie.Start
+  start = c .before .before .before .before .before
+
+  abbrev origin : ℕ
+  origin = start .args .origin
+
+  abbrev node : ℕ
+  node = start .args .node
+
+  abbrev subject : Tree
+  subject = let a = start .args in tree-in (a .tails .now) (a .heads .now) (a .tree .now)
+
+  abbrev room : ℕ
+  room = length (start .args .output .now)
+
+-- where they have been passed
+module _ (c : tie.Else1) where
+  abbrev tested : tie.After-early-number
+  tested = c .before
+
+  early : early-of (origin tested) (node tested) (subject tested) ≡ 0
+  unfolding early-of
+  early = sym (tested .early-number .ensures) ∙ c .if1 .left
+
+  sound : Passed (node-count (subject tested)) (length (subject tested .tails)) (length (subject tested .heads)) (node tested)
+  unfolding early-of
+  sound = passed (node-count (subject tested)) (length (subject tested .tails)) (length (subject tested .heads)) (origin tested) (node tested) early
 
 early-number-requires : tie.Need-early-number-requires
 early-number-requires c κs = search needs
@@ -17,61 +49,65 @@ refused-requires c κs = search needs
 returns : tie.Need-returns
 unfolding early-of
 returns c =
-    let early = c .before .before .early-number in
-    let r = c .refused .ensures in
-    refuses _ _ _ _ (refused-early _ _ _ _ (λ e. c .before .if1 .taken (early .ensures ∙ e))) (r .0 ∙ early .ensures) (r .1) (r .2)
+    let tests = c .before .before in
+    let answer = c .refused .ensures in
+    let number = tests .early-number .ensures in
+    refuses (listing (origin tests) (node tests) (subject tests) (room tests)) (c .refused .result) _ (early-of (origin tests) (node tests) (subject tests))
+    (refused-early (origin tests) (node tests) (subject tests) (room tests) (λ e. c .before .if1 .taken (number ∙ e))) (answer .0 ∙ number) (answer .1) (answer .2)
 
 count-nodes-requires : tie.Need-count-nodes-requires
-count-nodes-requires c κs =
-    let p = passed _ _ _ _ _ (sym (c .before .early-number .ensures) ∙ c .if1 .left) in
-    (p .node-in, p .equal)
+count-nodes-requires c κs = (sound c .node-in, sound c .equal)
 
 refused-requires-2 : tie.Need-refused-requires-2
 refused-requires-2 c κs = search needs
 
 returns-2 : tie.Need-returns-2
-unfolding early-of
 returns-2 c =
     let counted = c .before .before in
-    let early = sym (counted .before .before .early-number .ensures) ∙ counted .before .if1 .left in
-    let r = c .refused2 .ensures in
-    refuses _ _ _ 14 (without-path _ _ _ _ early (sym (counted .count-nodes .ensures) ∙ c .before .if2 .taken)) (r .0) (r .1) (r .2)
+    let fine = counted .before in
+    let s = tested fine in
+    let answer = c .refused2 .ensures in
+    refuses (listing (origin s) (node s) (subject s) (room s)) (c .refused2 .result) _ 14
+    (without-path (origin s) (node s) (subject s) (room s) (early fine) (sym (counted .count-nodes .ensures) ∙ c .before .if2 .taken))
+    (answer .0) (answer .1) (answer .2)
 
 refused-requires-3 : tie.Need-refused-requires-3
 refused-requires-3 c κs = search needs
 
 returns-3 : tie.Need-returns-3
-unfolding early-of
 returns-3 c =
     let counted = c .before .before .before in
-    let early = sym (counted .before .before .early-number .ensures) ∙ counted .before .if1 .left in
-    let r = c .refused3 .ensures in
-    refuses _ _ _ 13 (without-room _ _ _ _ early (omega (arith, counted .count-nodes .ensures)) (omega (arith, counted .count-nodes .ensures))) (r .0) (r .1) (r .2)
+    let fine = counted .before in
+    let s = tested fine in
+    let answer = c .refused3 .ensures in
+    refuses (listing (origin s) (node s) (subject s) (room s)) (c .refused3 .result) _ 13
+    (without-room (origin s) (node s) (subject s) (room s) (early fine) (omega (arith, counted .count-nodes .ensures)) (omega (arith, counted .count-nodes .ensures)))
+    (answer .0) (answer .1) (answer .2)
 
 cast-listed : tie.Need-cast-listed
 cast-listed c =
     let counted = c .before .before in
-    let p = passed _ _ _ _ _ (sym (counted .before .before .early-number .ensures) ∙ counted .before .if1 .left) in
-    let s = counted .before .before .before .before .before .before .before in
-    let k = tree-in (s .args .tails .now) (s .args .heads .now) (s .args .tree .now) in
-    omega (arith, counted .count-nodes .ensures, p .few-nodes, at-most-n (s .args .origin) (s .args .node) k)
+    let s = tested (counted .before) in
+    omega (arith, counted .count-nodes .ensures, sound (counted .before) .few-nodes, at-most-n (origin s) (node s) (subject s))
 
 write-nodes-requires : tie.Need-write-nodes-requires
 write-nodes-requires c κs =
     let counted = c .before .before .before in
-    let p = passed _ _ _ _ _ (sym (counted .before .before .early-number .ensures) ∙ counted .before .if1 .left) in
-    (p .node-in, (counted .count-nodes .ensures, (omega arith, omega arith)))
+    (sound (counted .before) .node-in, (counted .count-nodes .ensures, (omega arith, omega arith)))
 
 same-length : tie.Need-same-length
 same-length c = search needs
 
 returns-4 : tie.Need-returns-4
-unfolding early-of
 returns-4 c =
-    let counted = c .before .before .before .before .before .before in
-    let early = sym (counted .before .before .early-number .ensures) ∙ counted .before .if1 .left in
-    gives _ _ _ _ _ (fits _ _ _ _ early (omega (arith, counted .count-nodes .ensures)) (omega (arith, counted .count-nodes .ensures))) refl refl
-    (counted .count-nodes .ensures) (rw (counted .count-nodes .ensures) at (c .before .before .write-nodes .ensures))
+    let written = c .before .before in
+    let counted = written .before .before .before .before in
+    let fine = counted .before in
+    let s = tested fine in
+    let size = counted .count-nodes .ensures in
+    gives (listing (origin s) (node s) (subject s) (room s)) _ _ (nodes-of (path (origin s) (node s) (subject s))) _
+    (fits (origin s) (node s) (subject s) (room s) (early fine) (omega (arith, size)) (omega (arith, size))) refl refl size
+    (rw size at (written .write-nodes .ensures))
 
 pub list-path-spec : {M : Type 1} → statement M
 list-path-spec =

@@ -55,7 +55,9 @@ same-length c = simp length-set (c .before .loop .inv .same-length)
 
 returns : tie.Need-returns Inv-loop μ-loop
 returns c =
-    rw (c .before .before .before .before .before .before .pre .1 .0) (done _ _ _ _ _ _ _ (c .before .loop .inv) (c .loop-test .left))
+    let loop = c .before in
+    let s = loop .before .before .before .before .before in
+    rw (s .pre .1 .0) (done _ _ _ _ _ _ _ (loop .loop .inv) (c .loop-test .left))
 
 pub write-nodes-spec : {M : Type 1} → statement M
 write-nodes-spec =

@@ -6,7 +6,7 @@ use Rattle.sheet.specs.Sheet.{from-reached}
 use Rattle.printer.specs.declared.lines.Cursor.the-variants.{Reached, Counts, End}
 use Rattle.input.specs.Printing.{printing}
 use Rattle.printer.specs.Lines.{rest}
-use Rattle.printer.proofs.Rest.{gives-put, refused-some, reached-some, start-unrefused, start-no-route, start-refused-only}
+use Rattle.printer.proofs.lines.Rest.{gives-put, refused-some, reached-some, start-unrefused, start-no-route, start-refused-only}
 use Rattle.printer.proofs.lines.first_line.Statement.{statement}
 use Rattle.printer.proofs.lines.first_line.Tie as tie
 

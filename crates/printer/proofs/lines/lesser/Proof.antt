@@ -3,7 +3,7 @@ use mathlib.Core.Logic.{inl, inr}
 use mathlib.Core.Path.{refl}
 use native.Mathlib.Omega.{arith}
 use borrow.Author.Needs.{needs}
-use Rattle.printer.proofs.Passing.{distance-there, distance-missing}
+use Rattle.printer.proofs.lines.Passing.{distance-there, distance-missing}
 use Rattle.printer.proofs.lines.lesser.Statement.{statement}
 use Rattle.printer.proofs.lines.lesser.Tie as tie
 

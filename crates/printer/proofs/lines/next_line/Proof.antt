@@ -7,7 +7,7 @@ use Rattle.printer.specs.declared.lines.Cursor.{Cursor}
 use Rattle.printer.specs.declared.lines.Cursor.the-variants.{Start, Reached, Counts, Node, Path, End}
 use Rattle.input.specs.Printing.{printing}
 use Rattle.printer.specs.Lines.{rest}
-use Rattle.printer.proofs.Rest.{gives-last, gives-put, at-cursor, nodes-all, reached-some, counts-some}
+use Rattle.printer.proofs.lines.Rest.{gives-last, gives-put, at-cursor, nodes-all, reached-some, counts-some}
 use Rattle.printer.proofs.lines.next_line.Statement.{statement}
 use Rattle.printer.proofs.lines.next_line.Tie as tie
 

@@ -3,11 +3,11 @@ use native.Mathlib.Nat.{le-trans}
 use Rattle.table.specs.Table.{no-distance}
 use Rattle.auction.specs.Demands.{distance-of, price-of, link-of}
 use Rattle.planner.specs.Plan.{answered}
-use Rattle.printer.proofs.Passing.{inside-same}
+use Rattle.printer.proofs.lines.Passing.{inside-same}
 use Rattle.sheet.specs.Sheet.{Finished}
 use Rattle.input.specs.Printing.{printing}
 use Rattle.printer.specs.Lines.{rest}
-use Rattle.printer.proofs.Rest.{node-last, node-put}
+use Rattle.printer.proofs.lines.Rest.{node-last, node-put}
 use borrow.Author.Needs.{needs}
 use Rattle.printer.proofs.lines.next_node.Statement.{statement}
 use Rattle.printer.proofs.lines.next_node.Tie as tie

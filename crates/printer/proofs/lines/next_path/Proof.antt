@@ -10,7 +10,8 @@ use Rattle.planner.specs.Plan.{answered}
 use Rattle.sheet.specs.Sheet.{Finished}
 use Rattle.input.specs.Printing.{printing}
 use Rattle.printer.specs.Lines.{rest}
-use Rattle.printer.proofs.Rest.{path-last, path-put, listed-count, listed-nodes, listing-fits}
+use Rattle.printer.proofs.lines.Rest.{path-last, path-put}
+use Rattle.printer.proofs.lines.Listed.{listed-count, listed-nodes, listing-fits}
 use borrow.Author.Needs.{needs}
 use Rattle.printer.proofs.lines.next_path.Statement.{statement}
 use Rattle.printer.proofs.lines.next_path.Tie as tie

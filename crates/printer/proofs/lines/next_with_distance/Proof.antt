@@ -4,7 +4,7 @@ use Prim.Native.Nat.{_-_}
 use native.Mathlib.Omega.{arith}
 use borrow.Author.Needs.{needs}
 use Rattle.sheet.specs.Sheet.{passing, has-distance}
-use Rattle.printer.proofs.Passing.{passing-later, found, none-found, distance-there, distance-missing}
+use Rattle.printer.proofs.lines.Passing.{passing-later, found, none-found, distance-there, distance-missing}
 use Rattle.printer.proofs.lines.next_with_distance.Statement.{statement}
 use Rattle.printer.proofs.lines.next_with_distance.Tie as tie
 

@@ -5,7 +5,7 @@ use native.Mathlib.Omega.{arith}
 use borrow.Author.Needs.{needs}
 use lib.ListN.{length}
 use Rattle.printer.specs.Lines.{Lesser}
-use Rattle.printer.proofs.Passing.{Least, least-starts, least-next, least-found}
+use Rattle.printer.proofs.lines.Passing.{Least, least-starts, least-next, least-found}
 use Rattle.printer.proofs.lines.next_with_path.Statement.{statement}
 use Rattle.printer.proofs.lines.next_with_path.Tie as tie
 

@@ -11,7 +11,7 @@ use Rattle.printer.specs.declared.lines.Line.{Line}
 use Rattle.printer.specs.declared.lines.Line.the-variants.{Last}
 use Rattle.input.specs.Printing.{printing}
 use Rattle.printer.specs.Lines.{rest, Gives}
-use Rattle.printer.proofs.Filling.{Filling, filling-starts, filling-next, filled, no-more, fewer-given}
+use Rattle.printer.proofs.pieces.Filling.{Filling, filling-starts, filling-next, filled, no-more, fewer-given}
 use Rattle.printer.proofs.pieces.next_piece.Statement.{statement}
 use Rattle.printer.proofs.pieces.next_piece.Tie as tie
 

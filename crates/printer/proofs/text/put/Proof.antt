@@ -4,7 +4,7 @@ use Prim.Native.Nat.{_-_, _≤_}
 use native.Mathlib.Omega.{arith}
 use lib.ListN.{length}
 use lib.Seq.{paste, paste-zero}
-use Rattle.printer.proofs.Begins.{pasted-length, pasted-next, pasted-whole}
+use Rattle.printer.proofs.text.Begins.{pasted-length, pasted-next, pasted-whole}
 use Rattle.printer.proofs.text.put.Statement.{statement}
 use Rattle.printer.proofs.text.put.Tie as tie
 

@@ -2,8 +2,8 @@
 use mathlib.Core.Path.{_∙_}
 use native.Mathlib.Omega.{arith}
 use borrow.Author.Needs.{needs}
-use Rattle.printer.proofs.Begins.{begins-as}
-use Rattle.printer.proofs.Decimal.{fewest-few, fewest-decimal}
+use Rattle.printer.proofs.text.Begins.{begins-as}
+use Rattle.printer.proofs.text.Decimal.{fewest-few, fewest-decimal}
 use Rattle.printer.proofs.text.put_number.Statement.{statement}
 use Rattle.printer.proofs.text.put_number.Tie as tie
 

@@ -1,4 +1,4 @@
--- `printer::lines::put_arc` meets its contract: "-" stands for no arc. Assumes nothing.
+-- `printer::putting::put_arc` meets its contract: "-" stands for no arc. Assumes nothing.
 use mathlib.Core.Path.{_≡_}
 use native.Mathlib.Omega.{arith}
 use borrow.Author.Needs.{needs}
@@ -6,9 +6,9 @@ use borrow.Author.Tests.{eq-eqb, ne-eqb}
 use Rattle.table.specs.Table.{no-arc}
 use Rattle.sheet.specs.Text.{text, decimal}
 use Rattle.sheet.specs.Sheet.{arc-text}
-use Rattle.printer.proofs.Begins.{begins-as}
-use Rattle.printer.proofs.lines.put_arc.Statement.{statement}
-use Rattle.printer.proofs.lines.put_arc.Tie as tie
+use Rattle.printer.proofs.text.Begins.{begins-as}
+use Rattle.printer.proofs.putting.put_arc.Statement.{statement}
+use Rattle.printer.proofs.putting.put_arc.Tie as tie
 
 slice-aggregate-put : tie.Need-slice-aggregate-put
 slice-aggregate-put c = search needs

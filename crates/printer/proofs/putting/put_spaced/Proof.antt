@@ -1,11 +1,11 @@
--- `printer::lines::put_spaced` meets its contract: the loop's invariant is `Spacing`. Assumes nothing.
+-- `printer::putting::put_spaced` meets its contract: the loop's invariant is `Spacing`. Assumes nothing.
 use Prim.Native.Nat.{_-_}
 use native.Mathlib.Omega.{arith}
 use borrow.Author.Needs.{needs}
 use lib.ListN.{length}
-use Rattle.printer.proofs.Spaced.{Spacing, spacing-starts, spacing-next, spacing-done}
-use Rattle.printer.proofs.lines.put_spaced.Statement.{statement}
-use Rattle.printer.proofs.lines.put_spaced.Tie as tie
+use Rattle.printer.proofs.putting.Spaced.{Spacing, spacing-starts, spacing-next, spacing-done}
+use Rattle.printer.proofs.putting.put_spaced.Statement.{statement}
+use Rattle.printer.proofs.putting.put_spaced.Tie as tie
 
 abbrev Inv-loop : tie.InvT-loop
 Inv-loop nodes at out₀ end₀ i₀ t6 out end i = Spacing nodes out₀ out at end i

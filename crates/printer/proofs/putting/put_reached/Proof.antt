@@ -1,10 +1,10 @@
--- `printer::lines::put_counts` meets its contract: the buffer begins with each text put so far. Assumes nothing.
+-- `printer::putting::put_reached` meets its contract: the buffer begins with each text put so far. Assumes nothing.
 use mathlib.Core.List.{[]}
 use borrow.Author.Needs.{needs}
-use Rattle.sheet.specs.Sheet.{counts-line}
-use Rattle.printer.proofs.Begins.{begins-nothing}
-use Rattle.printer.proofs.lines.put_counts.Statement.{statement}
-use Rattle.printer.proofs.lines.put_counts.Tie as tie
+use Rattle.sheet.specs.Sheet.{reached-line}
+use Rattle.printer.proofs.text.Begins.{begins-nothing}
+use Rattle.printer.proofs.putting.put_reached.Statement.{statement}
+use Rattle.printer.proofs.putting.put_reached.Tie as tie
 
 slice-aggregate-put-field : tie.Need-slice-aggregate-put-field
 slice-aggregate-put-field c = search needs
@@ -34,19 +34,19 @@ same-length : tie.Need-same-length
 same-length c = search needs
 
 returns : tie.Need-returns
-unfolding counts-line
+unfolding reached-line
 returns c =
     let end = c .before .before in
-    let deletions = end .before .before .before .before .before in
-    let extensions = deletions .before .before .before .before .before in
-    let contractions = extensions .before .before .before .before .before in
-    let out = contractions .before .before .before .before .args .out .now in
+    let iterations = end .before .before .before .before .before in
+    let horizon = iterations .before .before .before .before .before in
+    let reached = horizon .before .before .before .before .before in
+    let out = reached .before .before .before .before .args .out .now in
     end .put .ensures .0 _ out
-    (deletions .put-field3 .ensures .0 _ out
-    (extensions .put-field2 .ensures .0 _ out (contractions .put-field .ensures .0 [] out (begins-nothing out))))
+    (iterations .put-field3 .ensures .0 _ out
+    (horizon .put-field2 .ensures .0 _ out (reached .put-field .ensures .0 [] out (begins-nothing out))))
 
-pub put-counts-spec : {M : Type 1} → statement M
-put-counts-spec =
+pub put-reached-spec : {M : Type 1} → statement M
+put-reached-spec =
     tie.close
     (tie.spec
     slice-aggregate-put-field

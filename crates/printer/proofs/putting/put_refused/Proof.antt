@@ -1,10 +1,10 @@
--- `printer::lines::put_refused` meets its contract: the buffer begins with each text put so far. Assumes nothing.
+-- `printer::putting::put_refused` meets its contract: the buffer begins with each text put so far. Assumes nothing.
 use mathlib.Core.List.{[]}
 use borrow.Author.Needs.{needs}
 use Rattle.sheet.specs.Sheet.{refused-line}
-use Rattle.printer.proofs.Begins.{begins-nothing}
-use Rattle.printer.proofs.lines.put_refused.Statement.{statement}
-use Rattle.printer.proofs.lines.put_refused.Tie as tie
+use Rattle.printer.proofs.text.Begins.{begins-nothing}
+use Rattle.printer.proofs.putting.put_refused.Statement.{statement}
+use Rattle.printer.proofs.putting.put_refused.Tie as tie
 
 slice-aggregate-put-field : tie.Need-slice-aggregate-put-field
 slice-aggregate-put-field c = search needs

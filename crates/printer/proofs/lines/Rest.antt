@@ -1,20 +1,15 @@
 -- The lines still to come: the first of them, and the rest from the cursor after it. Assumes nothing.
 use mathlib.Core.Path.{_≡_, refl, sym, ap, subst, subst₂, _∙_}
-use mathlib.Core.Bool.{Bool, true, false, cond}
-use mathlib.Core.Logic.{⊎-elim}
-use mathlib.Core.Option.{Option, none, some}
+use mathlib.Core.Bool.{Bool, cond}
 use mathlib.Core.List.{List, [], _∷_, _++_}
 use Prim.Native.Nat.{ℕ, _+_, _-_, _≤_, _<_}
 use native.Mathlib.Omega.{arith}
-use lib.Dec.{ltb, eqb}
-use lib.ListN.{length, take, drop, length-append}
-use lib.Seq.{take-at}
-use borrow.Author.Tests.{ltb-false, eq-eqb, ne-eqb}
+use lib.Dec.{eqb}
+use lib.ListN.{length, length-append}
+use borrow.Author.Tests.{eq-eqb, ne-eqb}
 use Rattle.table.specs.Table.{most-nodes}
 use Rattle.auction.specs.Demands.{distance-of, price-of, link-of}
-use Rattle.paths.specs.declared.Listed.{Listed}
-use Rattle.paths.specs.Listing.{Tree, Listing, Lists, listing, into, listed, refused, path, early-of, tree-in}
-use Rattle.table.proofs.Basics.{true-or}
+use Rattle.paths.specs.Listing.{listing, tree-in}
 use Rattle.printer.specs.declared.lines.Cursor.{Cursor}
 use Rattle.printer.specs.declared.lines.Cursor.the-variants.{Start, Node, Path}
 use Rattle.printer.specs.declared.lines.Line.{Line}
@@ -23,7 +18,7 @@ use Rattle.printer.specs.Buffers.{Begins}
 use Rattle.sheet.specs.Text.{text, decimal, spaced}
 use Rattle.sheet.specs.Sheet.{Finished, arc-text, reached-line, counts-line, path-nodes, reached-nodes, after-counts, passing, node-count, has-distance, has-path, node-line, path-line, node-lines, path-lines, from-reached, refused-line, sheet}
 use Rattle.printer.specs.Lines.{First-passing, nodes-from, paths-from, rest, Gives}
-use Rattle.printer.proofs.Passing.{passing-here, passing-none}
+use Rattle.printer.proofs.lines.Passing.{passing-here, passing-none}
 
 pub gives-last : (p : Finished) (lines : List (List ℕ)) (b : List ℕ) → lines ≡ [] → Gives p lines Last b b
 unfolding Gives
@@ -121,43 +116,6 @@ module _ (p : Finished) (n from v : ℕ) (all : n ≡ node-count (p .answer .dis
         (subst (λ (d : ℕ). Begins (node-line v d (price-of (p .answer) v) (link-of (p .answer) v)) b a count) same-distance
         (subst₂ (λ (q k : ℕ). Begins (node-line v distance q k) b a count) same-price same-arc begins))
         (ap (λ (k : ℕ). node-lines p (passing (has-distance (p .answer .distances)) (k - (v + 1)) (v + 1)) ++ path-lines p (path-nodes p)) (sym all))
-
--- A LISTING fits into the buffer it was given, and stands at its start
-module _ (l : Listing) (r : Listed) (b a : List ℕ) (s : Lists l r b a) where
-  pub listed-count : r .count ≤ length a
-  listed-count = omega (arith, s .count, ap length (s .output), length-append (l .nodes) (drop (length (l .nodes)) b))
-
-  pub listed-nodes : take (r .count) a ≡ l .nodes
-  listed-nodes =
-      ap (λ (k : ℕ). take k a) (s .count)
-      ∙ ap (λ (m : List ℕ). take (length (l .nodes)) m) (s .output)
-      ∙ take-at (l .nodes) (drop (length (l .nodes)) b) (length (l .nodes)) refl
-
-into-fits : (room : ℕ) (o : Option (List ℕ)) → length (into room o .nodes) ≤ room
-unfolding into refused listed
-into-fits room none = omega arith
-into-fits room (some vs) =
-    ⊎-elim
-    (λ (e : ltb room (length vs) ≡ true).
-    let z : length (cond (ltb room (length vs)) (refused 13) (listed vs) .nodes) ≡ 0 = ap (λ (b : Bool). length (cond b (refused 13) (listed vs) .nodes)) e in
-    omega arith)
-    (λ (e : ltb room (length vs) ≡ false).
-    let z : length (cond (ltb room (length vs)) (refused 13) (listed vs) .nodes) ≡ length vs = ap (λ (b : Bool). length (cond b (refused 13) (listed vs) .nodes)) e in
-    omega (arith, ltb-false room (length vs) e))
-    (true-or (ltb room (length vs)))
-
-pub listing-fits : (o v : ℕ) (k : Tree) (room : ℕ) → length (listing o v k room .nodes) ≤ room
-unfolding listing refused
-listing-fits o v k room =
-    ⊎-elim
-    (λ (e : eqb (early-of o v k) 0 ≡ true).
-    let z : length (listing o v k room .nodes) ≡ length (into room (path o v k) .nodes) =
-    ap (λ (b : Bool). length (cond b (into room (path o v k)) (refused (early-of o v k)) .nodes)) e in
-    omega (arith, into-fits room (path o v k)))
-    (λ (e : eqb (early-of o v k) 0 ≡ false).
-    let z : length (listing o v k room .nodes) ≡ 0 = ap (λ (b : Bool). length (cond b (into room (path o v k)) (refused (early-of o v k)) .nodes)) e in
-    omega arith)
-    (true-or (eqb (early-of o v k) 0))
 
 -- at a known cursor
 pub at-cursor : (p : Finished) (c at : Cursor) (r : Line) (b a : List ℕ) → c ≡ at → Gives p (rest p at) r b a → Gives p (rest p c) r b a

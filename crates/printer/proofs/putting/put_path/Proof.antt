@@ -1,10 +1,10 @@
--- `printer::lines::put_path` meets its contract: the buffer begins with each text put so far. Assumes nothing.
+-- `printer::putting::put_path` meets its contract: the buffer begins with each text put so far. Assumes nothing.
 use mathlib.Core.List.{[]}
 use borrow.Author.Needs.{needs}
 use Rattle.sheet.specs.Sheet.{path-line}
-use Rattle.printer.proofs.Begins.{begins-nothing}
-use Rattle.printer.proofs.lines.put_path.Statement.{statement}
-use Rattle.printer.proofs.lines.put_path.Tie as tie
+use Rattle.printer.proofs.text.Begins.{begins-nothing}
+use Rattle.printer.proofs.putting.put_path.Statement.{statement}
+use Rattle.printer.proofs.putting.put_path.Tie as tie
 
 slice-aggregate-put-field : tie.Need-slice-aggregate-put-field
 slice-aggregate-put-field c = search needs
