@@ -59,7 +59,7 @@ mark t x i = mark-number (was-reached x (head-at t i)) (was-reached x (tail-at t
 unfoldable pub marks : Table → State → List ℕ
 marks t x = entries (arc-count t) 0 (λ i. mark t x i)
 
--- ground 8, "no route", at the first wanted node that was not reached
+-- refusal 8, "no route", at the first wanted node that was not reached
 unfoldable pub first-missing : (place : ℕ) → (wanted : List ℕ) → State → ℕ
 first-missing i [] x = i
 first-missing i (w ∷ ws) x = cond (was-reached x w) (first-missing (suc i) ws x) i

@@ -1,6 +1,6 @@
 -- What a plan answers and leaves in the four buffers, for every input. Assumes nothing: these are definitions.
 --
--- Where one of the grounds 1 to 7 applies, the answer is that refusal's number and place, every other value of it is 0, and every buffer is as it was
+-- Where one of the refusals 1 to 7 applies, the answer is that refusal's number and place, every other value of it is 0, and every buffer is as it was
 -- lent. Otherwise the answer and the buffers are what the auction hands over, also where it ends without a route, which is number 8.
 use mathlib.Core.Bool.{cond}
 use mathlib.Core.List.{List, [], _∷_}
@@ -17,7 +17,7 @@ use Rattle.auction.specs.HandOver.{Answer, answer, handed-over}
 unfoldable pub rooms : (n arcs distances prices tree marks : ℕ) → List Room
 rooms n m a b c d = room a n ∷ room b n ∷ room c n ∷ room d m ∷ []
 
--- the refusal, on the grounds 1 to 7, of a table with the buffers lent for it
+-- the refusal, one of 1 to 7, of a table with the buffers lent for it
 unfoldable pub plan-refusal : (n origin : ℕ) → (tails heads lengths wanted distances prices tree marks : List ℕ) → Refusal
 plan-refusal n o ts hs ls ws ds ps tr ms =
     table-refusal n o ts hs ls ws (rooms n (length ts) (length ds) (length ps) (length tr) (length ms))

@@ -169,7 +169,7 @@ Small-sums =
 
 -- FOR EVERY TABLE NOT REFUSED
 
--- Where none of the grounds 1 to 7 applies to columns whose lengths are 32 bits each, the table is one that the promises speak of.
+-- Where none of the refusals 1 to 7 applies to columns whose lengths are 32 bits each, the table is one that the promises speak of.
 unfoldable pub Unrefused-is-table : Type 0
 Unrefused-is-table =
     (n o : ℕ) (tails heads lengths wanted : List ℕ) (rooms : List Room) → Below (2 ^ 32) lengths →

@@ -37,7 +37,7 @@ Reads-file file ts hs ls ws r = Read-says (was file) (was ts) (was hs) (was ls) 
 unfoldable pub write-answer : Refusal → (size : ℕ) → Written
 write-answer f size = record { number = f .number; place = f .place; length = size }
 
--- what the writer answers and leaves in the output, given its ground and the file
+-- what the writer answers and leaves in the output, given its refusal and the file
 pub record Left-by-writing (f : Refusal) (file output output′ : List ℕ) (r : Written) : Type 0 where
   pub answer : r ≡ write-answer f (length (put-bytes f file))
   pub output-is : output′ ≡ over (put-bytes f file) output

@@ -1,6 +1,6 @@
 -- The link file, page 3: reading into lent buffers, and writing columns into one. Assumes nothing: these are definitions.
 --
--- The reader reads the file as Reading.antt says, after ground 3: a lent buffer is too short. What it leaves is the content that was read; where
+-- The reader reads the file as Reading.antt says, after refusal 3: a lent buffer is too short. What it leaves is the content that was read; where
 -- the file is refused that content is empty, so that every value is 0 and every buffer is as it was. The writer likewise puts the bytes that
 -- Format.antt says, or none.
 use mathlib.Core.Bool.{Bool, cond, _||_}
@@ -42,7 +42,7 @@ content-of (refused n p) = no-content
 unfoldable pub file-of : (n origin : ℕ) → (tails heads lengths wanted : List ℕ) → List ℕ
 file-of n o ts hs ls ws = file-bytes (content n o ws (arcs-of ts hs ls))
 
--- the writer's grounds, in order: 1, 2, 5 (the count only), then 13
+-- the writer's refusals, in order: 1, 2, 5 (the count only), then 13
 unfoldable pub writing : (n origin : ℕ) → (tails heads lengths wanted : List ℕ) → (room : ℕ) → Refusal
 writing n o ts hs ls ws room =
     cond (count-bad n) (refusal 1 0)
@@ -54,7 +54,7 @@ writing n o ts hs ls ws room =
 unfoldable pub put-bytes : Refusal → (file : List ℕ) → List ℕ
 put-bytes f file = cond (eqb (f .number) 0) file []
 
--- three columns that ground 2 does not refuse: of equal length, with not too many arcs
+-- three columns that are not refused by 2: of equal length, with not too many arcs
 pub record Equal-columns (tails heads lengths : List ℕ) : Type 0 where
   pub heads-are : length tails ≡ length heads
   pub lengths-are : length heads ≡ length lengths

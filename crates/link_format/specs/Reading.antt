@@ -1,7 +1,7 @@
 -- The link file, page 2: what reading a list of bytes gives. Assumes nothing: these are definitions.
 --
 -- A READER takes an offset of the file and the bytes from there on. It got a value, with the next offset and the bytes from there on, or it
--- refused, with a ground's number and a place. The lines of a `do` block run one after the other and the first refusal ends it, so they are
+-- refused, with a refusal's number and a place. The lines of a `do` block run one after the other and the first refusal ends it, so they are
 -- document 01's order: the first fault from the left.
 use mathlib.Core.Bool.{Bool, true, false, _||_, not, cond}
 use mathlib.Core.List.{List, [], _∷_}

@@ -1,4 +1,4 @@
--- The files of document 01 and of its table of grounds, as rows of one result. Assumes nothing: this is a statement.
+-- The files of document 01 and of its table of refusals, as rows of one result. Assumes nothing: this is a statement.
 use mathlib.Core.List.{List, [], _∷_}
 use mathlib.Core.Option.{Option}
 use mathlib.Core.Path.{_≡_}

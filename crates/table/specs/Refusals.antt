@@ -1,4 +1,4 @@
--- The grounds 1 to 7 on which a table is refused, in the order in which they are tested. Assumes nothing: these are definitions.
+-- The refusals 1 to 7 of a table, in the order in which they are tested. Assumes nothing: these are definitions.
 --
 -- A REFUSAL is the code's own struct: a number, which is document 01's, and a place, 0 where none is named. Number 0 is no refusal.
 use mathlib.Core.Bool.{Bool, true, _&&_, _||_, not, cond}

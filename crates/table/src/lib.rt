@@ -1,5 +1,5 @@
 // The words that every crate above shares: limits and numbers with a meaning, what a refusal is, and the tests that several entries make. specs/Table.antt
-// says what a table and a walk are, specs/Refusals.antt on which grounds a table is refused.
+// says what a table and a walk are, specs/Refusals.antt when a table is refused.
 ghost use mathlib.Core.Path.{_≡_};
 ghost use Prim.Native.Nat.{_<_};
 ghost use Rattle.table.specs.Refusals.{no-refusal, count-bad, columns-bad};
