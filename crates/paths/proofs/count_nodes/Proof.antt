@@ -22,7 +22,7 @@ loop-holds c = begins _ _ _ (c .before .before .before .pre .0)
 returns : tie.Need-returns Inv-loop μ-loop
 returns c =
     let test = c .before in
-    too-many _ _ _ _ _ (test .before .loop .inv) (test .loop-test .taken) (c .if1 .taken)
+    too-many _ _ _ _ _ (test .before .loop .inv) (test .loop-test .taken) (omega arith)
 
 leads-back-requires : tie.Need-leads-back-requires Inv-loop μ-loop
 leads-back-requires c κs =
