@@ -277,16 +277,38 @@ pub fn round_trip(entries: &dyn Entries, table: &Table) -> Verdict {
 
 // The program.
 
-/// The sheet with its path lines, which come last, in ascending order of text: their order is free.
+/// The sheet with its path lines, which stand together, in ascending order of text: their order is free.
 fn path_lines_sorted(sheet: &str) -> Vec<&str> {
     let mut lines: Vec<&str> = sheet.split_inclusive('\n').collect();
-    let paths = lines.iter().position(|line| line.starts_with("path ")).unwrap_or(lines.len());
-    lines[paths..].sort();
+    let is_path = |line: &&str| line.starts_with("path ");
+    let start = lines.iter().position(is_path).unwrap_or(lines.len());
+    let count = lines[start..].iter().copied().take_while(is_path).count();
+    lines[start..start + count].sort();
     lines
+}
+
+/// The last line of a sheet that lists nodes counts each arc of the table once, and a tree arc for each reached node
+/// but the origin. Any other sheet is one line.
+fn check_totals(sheet: &str, arcs: usize) -> Verdict {
+    let lines: Vec<&str> = sheet.lines().collect();
+    let Some(reached) = lines.iter().find_map(|line| line.strip_prefix("reached ")) else {
+        return if lines.len() == 1 { Ok(()) } else { Err(format!("{} lines, and no node", lines.len())) };
+    };
+    let reached = reached.split(' ').next().and_then(|word| word.parse::<usize>().ok());
+    let counts = lines.last().and_then(|line| line.strip_prefix("marks "));
+    let counts: Option<Vec<usize>> = counts.and_then(|words| words.split(' ').map(|word| word.parse().ok()).collect());
+    match counts.as_deref() {
+        Some(&[a, b, c, d]) if a + b + c + d == arcs && Some(d + 1) == reached => Ok(()),
+        _ => Err(format!("the last line is {:?}; {arcs} arcs, reached {reached:?}", lines.last())),
+    }
 }
 
 pub fn same_sheet(printed: &str, input: &[u8]) -> Verdict {
     let expected = RIGHT.sheet(input);
+    let mut table = Table::default();
+    let arcs = RIGHT.table_of(input, &mut table).map_or(0, |()| table.tails.len());
+    check_totals(&expected, arcs).map_err(|fault| format!("the model's own sheet: {fault}"))?;
+    check_totals(printed, arcs)?;
     let (printed, expected) = (path_lines_sorted(printed), path_lines_sorted(&expected));
     let differs = |line: &usize| printed.get(*line) != expected.get(*line);
     match (0..printed.len().max(expected.len())).find(differs) {

@@ -59,7 +59,8 @@ fn check_answer(table: &Table, plan: &Planned, filled: &Filled, least: &[Option<
     let farthest = reached.iter().max().copied();
     demand(farthest == Some(plan.horizon), || format!("the largest distance is {farthest:?}"))?;
     let tree_arcs = filled.marks.iter().filter(|&&mark| mark == 3).count();
-    demand(tree_arcs + 1 == reached.len(), || format!("{tree_arcs} arcs are marked 3"))
+    demand(tree_arcs + 1 == reached.len(), || format!("{tree_arcs} arcs are marked 3"))?;
+    demand(filled.marks.iter().all(|&mark| mark <= 3), || "an arc has none of the four marks".to_string())
 }
 
 fn check_nodes(table: &Table, plan: &Planned, filled: &Filled, least: &[Option<u64>]) -> Result<(), String> {

@@ -8,6 +8,7 @@ use crate::shapes;
 
 pub const GROUPS: &[Group] = &[
     Group { name: "program: refused files", run: refused },
+    Group { name: "program: the line of the marks", run: marks },
     Group { name: "program: random tables", run: random_tables },
     Group { name: "program: long sheets", run: long_sheets },
     Group { name: "program: input of about 65,536 bytes", run: long_inputs },
@@ -28,6 +29,36 @@ fn refused(entries: &dyn Entries, _: &mut Random) -> Tried {
     inputs.push(file(&example(4, &[3, 0, 3, 0, 3])));
     inputs.iter().try_for_each(|input| compare::print(entries, input))?;
     Ok(inputs.len())
+}
+
+/// The last line of every sheet that lists nodes, and of no other.
+fn marks(entries: &dyn Entries, _: &mut Random) -> Tried {
+    let rows = [
+        (example(4, &[3]), "marks 0 2 0 3"),
+        (example(4, &[1]), "marks 1 1 2 1"),
+        (example(4, &[]), "marks 3 0 2 0"),
+        (example(5, &[4]), "marks 0 2 0 3"),
+        (Table::new(1, 0, &[], &[0]), "marks 0 0 0 0"),
+        (Table::new(1, 0, &[(0, 0, 1)], &[0]), "marks 0 1 0 0"),
+        (Table::new(2, 0, &[(0, 1, 4), (0, 1, 4)], &[1]), "marks 0 1 0 1"),
+        (Table::new(2, 0, &[], &[1]), "marks 0 0 0 0"),
+        // Links between nodes that cannot be reached, and a link from one of them to the origin.
+        (Table::new(3, 0, &[(1, 2, 5), (2, 1, 5), (2, 0, 5)], &[2]), "marks 2 1 0 0"),
+        (Table { origin: 4, ..example(4, &[3]) }, "refused 4 at 0"),
+        (example(4, &[3, 4]), "refused 5 at 1"),
+        (Table::new(1, 0, &[(0, 1, 1)], &[]), "refused 6 at 0"),
+        (Table::new(2, 0, &[(0, 1, 1), (0, 1, 0)], &[]), "refused 7 at 1"),
+    ];
+    for (table, last) in &rows {
+        let file = write_file(&RIGHT, table).expect("such tables can be written");
+        compare::print(entries, &file)?;
+        let sheet = entries.print(&file)?;
+        let marked = sheet.lines().filter(|line| line.starts_with("marks")).count();
+        if sheet.lines().last() != Some(last) || marked != last.starts_with("marks") as usize {
+            return Err(format!("the last line must be {last:?}: {sheet:?} of {table:?}"));
+        }
+    }
+    Ok(rows.len())
 }
 
 fn random_tables(entries: &dyn Entries, random: &mut Random) -> Tried {

@@ -92,6 +92,7 @@ node 1 distance 2 price 4 arc 0
 node 2 distance 5 price 1 arc 1
 node 3 distance 6 price 0 arc 3
 path 3: 0 2 3
+marks 0 2 0 3
 ";
 
 fn printed_example(entries: &dyn Entries, _: &mut Random) -> Tried {

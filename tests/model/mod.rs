@@ -34,9 +34,12 @@ pub enum Wrong {
     ShortBufferFirst,
     OriginsEntryRead,
     RepeatsPrinted,
+    NoMarksAfterNoRoute,
+    MarksBeforePaths,
+    MarkCountsExchanged,
 }
 
-pub const ALL_WRONG: [Wrong; 23] = [
+pub const ALL_WRONG: [Wrong; 26] = [
     Wrong::TieByFirstMet,
     Wrong::HorizonFromRawPrice,
     Wrong::RawPrices,
@@ -60,6 +63,9 @@ pub const ALL_WRONG: [Wrong; 23] = [
     Wrong::ShortBufferFirst,
     Wrong::OriginsEntryRead,
     Wrong::RepeatsPrinted,
+    Wrong::NoMarksAfterNoRoute,
+    Wrong::MarksBeforePaths,
+    Wrong::MarkCountsExchanged,
 ];
 
 /// The rules, or with a fault.

@@ -25,7 +25,8 @@ impl Model {
         if plan.number == 0 || plan.number == 8 {
             sheet += &plan_lines(&plan);
             sheet += &node_lines(&distances, &prices, &tree);
-            sheet += &self.path_lines(&table, &distances, &tree);
+            let (paths, marks) = (self.path_lines(&table, &distances, &tree), self.marks_line(&plan, &marks));
+            sheet += &if self.has(Wrong::MarksBeforePaths) { marks + &paths } else { paths + &marks };
         }
         sheet
     }
@@ -39,6 +40,16 @@ impl Model {
         }
         nodes.retain(|&node| distances[node as usize] != NO_DISTANCE);
         nodes.iter().map(|&node| path_line(table, tree, node)).collect()
+    }
+
+    /// How many arcs have mark 0, 1, 2 and 3.
+    fn marks_line(&self, plan: &Planned, marks: &[u8]) -> String {
+        if plan.number == 8 && self.has(Wrong::NoMarksAfterNoRoute) {
+            return String::new();
+        }
+        let order = if self.has(Wrong::MarkCountsExchanged) { [0, 2, 1, 3] } else { [0, 1, 2, 3] };
+        let counts = order.map(|mark| marks.iter().filter(|&&given| given == mark).count().to_string());
+        format!("marks {}\n", counts.join(" "))
     }
 }
 

@@ -1,6 +1,6 @@
 -- The promises, carried over to what is handed over; and the demands pin the counts. Assumes nothing.
 use mathlib.Core.Path.{_≡_, refl, sym, ap, subst, _∙_}
-use mathlib.Core.Bool.{true, false, cond}
+use mathlib.Core.Bool.{true, false}
 use mathlib.Core.List.{List}
 use mathlib.Core.Logic.{inl, inr, ⊎-elim}
 use mathlib.Core.Option.{none, some}
@@ -12,15 +12,16 @@ use Rattle.table.specs.Refusals.{refusal, no-refusal}
 use Rattle.auction.specs.Auction.{State, auction, next, after, then-next, was-reached, distance, iterations}
 use Rattle.auction.specs.HandOver.{Answer, handed-over, distances, first-missing, route-refusal}
 use Rattle.auction.specs.Plan.{routes-of}
-use Rattle.auction.specs.Promises.{Has-walk, No-walk, last-state, route, price, link, Shortest, Shown, Walk-shortest, Walk-given, Prices-fit, Prices-show, Route-to-all, No-route, First-without-walk, Few-iterations, Fewer-iterations, Ends-by-itself, Iterations-counted, Attains, Earliest-link}
+use Rattle.auction.specs.Promises.{Has-walk, No-walk, last-state, route, price, link, Shortest, Shown, Walk-shortest, Walk-given, Prices-fit, Prices-show, Route-to-all, No-route, First-without-walk, Few-iterations, Fewer-iterations, Ends-by-itself, Iterations-counted, Attains, Earliest-link, Marks-tallied}
 use Rattle.auction.specs.Demands.{distance-of, price-of, link-of, walk-of, Given, Demands, Demands-met, Same-counts, Counts-pinned, hollow, Hollow-fails}
 use Rattle.table.proofs.Basics.{same-or, true-or, below-or, not-both, some-none, some-same}
 use Rattle.auction.proofs.Sums.{column, past-column}
 use Rattle.auction.proofs.Good.{Good, good}
-use Rattle.auction.proofs.Steps.Effects.{estimate, status-in, reached-status, status-reached}
+use Rattle.auction.proofs.Steps.Effects.{status-in, reached-status, status-reached}
 use Rattle.auction.proofs.Invariant.Sound.{Sound}
 use Rattle.auction.proofs.Walks.{kept-link, tree-origin}
-use Rattle.auction.proofs.Promised.{walk-shortest, walk-given, prices-fit, prices-show, route-to-all, no-route, few-iterations, fewer-iterations, ends-by-itself, iterations-counted, earliest-link, invariant}
+use Rattle.auction.proofs.Tally.{distance-entry, not-no-distance, reached-all}
+use Rattle.auction.proofs.Promised.{walk-shortest, walk-given, prices-fit, prices-show, route-to-all, no-route, few-iterations, fewer-iterations, ends-by-itself, iterations-counted, earliest-link, marks-tallied, invariant}
 
 module _ (t : Table) (ws : List ℕ) (e : is-table t ws ≡ true) where
   abbrev x : State
@@ -39,20 +40,18 @@ module _ (t : Table) (ws : List ℕ) (e : is-table t ws ≡ true) where
   a = routes-of t ws
 
   -- the distance column: a reached node's distance, 2⁶⁴ − 1 for any other
-  entry : ℕ → ℕ
-  entry v = cond (was-reached x v) (distance x v) no-distance
-
   reached-entry : (v : ℕ) → was-reached x v ≡ true → distance-of a v ≡ distance x v
-  unfolding distance-of routes-of handed-over distances last-state entry
+  unfolding distance-of routes-of handed-over distances last-state distance-entry
   reached-entry v r =
-      let here : entry v ≡ distance x v = rw r in
-      column (t .n) v entry no-distance (status-in v (invariant t ws e .sound .nodes .sizes) (reached-status x v r)) ∙ here
+      let here : distance-entry x v ≡ distance x v = rw r in
+      column (t .n) v (distance-entry x) no-distance (status-in v (invariant t ws e .sound .nodes .sizes) (reached-status x v r)) ∙ here
 
   unreached-entry : (v : ℕ) → was-reached x v ≡ false → distance-of a v ≡ no-distance
-  unfolding distance-of routes-of handed-over distances last-state entry
+  unfolding distance-of routes-of handed-over distances last-state distance-entry
   unreached-entry v r =
-      let here : entry v ≡ no-distance = rw r in
-      ⊎-elim (λ (h : v < t .n). column (t .n) v entry no-distance h ∙ here) (λ (h : t .n ≤ v). past-column (t .n) v entry no-distance h)
+      let here : distance-entry x v ≡ no-distance = rw r in
+      ⊎-elim (λ (h : v < t .n). column (t .n) v (distance-entry x) no-distance h ∙ here)
+      (λ (h : t .n ≤ v). past-column (t .n) v (distance-entry x) no-distance h)
       (below-or v (t .n))
 
   pub given-reached : (v : ℕ) → Given a v → was-reached x v ≡ true
@@ -60,9 +59,8 @@ module _ (t : Table) (ws : List ℕ) (e : is-table t ws ≡ true) where
   given-reached v h = ⊎-elim (λ (r : was-reached x v ≡ true). r) (λ (r : was-reached x v ≡ false). absurd (h (unreached-entry v r))) (true-or (was-reached x v))
 
   reached-given : (v : ℕ) → was-reached x v ≡ true → Given a v
-  unfolding Given estimate
-  reached-given v r q =
-      omega (arith, invariant t ws e .sound .nodes .small-estimate v, good t ws e .few-nodes, q, reached-entry v r)
+  unfolding Given
+  reached-given v r q = not-no-distance t g x dep sound v (sym (reached-entry v r) ∙ q)
 
   -- number 8 exactly where the run ended without every wanted node
   number-zero : auction t ws .routed ≡ true → a .number ≡ 0
@@ -74,7 +72,7 @@ module _ (t : Table) (ws : List ℕ) (e : is-table t ws ≡ true) where
   number-eight r = (rw r, rw r)
 
   demands : Demands t ws a
-  unfolding routes-of handed-over last-state price-of link-of walk-of iterations Walk-shortest Walk-given Prices-fit Prices-show Route-to-all No-route Few-iterations Fewer-iterations Ends-by-itself Iterations-counted Earliest-link route price link
+  unfolding routes-of handed-over last-state price-of link-of walk-of iterations Walk-shortest Walk-given Prices-fit Prices-show Route-to-all No-route Few-iterations Fewer-iterations Ends-by-itself Iterations-counted Earliest-link Marks-tallied route price link
   demands =
       let shortest : (v : ℕ) → Given a v → Shortest t ws v = λ v h. walk-shortest t ws v e (given-reached v h) in
       let shown : (v : ℕ) → Given a v → Shown t ws v = λ v h. prices-show t ws v e (given-reached v h) in
@@ -108,6 +106,9 @@ module _ (t : Table) (ws : List ℕ) (e : is-table t ws ≡ true) where
             ⊎-elim (λ (r : auction t ws .routed ≡ true). absurd (omega (arith, z, number-zero r)))
             (λ (r : auction t ws .routed ≡ false). subst (λ (p : ℕ). First-without-walk t ws p) (sym (number-eight r .1)) (no-route t ws e r))
             (true-or (auction t ws .routed));
+        marks-all = marks-tallied t ws e .all;
+        marks-tree = marks-tallied t ws e .tree;
+        reached-all = reached-all t g x dep sound;
         counts = refl;
         last = x;
         steps = iterations-counted t ws e .steps;

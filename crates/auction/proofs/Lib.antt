@@ -6,8 +6,9 @@ pub mod Sums
 pub mod Steps
 pub mod Invariant
 pub mod Run
--- what a sound state says of walks, and the promises
+-- what a sound state says of walks and of marks, and the promises
 pub mod Walks
+pub mod Tally
 pub mod Promised
 pub mod Demanded
 pub mod Made

@@ -8,7 +8,7 @@ use native.Mathlib.Omega.{arith}
 use lib.Dec.{ltb, leb, eqb}
 use lib.ListN.{length}
 use borrow.Author.Tests.{eqb-true, eq-eqb, ne-eqb, not-false, ltb-false}
-use Rattle.table.specs.Table.{Table, Arc, arcs-of, table-of, is-table, most-nodes, most-arcs, most-wanted, Below}
+use Rattle.table.specs.Table.{Arc, arcs-of, table-of, is-table, most-nodes, most-arcs, most-wanted, Below}
 use Rattle.table.specs.declared.Refusal.{Refusal}
 use Rattle.table.specs.Refusals.{refusal, no-refusal, or-else, room, table-refusal, count-bad, columns-bad, rooms-fit, wanted-from, wanted-refusal, arc-fault, arcs-from, arcs-refusal}
 use Rattle.table.proofs.Basics.{both-true, either-false, same-or, true-or}

@@ -12,7 +12,7 @@ use borrow.Author.Tests.{eqb-true, eq-eqb}
 use Rattle.table.specs.Table.{Table, is-table, is-walk, arc-count, tail-at, head-at, length-at, longest}
 use Rattle.auction.specs.Auction.{State, Bid, Ended, auction, ended, next, iteration, deletion, after, best, terminal, all-reached, was-reached, distance, iterations}
 use Rattle.auction.specs.HandOver.{prices, first-missing}
-use Rattle.auction.specs.Promises.{Promises, last-state, route, price, link, Walk-shortest, Walk-given, Prices-fit, equal-along, Prices-show, Has-walk, No-walk, First-without-walk, Route-to-all, No-route, Few-iterations, Fewer-iterations, Ends-by-itself, Iterations-counted, Attains, Earliest-link, Never-above, Distances-stay, Ascending, Small-distances, Small-sums}
+use Rattle.auction.specs.Promises.{Promises, last-state, route, price, link, Walk-shortest, Walk-given, Prices-fit, equal-along, Prices-show, Has-walk, No-walk, First-without-walk, Route-to-all, No-route, Few-iterations, Fewer-iterations, Ends-by-itself, Iterations-counted, Attains, Earliest-link, Marks-tallied, Never-above, Distances-stay, Ascending, Small-distances, Small-sums}
 use Rattle.table.proofs.Basics.{true-or, both-true, true-both, some-none, not-both}
 use Rattle.auction.proofs.Good.{Good, good, unrefused-is-table, table-is-unrefused, longest-of-32-bits, lengths-of-32-bits}
 use Rattle.auction.proofs.Steps.Effects.{estimate, known-distance, reached-status, status-reached, unreached-status}
@@ -22,6 +22,7 @@ use Rattle.auction.proofs.Invariant.Counting.{Invariant, few, fewer}
 use Rattle.auction.proofs.Invariant.Terminal as at-terminal
 use Rattle.auction.proofs.Run.{Finish, finish, passed, stepped}
 use Rattle.auction.proofs.Walks.{All, prices-fit-at, prices-equal, origin-price, no-shorter, kept-link, returned-walk, returned-short, returned-long, returned-links, earliest, walk-reached}
+use Rattle.auction.proofs.Tally.{marks-all, marks-tree}
 
 -- THE LAST STATE of a run is sound, and the run stopped there
 module _ (t : Table) (ws : List ℕ) (e : is-table t ws ≡ true) where
@@ -257,6 +258,13 @@ earliest-link t ws v e r d =
           omega (arith, l .entry, earliest t (g t ws e) y dep s v (l .position) i r (l .kept) (a .listed) (a .into) (a .walk) (a .to-tail) (a .total));
     }
 
+-- MARKS
+pub marks-tallied : Marks-tallied
+unfolding Marks-tallied
+marks-tallied t ws e =
+    let x = last t ws e in
+    record { all = marks-all t x; tree = marks-tree t (g t ws e) x (invariant t ws e .depth) (sound t ws e) }
+
 -- OF EVERY STATE OF A RUN
 pub never-above : Never-above
 unfolding Never-above
@@ -312,6 +320,7 @@ promised =
       ends-by-itself = ends-by-itself;
       iterations-counted = iterations-counted;
       earliest-link = earliest-link;
+      marks-tallied = marks-tallied;
       never-above = never-above;
       distances-stay = distances-stay;
       ascending = ascending;

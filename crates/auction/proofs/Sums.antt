@@ -1,6 +1,7 @@
--- Sums, greatest elements and elements of `entries`. Assumes nothing.
+-- Sums, counts, greatest elements and elements of `entries`. Assumes nothing.
 use mathlib.Core.Path.{_≡_, refl, sym, ap, _∙_}
 use mathlib.Core.Bool.{cond}
+use mathlib.Core.List.{List, [], _∷_}
 use mathlib.Core.Logic.{⊎-elim}
 use Prim.Native.Nat.{ℕ, zero, suc, _+_, _*_, _≤_, _<_}
 use native.Mathlib.Omega.{arith}
@@ -8,7 +9,7 @@ use native.Mathlib.Nat.{mul-add, mul-zero}
 use lib.Dec.{eqb}
 use lib.ListN.{length, getD, List·getD-eq-default}
 use borrow.Author.Tests.{eq-eqb, ne-eqb}
-use Rattle.auction.specs.HandOver.{entries, greatest, sum}
+use Rattle.auction.specs.HandOver.{entries, greatest, sum, how-many}
 use Rattle.table.proofs.Basics.{same-or}
 
 -- the entries are f a, f (a + 1), ..
@@ -104,11 +105,12 @@ module _ (n : ℕ) where
   pub total-const : (c : ℕ) → total n (λ v. c) ≡ c * n
   total-const c = sum-const n 0 c
 
-  -- one entry more
+  -- one entry alone, and one entry more
+  pub total-only : (c z : ℕ) → c < n → total n (only-at c z) ≡ z
+  total-only c z h = sum-only n 0 c z (omega arith) (omega arith)
+
   pub total-one : (f : ℕ → ℕ) (c z : ℕ) → c < n → total n (λ v. f v + only-at c z v) ≡ total n f + z
-  total-one f c z h =
-      let a = total-add f (only-at c z) in
-      let b = sum-only n 0 c z (omega arith) (omega arith) in omega arith
+  total-one f c z h = omega (arith, total-add f (only-at c z), total-only c z h)
 
   -- f′ is at most f but at i, and 0 at c: what f has at c is lost, what f′ has at i is won
   pub total-trade : (f f′ : ℕ → ℕ) (i c : ℕ) → i < n → c < n → (c ≡ i → ⊥) → ((v : ℕ) → (v ≡ i → ⊥) → f′ v ≤ f v) → f′ c ≡ 0 →
@@ -129,6 +131,43 @@ module _ (n : ℕ) where
       (same-or v i))
       (same-or v c)) in
       omega arith
+
+-- HOW OFTEN a number stands in a list: once more where it is the first, and at most as often as the list is long
+module _ (a b : ℕ) (more : List ℕ) where
+  pub counted : b ≡ a → how-many a (b ∷ more) ≡ how-many a more + 1
+  unfolding how-many
+  counted e = rw (eq-eqb b a e) (omega arith)
+
+  pub passed-over : (b ≡ a → ⊥) → how-many a (b ∷ more) ≡ how-many a more
+  unfolding how-many
+  passed-over d = rw (ne-eqb b a d) (omega arith)
+
+pub how-many-low : (a : ℕ) (l : List ℕ) → how-many a l ≤ length l
+unfolding how-many
+how-many-low a [] = omega arith
+how-many-low a (b ∷ more) =
+    ⊎-elim (λ (e : b ≡ a). omega (arith, counted a b more e, how-many-low a more))
+    (λ (d : b ≡ a → ⊥). omega (arith, passed-over a b more d, how-many-low a more))
+    (same-or b a)
+
+-- how many entries are c: 1 for each
+how-many-sum : (k a c : ℕ) (f : ℕ → ℕ) → how-many c (entries k a f) ≡ sum (entries k a (λ v. only-at c 1 (f v)))
+unfolding entries sum how-many only-at
+how-many-sum zero a c f = refl
+how-many-sum (suc k) a c f = ap (λ (r : ℕ). only-at c 1 (f a) + r) (how-many-sum k (suc a) c f)
+
+pub how-many-total : (n c : ℕ) (f : ℕ → ℕ) → how-many c (entries n 0 f) ≡ total n (λ v. only-at c 1 (f v))
+how-many-total n c f = how-many-sum n 0 c f
+
+-- a sum of sums, in either order
+sum-exchange : (k a n : ℕ) (f : ℕ → ℕ → ℕ) → sum (entries k a (λ i. total n (f i))) ≡ total n (λ v. sum (entries k a (λ i. f i v)))
+unfolding entries sum
+sum-exchange zero a n f = omega (arith, total-const n 0)
+sum-exchange (suc k) a n f =
+    omega (arith, sum-exchange k (suc a) n f, total-add n (f a) (λ v. sum (entries k (suc a) (λ i. f i v))))
+
+pub total-exchange : (m n : ℕ) (f : ℕ → ℕ → ℕ) → total m (λ i. total n (f i)) ≡ total n (λ v. total m (λ i. f i v))
+total-exchange m n f = sum-exchange m 0 n f
 
 -- the greatest entry
 greatest-from : (k a v : ℕ) (f : ℕ → ℕ) → a ≤ v → v < a + k → f v ≤ greatest (entries k a f)

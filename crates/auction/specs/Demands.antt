@@ -5,11 +5,11 @@ use mathlib.Core.Bool.{true, false}
 use mathlib.Core.List.{List}
 use mathlib.Core.Logic.{_⊎_}
 use mathlib.Core.Option.{none, some}
-use Prim.Native.Nat.{ℕ, _+_, _*_, _-_, _/_, _≤_, _<_}
+use Prim.Native.Nat.{ℕ, suc, _+_, _*_, _-_, _/_, _≤_, _<_}
 use lib.ListN.{length, getD}
 use Rattle.table.specs.Table.{Table, is-table, is-walk, walk-length, arc-count, tail-at, head-at, length-at, no-arc, no-distance}
 use Rattle.auction.specs.Auction.{State, next, after, all-reached, most-iterations}
-use Rattle.auction.specs.HandOver.{Answer, answer, returned}
+use Rattle.auction.specs.HandOver.{Answer, answer, returned, how-many}
 use Rattle.auction.specs.Plan.{routes-of}
 use Rattle.auction.specs.Promises.{Attains, Has-walk, First-without-walk, equal-along}
 
@@ -53,6 +53,11 @@ pub record Demands (t : Table) (ws : List ℕ) (a : Answer) : Type 0 where
   pub numbers : (a .number ≡ 0) ⊎ (a .number ≡ 8)
   pub route : a .number ≡ 0 → (k : ℕ) → k < length ws → Has-walk t (getD ws k 0)
   pub no-route : a .number ≡ 8 → First-without-walk t ws (a .place)
+  -- Each link has one of the marks 0 to 3, and one has mark 3 for each node reached but the origin.
+  pub marks-all : how-many 0 (a .marks) + how-many 1 (a .marks) + how-many 2 (a .marks) + how-many 3 (a .marks) ≡ arc-count t
+  pub marks-tree : suc (how-many 3 (a .marks)) ≡ a .reached
+  -- The nodes reached and those without a distance are all nodes.
+  pub reached-all : a .reached + how-many no-distance (a .distances) ≡ t .n
   -- Iterations, contractions, extensions and deletions are those of the auction: after just so many of its steps it is in a state with just these
   -- counts,
   pub counts : a .iterations ≡ a .contractions + a .extensions + a .deletions

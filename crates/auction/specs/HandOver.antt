@@ -23,6 +23,11 @@ unfoldable pub sum : List ℕ → ℕ
 sum [] = 0
 sum (a ∷ more) = a + sum more
 
+-- how often a number stands in a list
+unfoldable pub how-many : (a : ℕ) → List ℕ → ℕ
+how-many a [] = 0
+how-many a (b ∷ bs) = cond (eqb b a) 1 0 + how-many a bs
+
 -- the horizon: the largest distance reached
 unfoldable pub horizon : Table → State → ℕ
 horizon t x = greatest (entries (t .n) 0 (λ v. cond (was-reached x v) (distance x v) 0))

@@ -13,7 +13,7 @@ use lib.ListN.{length, getD}
 use Rattle.table.specs.Table.{Table, table-of, is-table, is-walk, walk-length, arc-count, tail-at, head-at, length-at, longest, no-arc, no-distance, Below}
 use Rattle.table.specs.Refusals.{Room, no-refusal, rooms-fit, table-refusal}
 use Rattle.auction.specs.Auction.{State, Bid, auction, run, start, next, after, best, terminal, all-reached, was-reached, distance, bound-at, price-at, iterations, most-iterations}
-use Rattle.auction.specs.HandOver.{prices, tree, returned, first-missing}
+use Rattle.auction.specs.HandOver.{how-many, reached-count, prices, tree, marks, returned, first-missing}
 
 -- the state in which a run ends, and what is handed over from it: the walk returned to a node, a node's price, its tree entry
 unfoldable pub last-state : Table → (wanted : List ℕ) → State
@@ -135,6 +135,16 @@ unfoldable pub Earliest-link : Type 0
 Earliest-link =
     (t : Table) (ws : List ℕ) (v : ℕ) → is-table t ws ≡ true → was-reached (last-state t ws) v ≡ true → (v ≡ t .origin → ⊥) → Earliest t ws v
 
+-- MARKS, and how many arcs have each: they add up to the number of arcs, and those of mark 3 are one for each node reached but the origin.
+pub record Tallied (arcs nodes : ℕ) (ms : List ℕ) : Type 0 where
+  pub all : how-many 0 ms + how-many 1 ms + how-many 2 ms + how-many 3 ms ≡ arcs
+  pub tree : suc (how-many 3 ms) ≡ nodes
+
+unfoldable pub Marks-tallied : Type 0
+Marks-tallied =
+    (t : Table) (ws : List ℕ) → is-table t ws ≡ true →
+    Tallied (arc-count t) (reached-count t (last-state t ws)) (marks t (last-state t ws))
+
 -- OF EVERY STATE OF A RUN
 
 -- A price is never above the least bid.
@@ -203,6 +213,7 @@ pub record Promises : Type 0 where
   pub ends-by-itself : Ends-by-itself
   pub iterations-counted : Iterations-counted
   pub earliest-link : Earliest-link
+  pub marks-tallied : Marks-tallied
   pub never-above : Never-above
   pub distances-stay : Distances-stay
   pub ascending : Ascending

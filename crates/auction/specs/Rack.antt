@@ -3,12 +3,12 @@
 use mathlib.Core.Path.{_≡_}
 use mathlib.Core.List.{List, [], _∷_, map}
 use Prim.Native.Nat.{ℕ, _<_}
-use lib.ListN.{length, replicate}
+use lib.ListN.{length, replicate, take}
 use Rattle.table.specs.Table.{most-wanted, no-arc, no-distance}
 use Rattle.table.specs.declared.Refusal.{Refusal}
 use Rattle.table.specs.Refusals.{refusal, no-refusal, wanted-refusal}
 use Rattle.auction.specs.Auction.{most-iterations}
-use Rattle.auction.specs.HandOver.{Answer, answer}
+use Rattle.auction.specs.HandOver.{Answer, answer, how-many}
 use Rattle.auction.specs.Plan.{plan, plan-refusal}
 
 -- THE BUFFERS that a row lends
@@ -211,6 +211,25 @@ rack =
     ∷ row 2 0 (two 0 0) (two 1 2) (two 0 4) (one 1) (refused-by 7 0) 7
     ∷ []
 
+-- how many arcs have mark 0, 1, 2 and 3
+unfoldable pub tally : (marks : List ℕ) → List ℕ
+tally ms = four (how-many 0 ms) (how-many 1 ms) (how-many 2 ms) (how-many 3 ms)
+
+-- the tallies that the first eight rows have to give
+unfoldable pub tallies : List (List ℕ)
+tallies =
+    -- T, wanted 3; wanted 1; with a fifth node, wanted 4; wanted list empty; wanted only 0
+    four 0 2 0 3
+    ∷ four 1 1 2 1
+    ∷ four 0 2 0 3
+    ∷ four 3 0 2 0
+    ∷ four 3 0 2 0
+    -- one node, no arcs; one node, a loop; two equal arcs
+    ∷ four 0 0 0 0
+    ∷ four 0 1 0 0
+    ∷ four 0 1 0 1
+    ∷ []
+
 -- the refusal of so many nodes, so many arcs 0 to 1 of length 1, and node 0 so many times wanted
 unfoldable pub refusal-at : (nodes arcs wanted : ℕ) → Refusal
 refusal-at n m k =
@@ -222,6 +241,8 @@ pub record Rack-holds : Type 0 where
   -- each row gives what it has to give, and its bound is the bound;
   pub answers : map given rack ≡ map due rack
   pub bounds : map (λ r. most-iterations (r .n)) rack ≡ map (λ r. r .bound) rack
+  -- the marks of the first eight have these tallies;
+  pub marks-tallied : map (λ r. tally (given r .marks)) (take 8 rack) ≡ tallies
   -- 1,024 nodes, 6,000 arcs and 1,024 wanted nodes are not refused, and one more of each is;
   pub most : refusal-at 1024 6000 1024 ≡ no-refusal
   pub too-many-nodes : refusal-at 1025 6000 1024 ≡ refusal 1 0

@@ -11,7 +11,6 @@ use borrow.Author.Tests.{lt-ltb, le-ltb}
 use Rattle.table.specs.Table.{Arc, most-arcs, most-wanted}
 use Rattle.table.specs.Refusals.{refusal, no-refusal}
 use Rattle.auction.specs.HandOver.{Answer}
-use Rattle.auction.specs.Demands.{distance-of, price-of, link-of}
 use Rattle.link_format.specs.Format.{Content, content, tails-of, heads-of, lengths-of}
 use Rattle.link_format.specs.Reading.{Outcome, got, refused, read-file}
 use Rattle.link_format.specs.Buffers.{over, too-short, reading, refusal-of, no-content, content-of}
@@ -20,12 +19,11 @@ use Rattle.link_file.specs.declared.TableRead.{TableRead}
 use Rattle.link_file.specs.Entries.{read-answer, Left-by-reading, Read-says}
 use Rattle.planner.specs.declared.Planned.{Planned}
 use Rattle.planner.specs.Plan.{answered, Plan-made}
-use Rattle.sheet.specs.Sheet.{finished, refused-line, reached-nodes, path-nodes, node-lines, path-lines, after-counts, from-counts, from-reached, sheet}
+use Rattle.sheet.specs.Sheet.{finished, refused-line, sheet}
 use Rattle.sheet.specs.Printed.{most-input, read-input, plan-of, lines-of}
 use Rattle.sheet.specs.Promises.{Refusals-printed}
 use Rattle.sheet.proofs.Promised.{refusals-printed}
 use Rattle.sheet.proofs.Unseen.{unseen}
-use Rattle.input.specs.Printing.{printing}
 use Rattle.input.specs.Input.{Columns-roomy, printing-read, refused-file, Refuses-well}
 
 -- a list at the start of a buffer
@@ -36,11 +34,6 @@ start-of xs buffer k e = take-at xs (drop (length xs) buffer) k (sym e)
 -- as many entries of a buffer as there are
 pub part-of : (xs : List ℕ) (k : ℕ) {most : ℕ} → k ≤ most → most ≤ length xs → k ≡ length (take k xs)
 part-of xs k low long = omega (arith, length-take k xs)
-
--- the sheet does not show the marks
-unmarked : (a : Planned) (o : ℕ) (ts hs ws ds ps tr ms : List ℕ) → sheet (printing a o ts hs ws ds ps tr) ≡ sheet (finished o ts hs ws (answered a ds ps tr ms))
-unfolding sheet from-reached from-counts after-counts reached-nodes path-nodes node-lines path-lines printing answered distance-of price-of link-of
-unmarked a o ts hs ws ds ps tr ms = refl
 
 -- READING: too long an input is refused by 2, and the buffers are as they were
 pub input-too-long : (input ts hs ls ws : List ℕ) → most-input < length input →
@@ -77,26 +70,27 @@ pub input-refuses-well : (input : List ℕ) → Refuses-well (read-input input)
 unfolding read-input
 input-refuses-well input = refuses-cond (ltb most-input (length input)) input
 
-module _ (r : TableRead) (ts₀ hs₀ ls₀ ws₀ ts hs ls ws ds ps tr : List ℕ) where
+module _ (r : TableRead) (ts₀ hs₀ ls₀ ws₀ ts hs ls ws ds ps tr ms : List ℕ) where
   -- a file that was refused prints its refusal
   pub prints-refusal : (n p : ℕ) → Left-by-reading (refused n p) ts₀ hs₀ ls₀ ws₀ ts hs ls ws r → (0 < n) × (n ≡ 8 → ⊥) →
-      sheet (printing-read r (refused-file (r .number) (r .place)) ts hs ws ds ps tr) ≡ lines-of (refused n p)
-  unfolding refusal-of refusal read-answer printing-read printing answered refused-file lines-of Refusals-printed
+      sheet (printing-read r (refused-file (r .number) (r .place)) ts hs ws ds ps tr ms) ≡ lines-of (refused n p)
+  unfolding refusal-of refusal read-answer printing-read answered refused-file lines-of Refusals-printed
   prints-refusal n p l well =
       let number : r .number ≡ n = ap (λ (x : TableRead). x .number) (l .answer) in
       let place : r .place ≡ p = ap (λ (x : TableRead). x .place) (l .answer) in
-      refusals-printed (printing-read r (refused-file (r .number) (r .place)) ts hs ws ds ps tr) (λ e. omega (arith, well .0, number)) (λ e. well .1 (sym number ∙ e))
+      refusals-printed (printing-read r (refused-file (r .number) (r .place)) ts hs ws ds ps tr ms)
+      (λ e. omega (arith, well .0, number)) (λ e. well .1 (sym number ∙ e))
       ∙ ap (λ (k : ℕ). refused-line k (r .place) ∷ []) number
       ∙ ap (λ (k : ℕ). refused-line n k ∷ []) place
 
   -- a table that was read prints its plan, whatever the buffers held
-  pub prints-plan : (c : Content) (next : ℕ) (rest : List ℕ) → Left-by-reading (got c next rest) ts₀ hs₀ ls₀ ws₀ ts hs ls ws r → (a : Planned) (ds₀ ps₀ tr₀ ms₀ ms : List ℕ) →
-      length ds₀ ≡ r .n → length ps₀ ≡ r .n → length tr₀ ≡ r .n → length ms₀ ≡ r .arcs →
+  pub prints-plan : (c : Content) (next : ℕ) (rest : List ℕ) → Left-by-reading (got c next rest) ts₀ hs₀ ls₀ ws₀ ts hs ls ws r →
+      (a : Planned) (ds₀ ps₀ tr₀ ms₀ : List ℕ) → length ds₀ ≡ r .n → length ps₀ ≡ r .n → length tr₀ ≡ r .n → length ms₀ ≡ r .arcs →
       Plan-made (r .n) (r .origin) (take (r .arcs) ts) (take (r .arcs) hs) (take (r .arcs) ls) (take (r .wanted) ws) ds₀ ps₀ tr₀ ms₀
-      (take (r .n) ds) (take (r .n) ps) (take (r .n) tr) ms a →
-      sheet (printing-read r a ts hs ws ds ps tr) ≡ lines-of (got c next rest)
+      (take (r .n) ds) (take (r .n) ps) (take (r .n) tr) (take (r .arcs) ms) a →
+      sheet (printing-read r a ts hs ws ds ps tr ms) ≡ lines-of (got c next rest)
   unfolding refusal-of content-of read-answer printing-read lines-of plan-of tails-of heads-of lengths-of
-  prints-plan c next rest l a ds₀ ps₀ tr₀ ms₀ ms d p t m made =
+  prints-plan c next rest l a ds₀ ps₀ tr₀ ms₀ d p t m made =
       let n : r .n ≡ c .n = ap (λ (x : TableRead). x .n) (l .answer) in
       let origin : r .origin ≡ c .origin = ap (λ (x : TableRead). x .origin) (l .answer) in
       let arcs : r .arcs ≡ length (c .arcs) = ap (λ (x : TableRead). x .arcs) (l .answer) in
@@ -108,8 +102,7 @@ module _ (r : TableRead) (ts₀ hs₀ ls₀ ws₀ ts hs ls ws ds ps tr : List �
       let lengths : take (r .arcs) ls ≡ lengths-of (c .arcs) =
       ap (take (r .arcs)) (l .lengths-are) ∙ start-of (lengths-of (c .arcs)) ls₀ (r .arcs) (arcs ∙ sym (length-map (c .arcs) (λ (x : Arc). x .arc-length))) in
       let list : take (r .wanted) ws ≡ c .wanted = ap (take (r .wanted)) (l .wanted-are) ∙ start-of (c .wanted) ws₀ (r .wanted) wanted in
-      unmarked a (r .origin) (take (r .arcs) ts) (take (r .arcs) hs) (take (r .wanted) ws) (take (r .n) ds) (take (r .n) ps) (take (r .n) tr) ms
-      ∙ ap (λ (x : Answer). sheet (finished (r .origin) (take (r .arcs) ts) (take (r .arcs) hs) (take (r .wanted) ws) x)) made
+      ap (λ (x : Answer). sheet (finished (r .origin) (take (r .arcs) ts) (take (r .arcs) hs) (take (r .wanted) ws) x)) made
       ∙ rw (n, origin, tails, heads, lengths, list)
       (unseen (c .n) (c .origin) (tails-of (c .arcs)) (heads-of (c .arcs)) (lengths-of (c .arcs)) (c .wanted) ds₀ ps₀ tr₀ ms₀ (replicate (c .n) 0) (replicate (c .n) 0)
       (replicate (c .n) 0) (replicate (length (c .arcs)) 0) (d ∙ n ∙ sym (length-replicate (c .n) 0)) (p ∙ n ∙ sym (length-replicate (c .n) 0))
@@ -117,28 +110,31 @@ module _ (r : TableRead) (ts₀ hs₀ ls₀ ws₀ ts hs ls ws ds ps tr : List �
 
   -- whatever reading gave: where it refused, and where it did not
   pub refused-read : (o : Outcome Content) → Refuses-well o → Left-by-reading o ts₀ hs₀ ls₀ ws₀ ts hs ls ws r → (r .number ≡ 0 → ⊥) → (a : Planned) →
-      a ≡ refused-file (r .number) (r .place) → sheet (printing-read r a ts hs ws ds ps tr) ≡ lines-of o
+      a ≡ refused-file (r .number) (r .place) → sheet (printing-read r a ts hs ws ds ps tr ms) ≡ lines-of o
   unfolding refusal-of no-refusal refusal read-answer Refuses-well
   refused-read (got c next rest) well l d a e = absurd (d (ap (λ (x : TableRead). x .number) (l .answer)))
   refused-read (refused n p) well l d a e =
-      ap (λ (x : Planned). sheet (printing-read r x ts hs ws ds ps tr)) e ∙ prints-refusal n p l (well n p refl)
+      ap (λ (x : Planned). sheet (printing-read r x ts hs ws ds ps tr ms)) e ∙ prints-refusal n p l (well n p refl)
 
   planned-read : (o : Outcome Content) → Refuses-well o → Left-by-reading o ts₀ hs₀ ls₀ ws₀ ts hs ls ws r → r .number ≡ 0 →
-      (a : Planned) (ds₀ ps₀ tr₀ ms₀ ms : List ℕ) → length ds₀ ≡ r .n → length ps₀ ≡ r .n → length tr₀ ≡ r .n → length ms₀ ≡ r .arcs →
+      (a : Planned) (ds₀ ps₀ tr₀ ms₀ : List ℕ) → length ds₀ ≡ r .n → length ps₀ ≡ r .n → length tr₀ ≡ r .n → length ms₀ ≡ r .arcs →
       Plan-made (r .n) (r .origin) (take (r .arcs) ts) (take (r .arcs) hs) (take (r .arcs) ls) (take (r .wanted) ws) ds₀ ps₀ tr₀ ms₀
-      (take (r .n) ds) (take (r .n) ps) (take (r .n) tr) ms a →
-      sheet (printing-read r a ts hs ws ds ps tr) ≡ lines-of o
+      (take (r .n) ds) (take (r .n) ps) (take (r .n) tr) (take (r .arcs) ms) a →
+      sheet (printing-read r a ts hs ws ds ps tr ms) ≡ lines-of o
   unfolding refusal-of refusal read-answer Refuses-well
-  planned-read (got c next rest) well l z a ds₀ ps₀ tr₀ ms₀ ms d q t m made = prints-plan c next rest l a ds₀ ps₀ tr₀ ms₀ ms d q t m made
-  planned-read (refused n p) well l z a ds₀ ps₀ tr₀ ms₀ ms d q t m made =
+  planned-read (got c next rest) well l z a ds₀ ps₀ tr₀ ms₀ d q t m made = prints-plan c next rest l a ds₀ ps₀ tr₀ ms₀ d q t m made
+  planned-read (refused n p) well l z a ds₀ ps₀ tr₀ ms₀ d q t m made =
       absurd (omega (arith, well n p refl .0, z, ap (λ (x : TableRead). x .number) (l .answer)))
 
 -- the same where the plan was left at the starts of the buffers
 pub planned-parts : (r : TableRead) (ts₀ hs₀ ls₀ ws₀ ts hs ls ws : List ℕ) (o : Outcome Content) → Refuses-well o →
-    Left-by-reading o ts₀ hs₀ ls₀ ws₀ ts hs ls ws r → r .number ≡ 0 → (a : Planned) (ds₀ ps₀ tr₀ ms₀ ds ps tr ms ds-rest ps-rest tr-rest : List ℕ) →
-    length ds₀ ≡ r .n → length ps₀ ≡ r .n → length tr₀ ≡ r .n → length ms₀ ≡ r .arcs → length ds ≡ r .n → length ps ≡ r .n → length tr ≡ r .n →
+    Left-by-reading o ts₀ hs₀ ls₀ ws₀ ts hs ls ws r → r .number ≡ 0 →
+    (a : Planned) (ds₀ ps₀ tr₀ ms₀ ds ps tr ms ds-rest ps-rest tr-rest ms-rest : List ℕ) →
+    length ds₀ ≡ r .n → length ps₀ ≡ r .n → length tr₀ ≡ r .n → length ms₀ ≡ r .arcs →
+    length ds ≡ r .n → length ps ≡ r .n → length tr ≡ r .n → length ms ≡ r .arcs →
     Plan-made (r .n) (r .origin) (take (r .arcs) ts) (take (r .arcs) hs) (take (r .arcs) ls) (take (r .wanted) ws) ds₀ ps₀ tr₀ ms₀ ds ps tr ms a →
-    sheet (printing-read r a ts hs ws (ds ++ ds-rest) (ps ++ ps-rest) (tr ++ tr-rest)) ≡ lines-of o
-planned-parts r ts₀ hs₀ ls₀ ws₀ ts hs ls ws o well l z a ds₀ ps₀ tr₀ ms₀ ds ps tr ms ds-rest ps-rest tr-rest d₀ p₀ t₀ m₀ d p t made =
-    planned-read r ts₀ hs₀ ls₀ ws₀ ts hs ls ws (ds ++ ds-rest) (ps ++ ps-rest) (tr ++ tr-rest) o well l z a ds₀ ps₀ tr₀ ms₀ ms d₀ p₀ t₀ m₀
-    (rw (take-at ds ds-rest (r .n) d, take-at ps ps-rest (r .n) p, take-at tr tr-rest (r .n) t) made)
+    sheet (printing-read r a ts hs ws (ds ++ ds-rest) (ps ++ ps-rest) (tr ++ tr-rest) (ms ++ ms-rest)) ≡ lines-of o
+planned-parts r ts₀ hs₀ ls₀ ws₀ ts hs ls ws o well l z a ds₀ ps₀ tr₀ ms₀ ds ps tr ms ds-rest ps-rest tr-rest ms-rest d₀ p₀ t₀ m₀ d p t m made =
+    planned-read r ts₀ hs₀ ls₀ ws₀ ts hs ls ws (ds ++ ds-rest) (ps ++ ps-rest) (tr ++ tr-rest) (ms ++ ms-rest) o well l z
+    a ds₀ ps₀ tr₀ ms₀ d₀ p₀ t₀ m₀
+    (rw (take-at ds ds-rest (r .n) d, take-at ps ps-rest (r .n) p, take-at tr tr-rest (r .n) t, take-at ms ms-rest (r .arcs) m) made)

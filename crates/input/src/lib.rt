@@ -73,7 +73,7 @@ fn plan_read(
     requires { ⌜ Counts-fit read ⌝ }
     requires { ⌜ Columns-roomy (now tails) (now heads) (now lengths) (now wanted) ⌝ }
     requires { ⌜ Buffers-roomy (now distances) (now prices) (now tree) (now marks) ⌝ }
-    ensures { λ r. ⌜ Plans-read read tails heads lengths wanted distances prices tree r ⌝ }
+    ensures { λ r. ⌜ Plans-read read tails heads lengths wanted distances prices tree marks r ⌝ }
 {
     if read.number != Refusal::NONE {
         return refused(read.number, read.place);
@@ -109,7 +109,7 @@ pub fn plan_input(
 ) -> PlannedInput
     requires { ⌜ Columns-roomy (now tails) (now heads) (now lengths) (now wanted) ⌝ }
     requires { ⌜ Buffers-roomy (now distances) (now prices) (now tree) (now marks) ⌝ }
-    ensures { λ r. ⌜ Ready (was input) r (left tails) (left heads) (left wanted) (left distances) (left prices) (left tree) ⌝ }
+    ensures { λ r. ⌜ Ready (was input) r (left tails) (left heads) (left wanted) (left distances) (left prices) (left tree) (left marks) ⌝ }
 {
     let read = read_input(input, tails, heads, lengths, wanted);
     let answer = plan_read(

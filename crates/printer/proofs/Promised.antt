@@ -8,7 +8,6 @@ use Rattle.printer.specs.declared.lines.Cursor.{Cursor}
 use Rattle.printer.specs.declared.lines.Cursor.the-variants.{Start}
 use Rattle.printer.specs.Lines.{rest}
 use Rattle.printer.specs.Pieces.{Pieces}
-use Rattle.input.specs.Input.{printing-read}
 use Rattle.printer.specs.Promises.{Pieces-printed}
 
 pieces-joined : (p : Finished) (from : Cursor) (pieces : List (List ℕ)) → Pieces p from pieces → joined pieces ≡ joined (rest p from)
@@ -18,5 +17,4 @@ pieces-joined p from (piece ∷ more) s = ap (λ (l : List ℕ). piece ++ l) (pi
 
 pub pieces-printed : Pieces-printed
 unfolding Pieces-printed rest
-pieces-printed input r ts hs ws ds ps tr pieces ready s =
-    pieces-joined (printing-read (r .read) (r .answer) ts hs ws ds ps tr) Start pieces s ∙ ap joined (ready .prints)
+pieces-printed input p pieces shown s = pieces-joined p Start pieces s ∙ ap joined shown

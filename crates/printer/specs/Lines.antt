@@ -9,21 +9,25 @@ use Rattle.table.specs.Table.{most-nodes}
 use Rattle.table.specs.Slices.{Slice, was, left}
 use Rattle.planner.specs.declared.Planned.{Planned}
 use Rattle.planner.specs.Plan.{answered}
-use Rattle.input.specs.Printing.{printing}
-use Rattle.sheet.specs.Sheet.{Finished, finished, node-count, has-distance, has-path, passing, path-nodes, node-lines, path-lines, from-counts, from-reached, sheet}
+use Rattle.sheet.specs.Sheet.{Finished, finished, node-count, has-distance, has-path, passing, path-nodes, node-lines, path-lines, marks-lines, after-nodes, from-counts, from-reached, sheet}
 use Rattle.printer.specs.declared.lines.Cursor.{Cursor}
 use Rattle.printer.specs.declared.lines.Cursor.the-variants.{Start, Reached, Counts, Node, Path, End}
 use Rattle.printer.specs.declared.lines.Line.{Line}
 use Rattle.printer.specs.declared.lines.Line.the-variants.{Put, Last}
 use Rattle.printer.specs.Buffers.{Begins}
 
+-- WHAT IS PRINTED, as the code has it: the answer, and the columns of a plan
+unfoldable pub printing : Planned → (origin : ℕ) → (tails heads wanted distances prices tree marks : List ℕ) → Finished
+printing a o ts hs ws ds ps tr ms = finished o ts hs ws (answered a ds ps tr ms)
+
 -- the lines from the line of a node on, and from the path line of a node on
 unfoldable pub paths-from : Finished → (v : ℕ) → List (List ℕ)
-paths-from p v = path-lines p (passing (has-path (p .answer .distances) (p .wanted)) (node-count (p .answer .distances) - v) v)
+paths-from p v =
+    path-lines p (passing (has-path (p .answer .distances) (p .wanted)) (node-count (p .answer .distances) - v) v) ++ marks-lines (p .answer .marks)
 
 unfoldable pub nodes-from : Finished → (v : ℕ) → List (List ℕ)
 nodes-from p v =
-    node-lines p (passing (has-distance (p .answer .distances)) (node-count (p .answer .distances) - v) v) ++ path-lines p (path-nodes p)
+    node-lines p (passing (has-distance (p .answer .distances)) (node-count (p .answer .distances) - v) v) ++ after-nodes p
 
 -- THE LINES STILL TO COME from a cursor
 unfoldable pub rest : Finished → Cursor → List (List ℕ)
@@ -59,8 +63,8 @@ Gives p [] r b a = (r ≡ Last) × (a ≡ b)
 Gives p (l ∷ later) r b a = Puts p l later r b a
 
 -- what is printed, of the slices that are lent
-abbrev pub lent-printing : Planned → (origin : ℕ) → (tails heads wanted distances prices tree : Slice) → Finished
-lent-printing a o ts hs ws ds ps tr = printing a o (was ts) (was hs) (was ws) (was ds) (was ps) (was tr)
+abbrev pub lent-printing : Planned → (origin : ℕ) → (tails heads wanted distances prices tree marks : Slice) → Finished
+lent-printing a o ts hs ws ds ps tr ms = printing a o (was ts) (was hs) (was ws) (was ds) (was ps) (was tr) (was ms)
 
 -- THE CONTRACT of next_line: the next of the lines that are to come from a cursor, at the start of a buffer
 abbrev pub Next-line : Cursor → Finished → (out : Slice) → Line → Type 0
@@ -68,7 +72,15 @@ Next-line c p out r = Gives p (rest p c) r (was out) (left out)
 
 -- the same of the first line, for which the answer is enough: it is put whatever the origin and the columns are
 abbrev pub First-line : Planned → (out : Slice) → Line → Type 0
-First-line a out r = (o : ℕ) (ts hs ws ds ps tr : List ℕ) → Next-line Start (printing a o ts hs ws ds ps tr) out r
+First-line a out r = (o : ℕ) (ts hs ws ds ps tr ms : List ℕ) → Next-line Start (printing a o ts hs ws ds ps tr ms) out r
+
+-- of a node's line, whatever the answer is, and of a path line, whatever the answer and the prices are
+abbrev pub Next-node : (from origin : ℕ) → (tails heads wanted distances prices tree marks out : Slice) → Line → Type 0
+Next-node v o ts hs ws ds ps tr ms out r = (a : Planned) → Next-line (Node v) (lent-printing a o ts hs ws ds ps tr ms) out r
+
+abbrev pub Next-path : (from origin : ℕ) → (tails heads wanted distances tree marks out : Slice) → Line → Type 0
+Next-path v o ts hs ws ds tr ms out r =
+    (a : Planned) (ps : List ℕ) → Next-line (Path v) (printing a o (was ts) (was hs) (was ws) (was ds) ps (was tr) (was ms)) out r
 
 -- the first node from v on that passes a test, n where there is none
 pub record First-passing (test : ℕ → Bool) (n v u : ℕ) : Type 0 where

@@ -3,6 +3,7 @@
 mod lines;
 mod pieces;
 mod putting;
+mod tally;
 mod text;
 
 pub use lines::Cursor;

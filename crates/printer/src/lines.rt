@@ -5,21 +5,22 @@ ghost use lib.ListN.{length, getD};
 ghost use Rattle.table.specs.Table.{no-arc, most-nodes};
 ghost use Rattle.table.specs.Slices.{was};
 ghost use Rattle.sheet.specs.Sheet.{node-count, has-distance, has-path};
-ghost use Rattle.printer.specs.declared.lines.Cursor.the-variants.{Node, Path};
-ghost use Rattle.printer.specs.Lines.{lent-printing, Next-line, First-line, line-room, First-passing, Lesser};
+ghost use Rattle.printer.specs.Lines.{lent-printing, Next-line, First-line, Next-node, Next-path, line-room, First-passing, Lesser};
 use crate::putting::put_counts;
+use crate::putting::put_marks;
 use crate::putting::put_node;
 use crate::putting::put_path;
 use crate::putting::put_reached;
 use crate::putting::put_refused;
+use crate::tally::tally_marks;
 use planner::Planned;
 use table::MOST_NODES;
 use table::Refusal;
 use table::wide;
 
 // Where in a sheet the next line stands: at its start; at the line of the reached nodes; at the line of the other counts; at the line of the first node
-// that has one, from a node on, and past the last of these at the first path line; at the path line of the first node that has one, from a node on; or past
-// all lines.
+// that has one, from a node on, and past the last of these at the first path line; at the path line of the first node that has one, from a node on, and past
+// the last of these at the line of the marks; or past all lines.
 pub enum Cursor {
     Start,
     Reached,
@@ -112,26 +113,26 @@ fn arc_at(node: usize, tree: &[u16]) -> u16
     }
 }
 
-// The next path line, of the first node from a node on that has one.
+// The next path line, of the first node from a node on that has one; past the last of them the line of the marks.
 fn next_path(
     from: usize,
-    answer: Planned,
     origin: u16,
     tails: &[u16],
     heads: &[u16],
     wanted: &[u16],
     distances: &[u64],
-    prices: &[u64],
     tree: &[u16],
+    marks: &[u8],
     out: &mut [u8],
 ) -> Line
     requires { ⌜ line-room ≤ length (now out) ⌝ }
-    ensures { λ r. ⌜ Next-line (Path from) (lent-printing answer origin tails heads wanted distances prices tree) out r ⌝ }
+    ensures { λ r. ⌜ Next-path from origin tails heads wanted distances tree marks out r ⌝ }
 {
     let n = node_count(distances);
     let v = next_with_path(from, n, distances, wanted);
     if n <= v {
-        return Line::Last;
+        let count = put_marks(tally_marks(marks), out);
+        return Line::Put(count, Cursor::End);
     }
     let mut nodes = [0u16; MOST_NODES];
     let listed = paths::list_path(origin, v as u16, tails, heads, tree, &mut nodes);
@@ -140,10 +141,9 @@ fn next_path(
     Line::Put(count, Cursor::Path(v + 1))
 }
 
-// The next node line, of the first node from a node on that has one; past the last of them the first path line.
+// The next node line, of the first node from a node on that has one; past the last of them what follows.
 fn next_node(
     from: usize,
-    answer: Planned,
     origin: u16,
     tails: &[u16],
     heads: &[u16],
@@ -151,26 +151,16 @@ fn next_node(
     distances: &[u64],
     prices: &[u64],
     tree: &[u16],
+    marks: &[u8],
     out: &mut [u8],
 ) -> Line
     requires { ⌜ line-room ≤ length (now out) ⌝ }
-    ensures { λ r. ⌜ Next-line (Node from) (lent-printing answer origin tails heads wanted distances prices tree) out r ⌝ }
+    ensures { λ r. ⌜ Next-node from origin tails heads wanted distances prices tree marks out r ⌝ }
 {
     let n = node_count(distances);
     let v = next_with_distance(from, n, distances);
     if n <= v {
-        return next_path(
-            0,
-            answer,
-            origin,
-            tails,
-            heads,
-            wanted,
-            distances,
-            prices,
-            tree,
-            out,
-        );
+        return next_path(0, origin, tails, heads, wanted, distances, tree, marks, out);
     }
     let price = price_at(v, prices);
     let arc = arc_at(v, tree);
@@ -206,10 +196,11 @@ pub fn next_line(
     distances: &[u64],
     prices: &[u64],
     tree: &[u16],
+    marks: &[u8],
     out: &mut [u8],
 ) -> Line
     requires { ⌜ line-room ≤ length (now out) ⌝ }
-    ensures { λ r. ⌜ Next-line cursor (lent-printing answer origin tails heads wanted distances prices tree) out r ⌝ }
+    ensures { λ r. ⌜ Next-line cursor (lent-printing answer origin tails heads wanted distances prices tree marks) out r ⌝ }
 {
     match cursor {
         Cursor::Start => first_line(answer, out),
@@ -228,7 +219,6 @@ pub fn next_line(
         }
         Cursor::Node(from) => next_node(
             from,
-            answer,
             origin,
             tails,
             heads,
@@ -236,18 +226,18 @@ pub fn next_line(
             distances,
             prices,
             tree,
+            marks,
             out,
         ),
         Cursor::Path(from) => next_path(
             from,
-            answer,
             origin,
             tails,
             heads,
             wanted,
             distances,
-            prices,
             tree,
+            marks,
             out,
         ),
         Cursor::End => Line::Last,

@@ -29,10 +29,11 @@ pub fn next_piece(
     distances: &[u64],
     prices: &[u64],
     tree: &[u16],
+    marks: &[u8],
     out: &mut [u8],
 ) -> Piece
     requires { ⌜ line-room ≤ length (now out) ⌝ }
-    ensures { λ r. ⌜ Continues (lent-printing answer origin tails heads wanted distances prices tree) cursor r (left out) ⌝ }
+    ensures { λ r. ⌜ Continues (lent-printing answer origin tails heads wanted distances prices tree marks) cursor r (left out) ⌝ }
 {
     let mut at = 0;
     let mut next = cursor;
@@ -47,6 +48,7 @@ pub fn next_piece(
             distances,
             prices,
             tree,
+            marks,
             &mut out[at..],
         );
         let Line::Put(count, later) = line else {

@@ -5,9 +5,10 @@ ghost use lib.ListN.{length};
 ghost use Rattle.table.specs.Table.{most-nodes};
 ghost use Rattle.table.specs.Slices.{was, left};
 ghost use Rattle.sheet.specs.Text.{spaced};
-ghost use Rattle.sheet.specs.Sheet.{refused-line, reached-line, counts-line, arc-text, node-line, path-line};
+ghost use Rattle.sheet.specs.Sheet.{refused-line, reached-line, counts-line, marks-line, arc-text, node-line, path-line};
 ghost use Rattle.printer.specs.Buffers.{Puts-line, Extends, Puts-behind};
 ghost use Rattle.printer.specs.Lines.{line-room, most-digits, most-path};
+use crate::tally::Tally;
 use crate::text::put;
 use crate::text::put_field;
 use crate::text::put_number;
@@ -43,6 +44,18 @@ pub fn put_counts(contractions: u64, extensions: u64, deletions: u64, out: &mut 
     let b = put_field(b" extensions ", extensions, a, out);
     let c = put_field(b" deletions ", deletions, b, out);
     put(b"\n", c, out)
+}
+
+// The line of the marks: how many arcs have each.
+pub fn put_marks(tally: Tally, out: &mut [u8]) -> usize
+    requires { ⌜ line-room ≤ length (now out) ⌝ }
+    ensures { λ r. ⌜ Puts-line (marks-line (tally .unreached) (tally .dropped) (tally .kept) (tally .tree)) out r ⌝ }
+{
+    let a = put_field(b"marks ", tally.unreached, 0, out);
+    let b = put_field(b" ", tally.dropped, a, out);
+    let c = put_field(b" ", tally.kept, b, out);
+    let d = put_field(b" ", tally.tree, c, out);
+    put(b"\n", d, out)
 }
 
 // Puts an arc's position, or "-" where there is no arc.

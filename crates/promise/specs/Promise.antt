@@ -1,6 +1,6 @@
 -- THE WHOLE PROMISE OF THE PRODUCT, on one page: a field for each promise of every crate, by its type. A promise that goes missing anywhere fails the check
 -- of this page, and so does one whose proof does (proofs/Kept.antt). Each type has its sentence in plain words where it stands. Assumes nothing.
-use Rattle.auction.specs.Promises.{Walk-shortest, Walk-given, Prices-fit, Prices-show, Route-to-all, No-route, Few-iterations, Fewer-iterations, Ends-by-itself, Iterations-counted, Earliest-link, Never-above, Distances-stay, Ascending, Small-distances, Small-sums, Unrefused-is-table, Table-is-unrefused, Longest-of-32-bits, Lengths-of-32-bits}
+use Rattle.auction.specs.Promises.{Walk-shortest, Walk-given, Prices-fit, Prices-show, Route-to-all, No-route, Few-iterations, Fewer-iterations, Ends-by-itself, Iterations-counted, Earliest-link, Marks-tallied, Never-above, Distances-stay, Ascending, Small-distances, Small-sums, Unrefused-is-table, Table-is-unrefused, Longest-of-32-bits, Lengths-of-32-bits}
 use Rattle.auction.specs.Demands.{Demands-met, Counts-pinned, Hollow-fails}
 use Rattle.auction.specs.Stability.{Same-choice, Route-stays, Wanted-route-stays, Link-added}
 use Rattle.auction.specs.Rack.{Rack-holds}
@@ -27,6 +27,8 @@ pub record Promise : Type 0 where
   pub prices-fit : Prices-fit
   pub prices-show : Prices-show
   pub earliest-link : Earliest-link
+  -- the marks add up to the arcs, and those of mark 3 are one for each node reached but the origin
+  pub marks-tallied : Marks-tallied
   -- "no route" exactly where there is none
   pub route-to-all : Route-to-all
   pub no-route : No-route

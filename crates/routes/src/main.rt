@@ -26,9 +26,10 @@ fn print_pieces(
     distances: &[u64],
     prices: &[u64],
     tree: &[u16],
+    marks: &[u8],
     out: &mut [u8],
 )
-    requires { ⌜ Prints (now input) answer origin (now tails) (now heads) (now wanted) (now distances) (now prices) (now tree) ⌝ }
+    requires { ⌜ Prints (now input) answer origin (now tails) (now heads) (now wanted) (now distances) (now prices) (now tree) (now marks) ⌝ }
     requires { ⌜ line-room ≤ length (now out) ⌝ }
 {
     let mut cursor = Cursor::Start;
@@ -43,6 +44,7 @@ fn print_pieces(
             distances,
             prices,
             tree,
+            marks,
             out,
         );
         let count = piece.count;
@@ -92,6 +94,7 @@ fn print_input(input: &[u8]) {
         &distances[..n],
         &prices[..n],
         &tree[..n],
+        &marks[..m],
         &mut out,
     );
 }

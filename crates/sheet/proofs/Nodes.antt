@@ -5,19 +5,19 @@ use mathlib.Core.List.{List, [], _∷_, map}
 use mathlib.Core.Logic.{⊎-elim}
 use Prim.Native.Nat.{ℕ, zero, suc, _+_, _≤_, _<_}
 use native.Mathlib.Omega.{arith}
-use lib.ListN.{length, getD}
+use lib.ListN.{length, getD, drop}
+use lib.Seq.{drop-cons, drop-length}
 use borrow.Author.Tests.{eq-eqb, ne-eqb, eqb-false, not-true}
 use Rattle.table.specs.Table.{no-distance}
 use Rattle.table.proofs.Basics.{same-or, below-or, true-or, not-both}
-use Rattle.auction.specs.HandOver.{Answer}
+use Rattle.auction.specs.HandOver.{Answer, how-many}
 use Rattle.auction.specs.Demands.{Given, distance-of}
 use Rattle.sheet.specs.Sheet.{passing, with-node, has-distance}
-use Rattle.sheet.specs.Promises.{occurrences}
 
 module _ (f : ℕ → Bool) (v : ℕ) where
   -- among the nodes from a on
-  pub absent : (k a : ℕ) → (a ≤ v → v < a + k → f v ≡ false) → occurrences v (passing f k a) ≡ 0
-  unfolding passing with-node occurrences
+  pub absent : (k a : ℕ) → (a ≤ v → v < a + k → f v ≡ false) → how-many v (passing f k a) ≡ 0
+  unfolding passing with-node how-many
   absent zero a h = refl
   absent (suc k) a h =
       let later = absent k (suc a) (λ p q. h (omega arith) (omega arith)) in
@@ -28,8 +28,8 @@ module _ (f : ℕ → Bool) (v : ℕ) where
       (λ (t : f a ≡ false). rw t later)
       (true-or (f a))
 
-  pub present : (k a : ℕ) → a ≤ v → v < a + k → f v ≡ true → occurrences v (passing f k a) ≡ 1
-  unfolding passing with-node occurrences
+  pub present : (k a : ℕ) → a ≤ v → v < a + k → f v ≡ true → how-many v (passing f k a) ≡ 1
+  unfolding passing with-node how-many
   present zero a p q t = absurd (omega arith)
   present (suc k) a p q t =
       ⊎-elim
@@ -52,6 +52,19 @@ pub outside : (l : List ℕ) (i d : ℕ) → length l ≤ i → getD l i d ≡ d
 outside [] i d h = refl
 outside (x ∷ l) zero d h = absurd (omega arith)
 outside (x ∷ l) (suc i) d h = outside l i d (omega arith)
+
+-- as many nodes pass as have a distance: those without one are the others
+pub distances-counted : (ds : List ℕ) (k v : ℕ) → v + k ≡ length ds → length (passing (has-distance ds) k v) + how-many no-distance (drop v ds) ≡ k
+unfolding passing with-node has-distance how-many
+distances-counted ds zero v e = let end : v ≡ length ds = omega arith in rw (end, drop-length ds) refl
+distances-counted ds (suc k) v e =
+    let later = distances-counted ds k (suc v) (omega arith) in
+    let d = getD ds v no-distance in
+    let rest = drop (suc v) ds in
+    ⊎-elim
+    (λ (q : d ≡ no-distance). rw (drop-cons ds v no-distance (omega arith), eq-eqb d no-distance q) (omega (arith, later)))
+    (λ (q : d ≡ no-distance → ⊥). rw (drop-cons ds v no-distance (omega arith), ne-eqb d no-distance q) (omega (arith, later)))
+    (same-or d no-distance)
 
 -- a node has a distance exactly where it was given a walk, and then it is a node
 module _ (a : Answer) (v : ℕ) where

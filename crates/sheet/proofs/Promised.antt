@@ -1,7 +1,7 @@
 -- The promises of specs/Promises.antt, each proved under its own name in small letters. Assumes nothing.
-use mathlib.Core.Path.{_≡_, refl, ap, _∙_}
+use mathlib.Core.Path.{_≡_, refl, sym, ap, subst, _∙_}
 use mathlib.Core.Bool.{true, false}
-use mathlib.Core.List.{List, _++_}
+use mathlib.Core.List.{List, _++_, append-assoc}
 use mathlib.Core.Logic.{_⊎_, ⊎-elim}
 use Prim.Native.Nat.{ℕ, _^_, _≤_}
 use native.Mathlib.Omega.{arith}
@@ -11,15 +11,16 @@ use Rattle.table.specs.Table.{Table, table, table-of, most-nodes, Below}
 use Rattle.table.proofs.Basics.{both-true, true-both, and-false, true-or}
 use Rattle.auction.specs.HandOver.{Answer, handed-over, distances, tree}
 use Rattle.auction.specs.Plan.{plan, routes-of}
-use Rattle.auction.specs.Demands.{walk-of}
+use Rattle.auction.specs.Demands.{walk-of, Demands, Demands-met}
+use Rattle.auction.proofs.Demanded.{demands-met}
 use Rattle.auction.proofs.Made.{made}
 use Rattle.auction.proofs.Sums.{entries-length}
 use Rattle.paths.specs.Listing.{tree-in, listing, listed}
 use Rattle.paths.specs.Promises.{Plans-listed, nodes-of-walk}
 use Rattle.paths.proofs.Promised.{plans-listed}
-use Rattle.sheet.specs.Sheet.{Finished, finished, path-line, node-count, has-distance, has-path, holds, reached-nodes, path-nodes, node-lines, path-lines, after-counts, from-counts, from-reached, sheet}
+use Rattle.sheet.specs.Sheet.{Finished, finished, path-line, node-count, has-distance, has-path, holds, reached-nodes, path-nodes, node-lines, path-lines, marks-lines, after-nodes, after-counts, from-counts, from-reached, sheet}
 use Rattle.sheet.specs.Promises.{Each-once, refusal-lines, totals-lines, Shows, Plans-printed, Refusals-printed, Promises}
-use Rattle.sheet.proofs.Nodes.{absent, present, agree, given-has, has-given, not-given, given-low}
+use Rattle.sheet.proofs.Nodes.{absent, present, agree, distances-counted, given-has, has-given, not-given, given-low}
 
 pub each-once : Each-once
 unfolding Each-once path-nodes
@@ -38,11 +39,13 @@ buffers-long t ws = (entries-length (t .n) 0 _, entries-length (t .n) 0 _)
 
 -- WHERE A PLAN WAS MADE
 made-sheet : (p : Finished) → (p .answer .number ≡ 0) ⊎ (p .answer .number ≡ 8) →
-    sheet p ≡ refusal-lines (p .answer) ++ totals-lines (p .answer) ++ node-lines p (reached-nodes p) ++ path-lines p (path-nodes p)
-unfolding sheet from-reached from-counts after-counts refusal-lines totals-lines
+    sheet p ≡ refusal-lines (p .answer) ++ totals-lines (p .answer) ++ node-lines p (reached-nodes p) ++ path-lines p (path-nodes p) ++ marks-lines (p .answer .marks)
+unfolding sheet from-reached from-counts after-counts after-nodes refusal-lines totals-lines
 made-sheet p e =
-    ⊎-elim (λ (z : p .answer .number ≡ 0). rw (eq-eqb (p .answer .number) 0 z) refl)
-    (λ (z : p .answer .number ≡ 8). rw (ne-eqb (p .answer .number) 0 (λ q. omega arith), eq-eqb (p .answer .number) 8 z) refl) e
+    let nodes = node-lines p (reached-nodes p) in
+    let grouped = append-assoc nodes (path-lines p (path-nodes p)) (marks-lines (p .answer .marks)) in
+    ⊎-elim (λ (z : p .answer .number ≡ 0). rw (eq-eqb (p .answer .number) 0 z, grouped) refl)
+    (λ (z : p .answer .number ≡ 8). rw (ne-eqb (p .answer .number) 0 (λ q. omega arith), eq-eqb (p .answer .number) 8 z, grouped) refl) e
 
 module _ (n o : ℕ) (ts hs ls ws ds ps tr ms : List ℕ) (low : Below (2 ^ 32) ls)
     (number : (plan n o ts hs ls ws ds ps tr ms .number ≡ 0) ⊎ (plan n o ts hs ls ws ds ps tr ms .number ≡ 8)) where
@@ -64,9 +67,20 @@ module _ (n o : ℕ) (ts hs ls ws ds ps tr ms : List ℕ) (low : Below (2 ^ 32) 
       let e = made n o ts hs ls ws ds ps tr ms low number .routes in
       (ap (λ (b : Answer). length (b .distances)) e ∙ buffers-long t ws .0, ap (λ (b : Answer). length (b .tree)) e ∙ buffers-long t ws .1)
 
+  demands : Demands t ws a
+  unfolding Demands-met
+  demands =
+      let m = made n o ts hs ls ws ds ps tr ms low number in
+      subst (λ (b : Answer). Demands t ws b) (sym (m .routes)) (demands-met t ws (m .fine .table-good))
+
   count : node-count (a .distances) ≡ length (a .distances)
   unfolding node-count
   count = omega (arith, few, long .0)
+
+  reached-lines : length (reached-nodes p) ≡ a .reached
+  unfolding reached-nodes table-of table
+  reached-lines =
+      omega (arith, demands .reached-all, distances-counted (a .distances) (node-count (a .distances)) 0 (omega (arith, count)), count, long .0)
 
   -- a path line lists the nodes of the walk returned
   path-shown : (v : ℕ) → has-path (a .distances) ws v ≡ true →
@@ -84,7 +98,7 @@ module _ (n o : ℕ) (ts hs ls ws ds ps tr ms : List ℕ) (low : Below (2 ^ 32) 
       record {
         lines =
             made-sheet p number
-            ∙ ap (λ ls. refusal-lines a ++ totals-lines a ++ node-lines p (reached-nodes p) ++ ls) (agree test _ _ path-shown (node-count (a .distances)) 0);
+            ∙ ap (λ ls. refusal-lines a ++ totals-lines a ++ node-lines p (reached-nodes p) ++ ls ++ marks-lines (a .marks)) (agree test _ _ path-shown (node-count (a .distances)) 0);
         nodes = λ v g. present (has-distance (a .distances)) v (node-count (a .distances)) 0 (omega arith) (omega (arith, count, given-low a v g)) (given-has a v g);
         no-others = λ v d. absent (has-distance (a .distances)) v (node-count (a .distances)) 0 (λ x y. not-given a v d);
         paths =
@@ -99,6 +113,8 @@ module _ (n o : ℕ) (ts hs ls ws ds ps tr ms : List ℕ) (low : Below (2 ^ 32) 
             (λ (h : has-distance (a .distances) v ≡ true). and-false (has-distance (a .distances) v) (holds v ws) (d (has-given a v h)))
             (λ (h : has-distance (a .distances) v ≡ false). rw h refl)
             (true-or (has-distance (a .distances) v)));
+        tallied = record { all = demands .marks-all; tree = demands .marks-tree };
+        reached = reached-lines;
       }
 
 pub plans-printed : Plans-printed

@@ -23,6 +23,7 @@ pub record Examples : Type 0 where
       ∷ text "node 2 distance 5 price 1 arc 1\n"
       ∷ text "node 3 distance 6 price 0 arc 3\n"
       ∷ text "path 3: 0 2 3\n"
+      ∷ text "marks 0 2 0 3\n"
       ∷ []
   pub no-route :
       printed fifth-node
@@ -34,6 +35,53 @@ pub record Examples : Type 0 where
       ∷ text "node 2 distance 5 price 1 arc 1\n"
       ∷ text "node 3 distance 6 price 0 arc 3\n"
       ∷ text "path 1: 0 1\n"
+      ∷ text "marks 0 2 0 3\n"
+      ∷ []
+  -- T with nothing wanted: the origin's arcs are kept, the others were never looked at
+  pub nothing-wanted :
+      printed (5 ∷ 4 ∷ 0 ∷ 0 ∷ 0 ∷ drop 7 example-file)
+      ≡ text "reached 1 horizon 0 iterations 0\n"
+      ∷ text "contractions 0 extensions 0 deletions 0\n"
+      ∷ text "node 0 distance 0 price 0 arc -\n"
+      ∷ text "marks 3 0 2 0\n"
+      ∷ []
+  -- T wanted 1: the marks 0 to 3 all stand
+  pub one-wanted :
+      printed (5 ∷ 4 ∷ 0 ∷ 1 ∷ 0 ∷ 1 ∷ 0 ∷ drop 7 example-file)
+      ≡ text "reached 2 horizon 2 iterations 2\n"
+      ∷ text "contractions 1 extensions 1 deletions 0\n"
+      ∷ text "node 0 distance 0 price 2 arc -\n"
+      ∷ text "node 1 distance 2 price 0 arc 0\n"
+      ∷ text "path 1: 0 1\n"
+      ∷ text "marks 1 1 2 1\n"
+      ∷ []
+  -- one node: without an arc, and with a loop of length 1
+  pub one-node :
+      printed (1 ∷ 1 ∷ 0 ∷ [])
+      ≡ text "reached 1 horizon 0 iterations 0\n"
+      ∷ text "contractions 0 extensions 0 deletions 0\n"
+      ∷ text "node 0 distance 0 price 0 arc -\n"
+      ∷ text "path 0: 0\n"
+      ∷ text "marks 0 0 0 0\n"
+      ∷ []
+  pub loop :
+      printed (1 ∷ 1 ∷ 0 ∷ 7 ∷ 0 ∷ 0 ∷ 0 ∷ 0 ∷ 1 ∷ 0 ∷ 0 ∷ 0 ∷ [])
+      ≡ text "reached 1 horizon 0 iterations 0\n"
+      ∷ text "contractions 0 extensions 0 deletions 0\n"
+      ∷ text "node 0 distance 0 price 0 arc -\n"
+      ∷ text "path 0: 0\n"
+      ∷ text "marks 0 1 0 0\n"
+      ∷ []
+  -- two equal arcs from 0 to 1
+  pub parallel :
+      printed (1 ∷ 2 ∷ 0 ∷ 7 ∷ 0 ∷ 0 ∷ 1 ∷ 0 ∷ 1 ∷ 0 ∷ 0 ∷ 0 ∷ 2 ∷ 1 ∷ 0 ∷ [])
+      ≡ text "reached 2 horizon 1 iterations 2\n"
+      ∷ text "contractions 1 extensions 1 deletions 0\n"
+      ∷ text "node 0 distance 0 price 1 arc -\n"
+      ∷ text "node 1 distance 1 price 0 arc 0\n"
+      ∷ text "path 0: 0\n"
+      ∷ text "path 1: 0 1\n"
+      ∷ text "marks 0 1 0 1\n"
       ∷ []
   -- numbers of twenty digits, the most that 64 bits hold
   pub twenty-digits :

@@ -3,30 +3,27 @@ use mathlib.Core.Path.{_≡_}
 use mathlib.Core.Bool.{true, false, cond}
 use mathlib.Core.List.{List, [], _∷_, _++_, map}
 use mathlib.Core.Logic.{_⊎_}
-use Prim.Native.Nat.{ℕ, _+_, _^_, _<_}
+use Prim.Native.Nat.{ℕ, _^_, _<_}
 use lib.Dec.{eqb}
-use Rattle.table.specs.Table.{Table, table-of, Below}
-use Rattle.auction.specs.HandOver.{Answer}
+use lib.ListN.{length}
+use Rattle.table.specs.Table.{Table, table-of, arc-count, Below}
+use Rattle.auction.specs.HandOver.{Answer, how-many}
 use Rattle.auction.specs.Plan.{plan}
+use Rattle.auction.specs.Promises.{Tallied}
 use Rattle.auction.specs.Demands.{Given, distance-of, price-of, link-of, walk-of}
 use Rattle.paths.specs.Promises.{nodes-of-walk}
-use Rattle.sheet.specs.Sheet.{Finished, finished, refused-line, reached-line, counts-line, node-line, path-line, node-count, has-path, holds, reached-nodes, path-nodes, sheet}
-
--- how often a node stands in a list
-unfoldable pub occurrences : (v : ℕ) → List ℕ → ℕ
-occurrences v [] = 0
-occurrences v (w ∷ ws) = cond (eqb w v) 1 0 + occurrences v ws
+use Rattle.sheet.specs.Sheet.{Finished, finished, refused-line, reached-line, counts-line, node-line, path-line, node-count, has-path, holds, reached-nodes, path-nodes, marks-lines, sheet}
 
 -- EACH PATH LINE ONCE, whatever the buffers hold: a node that has a distance and is wanted, however often, has one path line, and no other node has any.
 pub record Once (p : Finished) (v : ℕ) : Type 0 where
-  pub once : v < node-count (p .answer .distances) → has-path (p .answer .distances) (p .wanted) v ≡ true → occurrences v (path-nodes p) ≡ 1
-  pub never : (v < node-count (p .answer .distances) → has-path (p .answer .distances) (p .wanted) v ≡ false) → occurrences v (path-nodes p) ≡ 0
+  pub once : v < node-count (p .answer .distances) → has-path (p .answer .distances) (p .wanted) v ≡ true → how-many v (path-nodes p) ≡ 1
+  pub never : (v < node-count (p .answer .distances) → has-path (p .answer .distances) (p .wanted) v ≡ false) → how-many v (path-nodes p) ≡ 0
 
 unfoldable pub Each-once : Type 0
 Each-once = (p : Finished) (v : ℕ) → Once p v
 
 -- WHERE A PLAN WAS MADE, the sheet shows it: after the refusal's line, if there is one, come the two lines of totals, a line for each node that was given
--- a walk, and a path line for each of these that is wanted, which lists the nodes of the walk returned to it.
+-- a walk, a path line for each of these that is wanted, which lists the nodes of the walk returned to it, and how many arcs have each of the four marks.
 unfoldable pub refusal-lines : Answer → List (List ℕ)
 refusal-lines a = cond (eqb (a .number) 0) [] (refused-line (a .number) (a .place) ∷ [])
 
@@ -41,12 +38,16 @@ pub record Shows (t : Table) (p : Finished) (a : Answer) : Type 0 where
       ++ totals-lines a
       ++ map (λ v. node-line v (distance-of a v) (price-of a v) (link-of a v)) (reached-nodes p)
       ++ map (λ v. path-line v (nodes-of-walk t (walk-of t a v))) (path-nodes p)
+      ++ marks-lines (a .marks)
   -- each node that was given a walk has one line, and no other has any;
-  pub nodes : (v : ℕ) → Given a v → occurrences v (reached-nodes p) ≡ 1
-  pub no-others : (v : ℕ) → (Given a v → ⊥) → occurrences v (reached-nodes p) ≡ 0
+  pub nodes : (v : ℕ) → Given a v → how-many v (reached-nodes p) ≡ 1
+  pub no-others : (v : ℕ) → (Given a v → ⊥) → how-many v (reached-nodes p) ≡ 0
   -- each of these that is wanted has one path line, and no other has any
-  pub paths : (v : ℕ) → Given a v → holds v (p .wanted) ≡ true → occurrences v (path-nodes p) ≡ 1
-  pub no-other-paths : (v : ℕ) → (Given a v → holds v (p .wanted) ≡ false) → occurrences v (path-nodes p) ≡ 0
+  pub paths : (v : ℕ) → Given a v → holds v (p .wanted) ≡ true → how-many v (path-nodes p) ≡ 1
+  pub no-other-paths : (v : ℕ) → (Given a v → holds v (p .wanted) ≡ false) → how-many v (path-nodes p) ≡ 0
+  -- the four numbers of the last line add up to the arcs, and the last of them is one less than the nodes reached, which have as many lines
+  pub tallied : Tallied (arc-count t) (a .reached) (a .marks)
+  pub reached : length (reached-nodes p) ≡ a .reached
 
 unfoldable pub Plans-printed : Type 0
 Plans-printed =

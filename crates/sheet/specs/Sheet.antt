@@ -5,7 +5,7 @@ use Prim.Native.Nat.{ℕ, zero, suc, min}
 use lib.Dec.{eqb}
 use lib.ListN.{length, getD}
 use Rattle.table.specs.Table.{most-nodes, no-arc, no-distance}
-use Rattle.auction.specs.HandOver.{Answer}
+use Rattle.auction.specs.HandOver.{Answer, how-many}
 use Rattle.auction.specs.Demands.{distance-of, price-of, link-of}
 use Rattle.paths.specs.Listing.{tree-in, listing}
 use Rattle.sheet.specs.Text.{text, decimal, spaced}
@@ -42,6 +42,10 @@ node-line v d p i =
 unfoldable pub path-line : (node : ℕ) → (nodes : List ℕ) → List ℕ
 path-line v vs = spaced (text "path " ++ decimal v ++ text ":") vs ++ text "\n"
 
+unfoldable pub marks-line : (unreached dropped kept tree : ℕ) → List ℕ
+marks-line u d k t =
+    text "marks " ++ decimal u ++ text " " ++ decimal d ++ text " " ++ decimal k ++ text " " ++ decimal t ++ text "\n"
+
 -- THE NODES that have a line: those with a distance; and those that have a path line: of these the wanted ones. Each comes once, ascending.
 unfoldable pub node-count : (distances : List ℕ) → ℕ
 node-count ds = min (length ds) most-nodes
@@ -77,9 +81,16 @@ node-lines p vs = map (λ v. node-line v (distance-of (p .answer) v) (price-of (
 unfoldable pub path-lines : Finished → (nodes : List ℕ) → List (List ℕ)
 path-lines p vs = map (λ v. path-line v (listing (p .origin) v (tree-in (p .tails) (p .heads) (p .answer .tree)) most-nodes .nodes)) vs
 
+-- how many arcs have each of the four marks
+unfoldable pub marks-lines : (marks : List ℕ) → List (List ℕ)
+marks-lines ms = marks-line (how-many 0 ms) (how-many 1 ms) (how-many 2 ms) (how-many 3 ms) ∷ []
+
 -- THE SHEET: the refusal's line first; nothing else but where the plan was made, which is without a refusal or on number 8
+unfoldable pub after-nodes : Finished → List (List ℕ)
+after-nodes p = path-lines p (path-nodes p) ++ marks-lines (p .answer .marks)
+
 unfoldable pub after-counts : Finished → List (List ℕ)
-after-counts p = node-lines p (reached-nodes p) ++ path-lines p (path-nodes p)
+after-counts p = node-lines p (reached-nodes p) ++ after-nodes p
 
 unfoldable pub from-counts : Finished → List (List ℕ)
 from-counts p = counts-line (p .answer .contractions) (p .answer .extensions) (p .answer .deletions) ∷ after-counts p

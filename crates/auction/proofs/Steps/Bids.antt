@@ -21,12 +21,12 @@ pub record Child (t : Table) (v i : ℕ) (x : State) : Type 0 where
 unfoldable pub bid-at : Table → State → (i : ℕ) → ℕ
 bid-at t x i = length-at t i + price-at x (head-at t i)
 
-kept-test : (x : State) (i : ℕ) (o : Option ℕ) → is-kept x i o ≡ true → o ≡ some i
+pub kept-test : (x : State) (i : ℕ) (o : Option ℕ) → is-kept x i o ≡ true → o ≡ some i
 unfolding is-kept
 kept-test x i none e = absurd (not-both true refl (sym e))
 kept-test x i (some k) e = ap some (eqb-true k i e)
 
-test-kept : (x : State) (i : ℕ) (o : Option ℕ) → o ≡ some i → is-kept x i o ≡ true
+pub test-kept : (x : State) (i : ℕ) (o : Option ℕ) → o ≡ some i → is-kept x i o ≡ true
 unfolding is-kept
 test-kept x i o e = subst (λ (a : Option ℕ). is-kept x i a ≡ true) (sym e) (eq-eqb i i refl)
 

@@ -23,7 +23,7 @@ refused-requires c κs = search needs
 returns : tie.Need-returns
 returns c o ts₀ hs₀ ls₀ ws₀ well l =
     let s = entry (c .before .before) in
-    refused-read (s .args .read) ts₀ hs₀ ls₀ ws₀ _ _ _ _ _ _ _ o well l (c .before .if1 .taken) (c .refused .result) (c .refused .ensures)
+    refused-read (s .args .read) ts₀ hs₀ ls₀ ws₀ _ _ _ _ _ _ _ _ o well l (c .before .if1 .taken) (c .refused .result) (c .refused .ensures)
 
 cast-n : tie.Need-cast-n
 cast-n c = search needs
@@ -105,8 +105,8 @@ returns-2 c o ts₀ hs₀ ls₀ ws₀ well l =
     let m = sym (part-of (a .marks .now) (a .read .arcs) (fits .arcs-few) (room .marks-long)) in
     planned-parts (a .read) ts₀ hs₀ ls₀ ws₀ _ _ _ _ o well l (test .if1 .left) (call .plan-routes .result)
     (take (a .read .n) (a .distances .now)) (take (a .read .n) (a .prices .now)) (take (a .read .n) (a .tree .now)) (take (a .read .arcs) (a .marks .now))
-    _ _ _ _ _ _ _ d p t m (distances .distances .given .0 ∙ d) (prices .prices .given .0 ∙ p) (tree .tree .given .0 ∙ t)
-    (call .plan-routes .ensures)
+    _ _ _ _ _ _ _ _ d p t m (distances .distances .given .0 ∙ d) (prices .prices .given .0 ∙ p) (tree .tree .given .0 ∙ t)
+    (marks .marks .given .0 ∙ m) (call .plan-routes .ensures)
 
 pub plan-read-spec : {M : Type 1} → statement M
 plan-read-spec =

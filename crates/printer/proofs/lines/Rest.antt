@@ -11,12 +11,14 @@ use Rattle.table.specs.Table.{most-nodes}
 use Rattle.auction.specs.Demands.{distance-of, price-of, link-of}
 use Rattle.paths.specs.Listing.{listing, tree-in}
 use Rattle.printer.specs.declared.lines.Cursor.{Cursor}
-use Rattle.printer.specs.declared.lines.Cursor.the-variants.{Start, Node, Path}
+use Rattle.printer.specs.declared.lines.Cursor.the-variants.{Start, Node, Path, End}
 use Rattle.printer.specs.declared.lines.Line.{Line}
 use Rattle.printer.specs.declared.lines.Line.the-variants.{Put, Last}
 use Rattle.printer.specs.Buffers.{Begins}
 use Rattle.sheet.specs.Text.{text, decimal, spaced}
-use Rattle.sheet.specs.Sheet.{Finished, arc-text, reached-line, counts-line, path-nodes, reached-nodes, after-counts, passing, node-count, has-distance, has-path, node-line, path-line, node-lines, path-lines, from-reached, refused-line, sheet}
+use Rattle.sheet.specs.Sheet.{Finished, arc-text, reached-line, counts-line, path-nodes, reached-nodes, after-nodes, after-counts, passing, node-count, has-distance, has-path, node-line, path-line, marks-line, node-lines, path-lines, marks-lines, from-reached, refused-line, sheet}
+use Rattle.printer.specs.declared.tally.Tally.{Tally}
+use Rattle.printer.specs.Tally.{tally-of}
 use Rattle.printer.specs.Lines.{First-passing, nodes-from, paths-from, rest, Gives}
 use Rattle.printer.proofs.lines.Passing.{passing-here, passing-none}
 
@@ -57,65 +59,77 @@ path-some : (v : ℕ) (vs : List ℕ) → 0 < length (path-line v vs)
 unfolding path-line
 path-some v vs = omega (arith, length-append (spaced (text "path " ++ decimal v ++ text ":") vs) (text "\n"))
 
+marks-some : (u d k t : ℕ) → 0 < length (marks-line u d k t)
+unfolding marks-line
+marks-some u d k t =
+    starts (text "marks ") (decimal u ++ text " " ++ decimal d ++ text " " ++ decimal k ++ text " " ++ decimal t ++ text "\n") (omega arith)
+
 -- from the first node on come all of them
-paths-all : (p : Finished) → paths-from p 0 ≡ path-lines p (path-nodes p)
-unfolding paths-from path-nodes
+paths-all : (p : Finished) → paths-from p 0 ≡ after-nodes p
+unfolding paths-from path-nodes after-nodes
 paths-all p =
     let whole : node-count (p .answer .distances) - 0 ≡ node-count (p .answer .distances) = omega arith in
-    ap (λ (k : ℕ). path-lines p (passing (has-path (p .answer .distances) (p .wanted)) k 0)) whole
+    ap (λ (k : ℕ). path-lines p (passing (has-path (p .answer .distances) (p .wanted)) k 0) ++ marks-lines (p .answer .marks)) whole
 
 pub nodes-all : (p : Finished) → nodes-from p 0 ≡ after-counts p
 unfolding nodes-from after-counts reached-nodes
 nodes-all p =
     let whole : node-count (p .answer .distances) - 0 ≡ node-count (p .answer .distances) = omega arith in
-    ap (λ (k : ℕ). node-lines p (passing (has-distance (p .answer .distances)) k 0) ++ path-lines p (path-nodes p)) whole
+    ap (λ (k : ℕ). node-lines p (passing (has-distance (p .answer .distances)) k 0) ++ after-nodes p) whole
 
 module _ (p : Finished) (n from v : ℕ) (all : n ≡ node-count (p .answer .distances)) where
   module _ (f : First-passing (has-path (p .answer .distances) (p .wanted)) n from v) where
     abbrev test : ℕ → Bool
     test = has-path (p .answer .distances) (p .wanted)
 
-    paths-as : paths-from p from ≡ path-lines p (passing test (n - v) v)
-    unfolding paths-from
-    paths-as = ap (λ (k : ℕ). path-lines p (passing test (k - from) from)) (sym all) ∙ ap (path-lines p) (f .same)
+    -- the path lines of these nodes, and the line of the marks
+    abbrev lines-of : (nodes : List ℕ) → List (List ℕ)
+    lines-of vs = path-lines p vs ++ marks-lines (p .answer .marks)
 
-    pub path-last : (b : List ℕ) → n ≤ v → Gives p (paths-from p from) Last b b
-    unfolding path-lines
-    path-last b h = gives-last p (paths-from p from) b (paths-as ∙ ap (path-lines p) (passing-none test n v h))
+    paths-as : paths-from p from ≡ lines-of (passing test (n - v) v)
+    unfolding paths-from
+    paths-as = ap (λ (k : ℕ). lines-of (passing test (k - from) from)) (sym all) ∙ ap lines-of (f .same)
+
+    pub path-last : {count : ℕ} {b a : List ℕ} (tally : Tally) → n ≤ v → tally ≡ tally-of (p .answer .marks) →
+        Begins (marks-line (tally .unreached) (tally .dropped) (tally .kept) (tally .tree)) b a count → Gives p (paths-from p from) (Put count End) b a
+    unfolding path-lines marks-lines tally-of rest
+    path-last {count} {b} {a} tally h same begins =
+        gives-put p (paths-from p from) _ [] count End b a (paths-as ∙ ap lines-of (passing-none test n v h)) (marks-some _ _ _ _)
+        (subst (λ (t : Tally). Begins (marks-line (t .unreached) (t .dropped) (t .kept) (t .tree)) b a count) same begins) refl
 
     pub path-put : {count : ℕ} {b a vs : List ℕ} → v < n → vs ≡ listing (p .origin) v (tree-in (p .tails) (p .heads) (p .answer .tree)) most-nodes .nodes →
         Begins (path-line v vs) b a count →
         Gives p (paths-from p from) (Put count (Path (v + 1))) b a
     unfolding path-lines rest paths-from
     path-put {count} {b} {a} {vs} h same begins =
-        gives-put p (paths-from p from) _ (path-lines p (passing test (n - (v + 1)) (v + 1))) count (Path (v + 1)) b a
-        (paths-as ∙ ap (path-lines p) (passing-here test n v h (f .passes h))) (path-some v _)
+        gives-put p (paths-from p from) _ (lines-of (passing test (n - (v + 1)) (v + 1))) count (Path (v + 1)) b a
+        (paths-as ∙ ap lines-of (passing-here test n v h (f .passes h))) (path-some v _)
         (subst (λ (l : List ℕ). Begins (path-line v l) b a count) same begins)
-        (ap (λ (k : ℕ). path-lines p (passing test (k - (v + 1)) (v + 1))) (sym all))
+        (ap (λ (k : ℕ). lines-of (passing test (k - (v + 1)) (v + 1))) (sym all))
 
   module _ (f : First-passing (has-distance (p .answer .distances)) n from v) where
-    nodes-as : nodes-from p from ≡ node-lines p (passing (has-distance (p .answer .distances)) (n - v) v) ++ path-lines p (path-nodes p)
+    nodes-as : nodes-from p from ≡ node-lines p (passing (has-distance (p .answer .distances)) (n - v) v) ++ after-nodes p
     unfolding nodes-from
     nodes-as =
-        ap (λ (k : ℕ). node-lines p (passing (has-distance (p .answer .distances)) (k - from) from) ++ path-lines p (path-nodes p)) (sym all)
-        ∙ ap (λ (vs : List ℕ). node-lines p vs ++ path-lines p (path-nodes p)) (f .same)
+        ap (λ (k : ℕ). node-lines p (passing (has-distance (p .answer .distances)) (k - from) from) ++ after-nodes p) (sym all)
+        ∙ ap (λ (vs : List ℕ). node-lines p vs ++ after-nodes p) (f .same)
 
     pub node-last : (r : Line) (b a : List ℕ) → n ≤ v → Gives p (paths-from p 0) r b a → Gives p (nodes-from p from) r b a
     unfolding node-lines
     node-last r b a h g =
         subst (λ (ls : List (List ℕ)). Gives p ls r b a)
-        (paths-all p ∙ sym (nodes-as ∙ ap (λ (vs : List ℕ). node-lines p vs ++ path-lines p (path-nodes p)) (passing-none (has-distance (p .answer .distances)) n v h)))
+        (paths-all p ∙ sym (nodes-as ∙ ap (λ (vs : List ℕ). node-lines p vs ++ after-nodes p) (passing-none (has-distance (p .answer .distances)) n v h)))
         g
 
     pub node-put : {count distance price arc : ℕ} {b a : List ℕ} → v < n → distance ≡ distance-of (p .answer) v → price ≡ price-of (p .answer) v →
         arc ≡ link-of (p .answer) v → Begins (node-line v distance price arc) b a count → Gives p (nodes-from p from) (Put count (Node (v + 1))) b a
     unfolding node-lines rest nodes-from
     node-put {count} {distance} {price} {arc} {b} {a} h same-distance same-price same-arc begins =
-        gives-put p (nodes-from p from) _ (node-lines p (passing (has-distance (p .answer .distances)) (n - (v + 1)) (v + 1)) ++ path-lines p (path-nodes p)) count (Node (v + 1)) b a
-        (nodes-as ∙ ap (λ (vs : List ℕ). node-lines p vs ++ path-lines p (path-nodes p)) (passing-here (has-distance (p .answer .distances)) n v h (f .passes h))) (node-some v _ _ _)
+        gives-put p (nodes-from p from) _ (node-lines p (passing (has-distance (p .answer .distances)) (n - (v + 1)) (v + 1)) ++ after-nodes p) count (Node (v + 1)) b a
+        (nodes-as ∙ ap (λ (vs : List ℕ). node-lines p vs ++ after-nodes p) (passing-here (has-distance (p .answer .distances)) n v h (f .passes h))) (node-some v _ _ _)
         (subst (λ (d : ℕ). Begins (node-line v d (price-of (p .answer) v) (link-of (p .answer) v)) b a count) same-distance
         (subst₂ (λ (q k : ℕ). Begins (node-line v distance q k) b a count) same-price same-arc begins))
-        (ap (λ (k : ℕ). node-lines p (passing (has-distance (p .answer .distances)) (k - (v + 1)) (v + 1)) ++ path-lines p (path-nodes p)) (sym all))
+        (ap (λ (k : ℕ). node-lines p (passing (has-distance (p .answer .distances)) (k - (v + 1)) (v + 1)) ++ after-nodes p) (sym all))
 
 -- at a known cursor
 pub at-cursor : (p : Finished) (c at : Cursor) (r : Line) (b a : List ℕ) → c ≡ at → Gives p (rest p at) r b a → Gives p (rest p c) r b a

@@ -56,45 +56,65 @@ array-share-prefix-tails : tie.Need-array-share-prefix-tails
 array-share-prefix-tails c = search needs
 
 slice-aggregate-print-pieces : tie.Need-slice-aggregate-print-pieces
-slice-aggregate-print-pieces c = let p = at-plan (c .before) .plan-input in part-of (p .last .1 .0) (p .result .read .arcs) (p .ensures .counts .arcs-few) (omega arith)
+slice-aggregate-print-pieces c =
+    let p = at-plan (c .before) .plan-input in
+    part-of (p .last .1 .0) (p .result .read .arcs) (p .ensures .counts .arcs-few) (omega arith)
 
 array-share-prefix-heads : tie.Need-array-share-prefix-heads
 array-share-prefix-heads c = search needs
 
 slice-aggregate-print-pieces-2 : tie.Need-slice-aggregate-print-pieces-2
-slice-aggregate-print-pieces-2 c = let p = at-plan (c .before .before) .plan-input in part-of (p .last .1 .1 .0) (p .result .read .arcs) (p .ensures .counts .arcs-few) (omega arith)
+slice-aggregate-print-pieces-2 c =
+    let p = at-plan (c .before .before) .plan-input in
+    part-of (p .last .1 .1 .0) (p .result .read .arcs) (p .ensures .counts .arcs-few) (omega arith)
 
 array-share-prefix-wanted : tie.Need-array-share-prefix-wanted
 array-share-prefix-wanted c = search needs
 
 slice-aggregate-print-pieces-3 : tie.Need-slice-aggregate-print-pieces-3
-slice-aggregate-print-pieces-3 c = let p = at-plan (c .before .before .before) .plan-input in part-of (p .last .1 .1 .1 .1 .0) (p .result .read .wanted) (p .ensures .counts .wanted-few) (omega arith)
+slice-aggregate-print-pieces-3 c =
+    let p = at-plan (c .before .before .before) .plan-input in
+    part-of (p .last .1 .1 .1 .1 .0) (p .result .read .wanted) (p .ensures .counts .wanted-few) (omega arith)
 
 array-share-prefix-distances : tie.Need-array-share-prefix-distances
 array-share-prefix-distances c = search needs
 
 slice-aggregate-print-pieces-4 : tie.Need-slice-aggregate-print-pieces-4
-slice-aggregate-print-pieces-4 c = let p = at-plan (c .before .before .before .before) .plan-input in part-of (p .last .1 .1 .1 .1 .1 .0) (p .result .read .n) (p .ensures .counts .nodes) (omega arith)
+slice-aggregate-print-pieces-4 c =
+    let p = at-plan (c .before .before .before .before) .plan-input in
+    part-of (p .last .1 .1 .1 .1 .1 .0) (p .result .read .n) (p .ensures .counts .nodes) (omega arith)
 
 array-share-prefix-prices : tie.Need-array-share-prefix-prices
 array-share-prefix-prices c = search needs
 
 slice-aggregate-print-pieces-5 : tie.Need-slice-aggregate-print-pieces-5
-slice-aggregate-print-pieces-5 c = let p = at-plan (c .before .before .before .before .before) .plan-input in part-of (p .last .1 .1 .1 .1 .1 .1 .0) (p .result .read .n) (p .ensures .counts .nodes) (omega arith)
+slice-aggregate-print-pieces-5 c =
+    let p = at-plan (c .before .before .before .before .before) .plan-input in
+    part-of (p .last .1 .1 .1 .1 .1 .1 .0) (p .result .read .n) (p .ensures .counts .nodes) (omega arith)
 
 array-share-prefix-tree : tie.Need-array-share-prefix-tree
 array-share-prefix-tree c = search needs
 
 slice-aggregate-print-pieces-6 : tie.Need-slice-aggregate-print-pieces-6
-slice-aggregate-print-pieces-6 c = let p = at-plan (c .before .before .before .before .before .before) .plan-input in part-of (p .last .1 .1 .1 .1 .1 .1 .1 .0) (p .result .read .n) (p .ensures .counts .nodes) (omega arith)
+slice-aggregate-print-pieces-6 c =
+    let p = at-plan (c .before .before .before .before .before .before) .plan-input in
+    part-of (p .last .1 .1 .1 .1 .1 .1 .1 .0) (p .result .read .n) (p .ensures .counts .nodes) (omega arith)
+
+array-share-prefix-marks : tie.Need-array-share-prefix-marks
+array-share-prefix-marks c = search needs
 
 slice-aggregate-print-pieces-7 : tie.Need-slice-aggregate-print-pieces-7
-slice-aggregate-print-pieces-7 c = search needs
+slice-aggregate-print-pieces-7 c =
+    let p = at-plan (c .before .before .before .before .before .before .before) .plan-input in
+    part-of (p .last .1 .1 .1 .1 .1 .1 .1 .1 .0) (p .result .read .arcs) (p .ensures .counts .arcs-few) (omega arith)
+
+slice-aggregate-print-pieces-8 : tie.Need-slice-aggregate-print-pieces-8
+slice-aggregate-print-pieces-8 c = search needs
 
 print-pieces-requires : tie.Need-print-pieces-requires
 unfolding printing-read
 print-pieces-requires c κs =
-    let buffer = c .before .before .before .before .before .before .before in
+    let buffer = c .before .before .before .before .before .before .before .before in
     (at-plan buffer .plan-input .ensures .prints, omega (arith, buffer .large-buffer .ensures))
 
 returns : tie.Need-returns
@@ -129,6 +149,8 @@ print-input-spec =
     slice-aggregate-print-pieces-5
     array-share-prefix-tree
     slice-aggregate-print-pieces-6
+    array-share-prefix-marks
     slice-aggregate-print-pieces-7
+    slice-aggregate-print-pieces-8
     print-pieces-requires
     returns)

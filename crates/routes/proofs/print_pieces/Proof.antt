@@ -4,17 +4,16 @@ use native.Mathlib.Omega.{arith}
 use borrow.Author.Needs.{needs}
 use lib.ListN.{length}
 use lib.Seq.{length-take-le}
-use Rattle.input.specs.Printing.{printing}
-use Rattle.printer.specs.Lines.{rest}
+use Rattle.printer.specs.Lines.{printing, rest}
 use Rattle.routes.proofs.print_pieces.Statement.{statement}
 use Rattle.routes.proofs.print_pieces.Tie as tie
 
 abbrev Inv-loop : tie.InvT-loop
-Inv-loop input answer origin tails heads wanted distances prices tree out₀ cursor₀ out cursor = length out ≡ length out₀
+Inv-loop input answer origin tails heads wanted distances prices tree marks out₀ cursor₀ out cursor = length out ≡ length out₀
 
 abbrev μ-loop : tie.MeasureT-loop
-μ-loop input answer origin tails heads wanted distances prices tree out₀ cursor₀ out cursor =
-    length (rest (printing answer origin tails heads wanted distances prices tree) cursor)
+μ-loop input answer origin tails heads wanted distances prices tree marks out₀ cursor₀ out cursor =
+    length (rest (printing answer origin tails heads wanted distances prices tree marks) cursor)
 
 loop-holds : tie.Need-loop-holds Inv-loop μ-loop
 loop-holds c = refl
@@ -23,7 +22,7 @@ next-piece-requires : tie.Need-next-piece-requires Inv-loop μ-loop
 next-piece-requires c κs =
     let l = c .before in
     let known = l .before in
-    let s = known .before .before .before .before .before .before .before .before in
+    let s = known .before .before .before .before .before .before .before .before .before in
     omega (arith, l .loop .inv, s .pre .1)
 
 same-length : tie.Need-same-length Inv-loop μ-loop

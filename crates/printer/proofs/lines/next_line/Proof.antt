@@ -5,8 +5,7 @@ use Rattle.planner.specs.Plan.{answered}
 use Rattle.sheet.specs.Sheet.{Finished, from-counts, from-reached}
 use Rattle.printer.specs.declared.lines.Cursor.{Cursor}
 use Rattle.printer.specs.declared.lines.Cursor.the-variants.{Start, Reached, Counts, Node, Path, End}
-use Rattle.input.specs.Printing.{printing}
-use Rattle.printer.specs.Lines.{rest}
+use Rattle.printer.specs.Lines.{printing, rest}
 use Rattle.printer.proofs.lines.Rest.{gives-last, gives-put, at-cursor, nodes-all, reached-some, counts-some}
 use Rattle.printer.proofs.lines.next_line.Statement.{statement}
 use Rattle.printer.proofs.lines.next_line.Tie as tie
@@ -14,12 +13,12 @@ use Rattle.printer.proofs.lines.next_line.Tie as tie
 -- what is printed, and from where
 module _ (c : tie.After-slice-known) where
   abbrev entry : tie.Start
-  entry = let wanted = c .before .before .before .before in wanted .before .before .before
+  entry = let wanted = c .before .before .before .before .before in wanted .before .before .before
 
   abbrev subject : Finished
   subject =
       let a = entry .args in
-      printing (a .answer) (a .origin) (a .tails .now) (a .heads .now) (a .wanted .now) (a .distances .now) (a .prices .now) (a .tree .now)
+      printing (a .answer) (a .origin) (a .tails .now) (a .heads .now) (a .wanted .now) (a .distances .now) (a .prices .now) (a .tree .now) (a .marks .now)
 
   abbrev from : Cursor
   from = entry .args .cursor
@@ -66,7 +65,7 @@ returns c =
     let put = c .before .before in
     let told = put .before .before in
     let s = told .before .before in
-    at-cursor (subject s) (from s) Start _ _ _ (told .enum-told .given .1) (put .first-line .ensures _ _ _ _ _ _ _)
+    at-cursor (subject s) (from s) Start _ _ _ (told .enum-told .given .1) (put .first-line .ensures _ _ _ _ _ _ _ _)
 
 same-length-2 : tie.Need-same-length-2
 same-length-2 c = search needs
@@ -100,7 +99,7 @@ returns-4 c =
     let put = c .before .before in
     let told = put .before .before .before in
     let s = told .before .before in
-    at-cursor (subject s) (from s) (Node _) (put .next-node .result) (entry s .args .out .now) _ (told .cursor .given .1) (put .next-node .ensures)
+    at-cursor (subject s) (from s) (Node _) (put .next-node .result) (entry s .args .out .now) _ (told .cursor .given .1) (put .next-node .ensures (entry s .args .answer))
 
 same-length-5 : tie.Need-same-length-5
 same-length-5 c = search needs
@@ -110,7 +109,7 @@ returns-5 c =
     let put = c .before .before in
     let told = put .before .before .before in
     let s = told .before .before in
-    at-cursor (subject s) (from s) (Path _) (put .next-path .result) (entry s .args .out .now) _ (told .cursor2 .given .1) (put .next-path .ensures)
+    at-cursor (subject s) (from s) (Path _) (put .next-path .result) (entry s .args .out .now) _ (told .cursor2 .given .1) (put .next-path .ensures (entry s .args .answer) (entry s .args .prices .now))
 
 returns-6 : tie.Need-returns-6
 unfolding rest

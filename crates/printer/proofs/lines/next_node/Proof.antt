@@ -2,11 +2,11 @@
 use native.Mathlib.Nat.{le-trans}
 use Rattle.table.specs.Table.{no-distance}
 use Rattle.auction.specs.Demands.{distance-of, price-of, link-of}
+use Rattle.planner.specs.declared.Planned.{Planned}
 use Rattle.planner.specs.Plan.{answered}
 use Rattle.printer.proofs.lines.Passing.{inside-same}
 use Rattle.sheet.specs.Sheet.{Finished}
-use Rattle.input.specs.Printing.{printing}
-use Rattle.printer.specs.Lines.{rest}
+use Rattle.printer.specs.Lines.{printing, rest}
 use Rattle.printer.proofs.lines.Rest.{node-last, node-put}
 use borrow.Author.Needs.{needs}
 use Rattle.printer.proofs.lines.next_node.Statement.{statement}
@@ -15,12 +15,12 @@ use Rattle.printer.proofs.lines.next_node.Tie as tie
 -- what is printed, and from where
 module _ (c : tie.After-slice-known) where
   abbrev entry : tie.Start
-  entry = let wanted = c .before .before .before .before in wanted .before .before .before
+  entry = let wanted = c .before .before .before .before .before in wanted .before .before .before
 
-  abbrev subject : Finished
-  subject =
+  abbrev subject : Planned → Finished
+  subject answer =
       let a = entry .args in
-      printing (a .answer) (a .origin) (a .tails .now) (a .heads .now) (a .wanted .now) (a .distances .now) (a .prices .now) (a .tree .now)
+      printing answer (a .origin) (a .tails .now) (a .heads .now) (a .wanted .now) (a .distances .now) (a .prices .now) (a .tree .now) (a .marks .now)
 
 node-count-requires : tie.Need-node-count-requires
 node-count-requires c κs = search needs
@@ -36,7 +36,7 @@ same-length c = search needs
 
 returns : tie.Need-returns
 unfolding printing answered rest
-returns c =
+returns c answer =
     let call = c .before .before in
     let test = call .before .before in
     let found = test .before in
@@ -44,8 +44,8 @@ returns c =
     let s = count .before in
     let f = found .next-with-distance in
     let n = count .node-count in
-    node-last (subject s) (n .result) (entry s .args .from) (f .result) (n .ensures .0) (f .ensures) (call .next-path .result) (entry s .args .out .now) _ (test .if1 .taken)
-    (call .next-path .ensures)
+    node-last (subject s answer) (n .result) (entry s .args .from) (f .result) (n .ensures .0) (f .ensures) (call .next-path .result) (entry s .args .out .now) _ (test .if1 .taken)
+    (call .next-path .ensures answer (entry s .args .prices .now))
 
 price-at-requires : tie.Need-price-at-requires
 price-at-requires c κs = search needs
@@ -70,7 +70,7 @@ same-length-2 c = search needs
 
 returns-2 : tie.Need-returns-2
 unfolding printing answered rest distance-of price-of link-of
-returns-2 c =
+returns-2 c answer =
     let put = c .before .before in
     let arc = put .before .before .before in
     let price = arc .before in
@@ -81,7 +81,7 @@ returns-2 c =
     let f = found .next-with-distance in
     let n = count .node-count in
     let there = le-trans (test .if1 .left) (n .ensures .1 .0) in
-    node-put (subject s) (n .result) (entry s .args .from) (f .result) (n .ensures .0) (f .ensures) (test .if1 .left)
+    node-put (subject s answer) (n .result) (entry s .args .from) (f .result) (n .ensures .0) (f .ensures) (test .if1 .left)
     (inside-same (entry s .args .distances .now) (f .result) 0 no-distance there) (price .price-at .ensures) (arc .arc-at .ensures) (put .put-node .ensures)
 
 pub next-node-spec : {M : Type 1} → statement M

@@ -6,10 +6,10 @@ use native.Mathlib.Omega.{arith}
 use lib.ListN.{length, take, length-take}
 use Rattle.table.specs.Table.{most-nodes}
 use Rattle.paths.specs.Listing.{Listing, listing, tree-in}
+use Rattle.planner.specs.declared.Planned.{Planned}
 use Rattle.planner.specs.Plan.{answered}
 use Rattle.sheet.specs.Sheet.{Finished}
-use Rattle.input.specs.Printing.{printing}
-use Rattle.printer.specs.Lines.{rest}
+use Rattle.printer.specs.Lines.{printing, rest}
 use Rattle.printer.proofs.lines.Rest.{path-last, path-put}
 use Rattle.printer.proofs.lines.Listed.{listed-count, listed-nodes, listing-fits}
 use borrow.Author.Needs.{needs}
@@ -21,10 +21,10 @@ module _ (c : tie.After-slice-known) where
   abbrev entry : tie.Start
   entry = let wanted = c .before .before .before .before in wanted .before .before .before
 
-  abbrev subject : Finished
-  subject =
+  abbrev subject : Planned → (prices : List ℕ) → Finished
+  subject answer prices =
       let a = entry .args in
-      printing (a .answer) (a .origin) (a .tails .now) (a .heads .now) (a .wanted .now) (a .distances .now) (a .prices .now) (a .tree .now)
+      printing answer (a .origin) (a .tails .now) (a .heads .now) (a .wanted .now) (a .distances .now) prices (a .tree .now) (a .marks .now)
 
 -- where the path has been listed: the listing, and that its nodes stand at the start of the array
 module _ (c : tie.After-list-path) where
@@ -51,15 +51,28 @@ node-count-requires c κs = search needs
 next-with-path-requires : tie.Need-next-with-path-requires
 next-with-path-requires c κs = search needs
 
+tally-marks-requires : tie.Need-tally-marks-requires
+tally-marks-requires c κs = search needs
+
+put-marks-requires : tie.Need-put-marks-requires
+put-marks-requires c κs = search needs
+
+same-length : tie.Need-same-length
+same-length c = search needs
+
 returns : tie.Need-returns
 unfolding printing answered rest
-returns c =
-    let found = c .before in
+returns c answer prices =
+    let put = c .before .before in
+    let tally = put .before .before in
+    let test = tally .before in
+    let found = test .before in
     let count = found .before in
     let s = count .before in
     let f = found .next-with-path in
     let n = count .node-count in
-    path-last (subject s) (n .result) (entry s .args .from) (f .result) (n .ensures .0) (f .ensures) _ (c .if1 .taken)
+    path-last (subject s answer prices) (n .result) (entry s .args .from) (f .result) (n .ensures .0) (f .ensures) (tally .tally-marks .result) (test .if1 .taken)
+    (tally .tally-marks .ensures) (put .put-marks .ensures)
 
 cast-list-path : tie.Need-cast-list-path
 cast-list-path c = search needs
@@ -89,15 +102,15 @@ put-path-requires c κs =
     let room = listing-fits (a .origin) v (tree-in (a .tails .now) (a .heads .now) (a .tree .now)) most-nodes in
     (omega (arith, room, ap length (nodes-there list)), start list .pre)
 
-add-t25 : tie.Need-add-t25
-add-t25 c = search needs
+add-t29 : tie.Need-add-t29
+add-t29 c = search needs
 
-same-length : tie.Need-same-length
-same-length c = search needs
+same-length-2 : tie.Need-same-length-2
+same-length-2 c = search needs
 
 returns-2 : tie.Need-returns-2
 unfolding printing answered rest
-returns-2 c =
+returns-2 c answer prices =
     let put = c .before .before in
     let list = put .before .before .before .before .before in
     let test = list .before .before in
@@ -106,7 +119,7 @@ returns-2 c =
     let s = count .before in
     let f = found .next-with-path in
     let n = count .node-count in
-    path-put (subject s) (n .result) (entry s .args .from) (f .result) (n .ensures .0) (f .ensures) (test .if1 .left) (nodes-there list) (put .put-path .ensures)
+    path-put (subject s answer prices) (n .result) (entry s .args .from) (f .result) (n .ensures .0) (f .ensures) (test .if1 .left) (nodes-there list) (put .put-path .ensures)
 
 pub next-path-spec : {M : Type 1} → statement M
 next-path-spec =
@@ -114,6 +127,9 @@ next-path-spec =
     (tie.spec
     node-count-requires
     next-with-path-requires
+    tally-marks-requires
+    put-marks-requires
+    same-length
     returns
     cast-list-path
     slice-aggregate-list-path
@@ -122,6 +138,6 @@ next-path-spec =
     array-share-prefix-nodes
     slice-aggregate-put-path
     put-path-requires
-    add-t25
-    same-length
+    add-t29
+    same-length-2
     returns-2)

@@ -9,23 +9,22 @@ use borrow.Rule.Slice.PartMut.{midOf, same-len-mid}
 use Rattle.sheet.specs.Sheet.{Finished}
 use Rattle.printer.specs.declared.lines.Line.{Line}
 use Rattle.printer.specs.declared.lines.Line.the-variants.{Last}
-use Rattle.input.specs.Printing.{printing}
-use Rattle.printer.specs.Lines.{rest, Gives}
+use Rattle.printer.specs.Lines.{printing, rest, Gives}
 use Rattle.printer.proofs.pieces.Filling.{Filling, filling-starts, filling-next, filled, no-more, fewer-given}
 use Rattle.printer.proofs.pieces.next_piece.Statement.{statement}
 use Rattle.printer.proofs.pieces.next_piece.Tie as tie
 
 abbrev Inv-loop : tie.InvT-loop
-Inv-loop answer origin tails heads wanted distances prices tree out₀ at₀ next₀ out at next =
-    Filling (printing answer origin tails heads wanted distances prices tree) next₀ out₀ out at next
+Inv-loop answer origin tails heads wanted distances prices tree marks out₀ at₀ next₀ out at next =
+    Filling (printing answer origin tails heads wanted distances prices tree marks) next₀ out₀ out at next
 
 abbrev μ-loop : tie.MeasureT-loop
-μ-loop answer origin tails heads wanted distances prices tree out₀ at₀ next₀ out at next =
-    length (rest (printing answer origin tails heads wanted distances prices tree) next)
+μ-loop answer origin tails heads wanted distances prices tree marks out₀ at₀ next₀ out at next =
+    length (rest (printing answer origin tails heads wanted distances prices tree marks) next)
 
 -- the arguments, from the loop
 abbrev entry : tie.At-loop Inv-loop μ-loop → tie.Start Inv-loop μ-loop
-entry c = let wanted = c .before .before .before .before .before in wanted .before .before .before
+entry c = let wanted = c .before .before .before .before .before .before in wanted .before .before .before
 
 loop-holds : tie.Need-loop-holds Inv-loop μ-loop
 loop-holds c = filling-starts _ _ _
@@ -58,7 +57,7 @@ module _ (c : tie.After-next-line Inv-loop μ-loop) where
   abbrev subject : Finished
   subject =
       let a = entry (c .before .before .before) .args in
-      printing (a .answer) (a .origin) (a .tails .now) (a .heads .now) (a .wanted .now) (a .distances .now) (a .prices .now) (a .tree .now)
+      printing (a .answer) (a .origin) (a .tails .now) (a .heads .now) (a .wanted .now) (a .distances .now) (a .prices .now) (a .tree .now) (a .marks .now)
 
   abbrev at : ℕ
   at = c .before .before .before .loop .at
@@ -67,7 +66,7 @@ module _ (c : tie.After-next-line Inv-loop μ-loop) where
   out = c .before .before .before .loop .out
 
   abbrev part : List ℕ
-  part = c .next-line .last .1 .1 .1 .1 .1 .1 .1 .1 .1 .0
+  part = c .next-line .last .1 .1 .1 .1 .1 .1 .1 .1 .1 .1 .0
 
   answers : (r : Line) → c .next-line .result ≡ r → Gives subject (rest subject (c .before .before .before .loop .next)) r (midOf at (length out - at) out) part
   answers r e = subst (λ (r : Line). Gives subject (rest subject (c .before .before .before .loop .next)) r (midOf at (length out - at) out) part) e (c .next-line .ensures)
@@ -77,7 +76,7 @@ add-at c =
     let back = c .before .before .before .before in
     let call = back .before in
     let f = filling-next (subject call) _ _ (out call) (at call) _ (call .before .before .before .loop .inv) (part call) _ _ (back .out .given .0) (answers call _ (c .before .line .given .1)) in
-    omega (arith, f .inside, f .same, entry (call .before .before .before) .good .1 .1 .1 .1 .1 .1)
+    omega (arith, f .inside, f .same, entry (call .before .before .before) .good .1 .1 .1 .1 .1 .1 .1)
 
 loop-less : tie.Need-loop-less Inv-loop μ-loop
 loop-less c =
