@@ -18,8 +18,9 @@ pub struct Group {
     pub run: fn(&dyn Entries, &mut Random) -> Tried,
 }
 
+/// The quick ones first, since a faulty model goes through them until one notices its fault.
 pub fn groups() -> Vec<Group> {
-    [rack::GROUPS, grounds::GROUPS, listings::GROUPS, files::GROUPS, program::GROUPS, plans::GROUPS].concat()
+    [rack::GROUPS, grounds::GROUPS, listings::GROUPS, program::GROUPS, files::GROUPS, plans::GROUPS].concat()
 }
 
 /// T of 01, with the given number of nodes and wanted list.

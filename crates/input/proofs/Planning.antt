@@ -17,8 +17,9 @@ use Rattle.link_format.specs.Buffers.{over, too-short, reading, refusal-of, no-
 use Rattle.link_format.proofs.Outcomes.{files-refused-by-number}
 use Rattle.link_file.specs.declared.TableRead.{TableRead}
 use Rattle.link_file.specs.Entries.{read-answer, Left-by-reading, Read-says}
-use Rattle.planner.specs.declared.Planned.{Planned}
-use Rattle.planner.specs.Plan.{answered, Plan-made}
+use Rattle.hand_over.specs.declared.Planned.{Planned}
+use Rattle.hand_over.specs.Answered.{answered}
+use Rattle.planner.specs.Plan.{Plan-made}
 use Rattle.sheet.specs.Sheet.{finished, refused-line, sheet}
 use Rattle.sheet.specs.Printed.{most-input, read-input, plan-of, lines-of}
 use Rattle.sheet.specs.Promises.{Refusals-printed}

@@ -10,8 +10,8 @@ use Rattle.link_format.specs.Reading.{Outcome, refused}
 use Rattle.link_file.specs.declared.TableRead.{TableRead}
 use Rattle.link_file.specs.Entries.{Left-by-reading}
 use Rattle.link_file.specs.Promises.{Counts-fit}
-use Rattle.planner.specs.declared.Planned.{Planned}
-use Rattle.planner.specs.Plan.{answered}
+use Rattle.hand_over.specs.declared.Planned.{Planned}
+use Rattle.hand_over.specs.Answered.{answered}
 use Rattle.sheet.specs.Sheet.{Finished, finished, sheet}
 use Rattle.sheet.specs.Printed.{read-input, lines-of, printed}
 use Rattle.input.specs.declared.PlannedInput.{PlannedInput}

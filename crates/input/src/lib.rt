@@ -3,8 +3,8 @@ ghost use mathlib.Core.Path.{_≡_};
 ghost use Rattle.table.specs.Slices.{was, left};
 ghost use Rattle.link_file.specs.Promises.{Counts-fit};
 ghost use Rattle.input.specs.Input.{Columns-roomy, Buffers-roomy, refused-file, Reads-input, Plans-read, Ready};
+use hand_over::Planned;
 use link_file::TableRead;
-use planner::Planned;
 use table::MOST_ARCS;
 use table::Refusal;
 

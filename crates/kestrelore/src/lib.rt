@@ -3,10 +3,10 @@
 ghost use Rattle.planner.specs.Plan.{Plans};
 ghost use Rattle.paths.specs.Listing.{Lists-path};
 ghost use Rattle.link_file.specs.Entries.{Reads-file, Writes-file};
+use hand_over::Planned;
 use link_file::TableRead;
 use link_file::Written;
 use paths::Listed;
-use planner::Planned;
 
 // Plans the routes of a link table.
 #[no_mangle]

@@ -16,7 +16,7 @@ use Rattle.link_format.specs.Reading.{_>>=_, Outcome, got, refused, accepted, l
 use Rattle.link_format.proofs.Counts.{Roomy}
 use Rattle.link_format.proofs.Records.{few-records}
 use Rattle.link_file.specs.Entries.{read-answer, Read-says}
-use Rattle.link_file.specs.Says.{arcs-from, wanted-of, header-answer, Header-got, tally, records-from}
+use Rattle.link_file.specs.Says.{arcs-from, wanted-of, header-answer, Header-got, count-of, records-from}
 use Rattle.link_file.specs.declared.TableRead.{TableRead}
 use Rattle.link_file.specs.declared.header.Header.{Header}
 use Rattle.link_file.specs.declared.records.Counted.the-variants.{Arcs, Refused}
@@ -28,23 +28,23 @@ unfolding over
 sets-over xs buffer h = sets-eq xs buffer 0 (rw (zero-add (length xs)) h) ∙ rw (zero-add (length xs))
 
 -- a count of records, by its case
-tally-refused : (o : Outcome (List Arc)) {f : Refusal} → tally 0 o ≡ Refused f → o ≡ refused (f .number) (f .place)
-unfolding tally refusal
-tally-refused (got arcs at rest) e = let z : _≡_ {A = ℕ} 0 1 = cc in absurd (omega arith)
-tally-refused (refused n p) {f} e = let same : record { number = n; place = p } ≡ f = cc in rw (← same)
+count-refused : (o : Outcome (List Arc)) {f : Refusal} → count-of 0 o ≡ Refused f → o ≡ refused (f .number) (f .place)
+unfolding count-of refusal
+count-refused (got arcs at rest) e = let z : _≡_ {A = ℕ} 0 1 = cc in absurd (omega arith)
+count-refused (refused n p) {f} e = let same : record { number = n; place = p } ≡ f = cc in rw (← same)
 
-pub tally-accepted : (o : Outcome (List Arc)) {k : ℕ} → tally 0 o ≡ Arcs k → accepted o ≡ true
-unfolding tally accepted
-tally-accepted (got arcs at rest) e = refl
-tally-accepted (refused n p) e = let z : _≡_ {A = ℕ} 0 1 = cc in absurd (omega arith)
+pub count-accepted : (o : Outcome (List Arc)) {k : ℕ} → count-of 0 o ≡ Arcs k → accepted o ≡ true
+unfolding count-of accepted
+count-accepted (got arcs at rest) e = refl
+count-accepted (refused n p) e = let z : _≡_ {A = ℕ} 0 1 = cc in absurd (omega arith)
 
-tally-length : (o : Outcome (List Arc)) {k : ℕ} → tally 0 o ≡ Arcs k → length (list-got o) ≡ k
-unfolding tally list-got
-tally-length (got arcs at rest) {k} e = let c : 0 + length arcs ≡ k = cc in omega arith
-tally-length (refused n p) e = let z : _≡_ {A = ℕ} 0 1 = cc in absurd (omega arith)
+count-of-length : (o : Outcome (List Arc)) {k : ℕ} → count-of 0 o ≡ Arcs k → length (list-got o) ≡ k
+unfolding count-of list-got
+count-of-length (got arcs at rest) {k} e = let c : 0 + length arcs ≡ k = cc in omega arith
+count-of-length (refused n p) e = let z : _≡_ {A = ℕ} 0 1 = cc in absurd (omega arith)
 
-pub tally-few : (file : List ℕ) (start : ℕ) {k : ℕ} → tally 0 (records-from file start) ≡ Arcs k → k ≤ most-arcs
-tally-few file start e = omega (arith, tally-length (records-from file start) e, few-records most-arcs none start (drop start file))
+pub count-of-few : (file : List ℕ) (start : ℕ) {k : ℕ} → count-of 0 (records-from file start) ≡ Arcs k → k ≤ most-arcs
+count-of-few file start e = omega (arith, count-of-length (records-from file start) e, few-records most-arcs none start (drop start file))
 
 -- a refusal of the header, or of a record, is the file's
 pub header-refuses : (file : List ℕ) {n p : ℕ} → read-header 0 file ≡ refused n p → read-file file ≡ refused n p
@@ -60,9 +60,9 @@ module _ (file : List ℕ) (h : Header) (g : Header-got file h) where
   unfolding read-file read-content _>>=_ and-then content
   with-records = rw (g .is)
 
-  pub records-refuse : {f : Refusal} → tally 0 (records-from file (h .next)) ≡ Refused f → read-file file ≡ refused (f .number) (f .place)
+  pub records-refuse : {f : Refusal} → count-of 0 (records-from file (h .next)) ≡ Refused f → read-file file ≡ refused (f .number) (f .place)
   unfolding and-then
-  records-refuse e = with-records ∙ rw (tally-refused (records-from file (h .next)) e)
+  records-refuse e = with-records ∙ rw (count-refused (records-from file (h .next)) e)
 
   -- both were read: the file's content
   content-read : (o : Outcome (List Arc)) → accepted o ≡ true → content-of (and-then o (λ (arcs : List Arc). give (whole arcs))) ≡ whole (list-got o)
@@ -78,7 +78,7 @@ module _ (file : List ℕ) (h : Header) (g : Header-got file h) where
   pub read-whole : {k : ℕ} {tails heads lengths wanted tails′ heads′ lengths′ wanted′ : List ℕ} {r : TableRead}
       → reading file tails heads lengths wanted ≡ read-file file
       → Roomy (length tails) (length heads) (length lengths) (length wanted)
-      → tally 0 (records-from file (h .next)) ≡ Arcs k
+      → count-of 0 (records-from file (h .next)) ≡ Arcs k
       → tails′ ≡ sets tails 0 (tails-of (arcs-from file (h .next)))
       → heads′ ≡ sets heads 0 (heads-of (arcs-from file (h .next)))
       → lengths′ ≡ sets lengths 0 (lengths-of (arcs-from file (h .next)))
@@ -87,14 +87,14 @@ module _ (file : List ℕ) (h : Header) (g : Header-got file h) where
       → Read-says file tails heads lengths wanted tails′ heads′ lengths′ wanted′ r
   unfolding read-answer header-answer content no-refusal refusal tails-of heads-of lengths-of
   read-whole {k} {tails} {heads} {lengths} {wanted} all room counted tails-are heads-are lengths-are wanted-is answer =
-      let good : accepted (records-from file (h .next)) ≡ true = tally-accepted (records-from file (h .next)) counted in
+      let good : accepted (records-from file (h .next)) ≡ true = count-accepted (records-from file (h .next)) counted in
       let few : length (arcs-from file (h .next)) ≤ most-arcs = few-records most-arcs none (h .next) (drop (h .next) file) in
       let is : content-of (reading file tails heads lengths wanted) ≡ whole (arcs-from file (h .next)) =
       ap content-of (all ∙ with-records) ∙ content-read (records-from file (h .next)) good in
       let clean : refusal-of (reading file tails heads lengths wanted) ≡ no-refusal =
       ap refusal-of (all ∙ with-records) ∙ nothing-refused (records-from file (h .next)) good in
       record {
-        answer = answer ∙ rw (is, clean, tally-length (records-from file (h .next)) counted, g .size);
+        answer = answer ∙ rw (is, clean, count-of-length (records-from file (h .next)) counted, g .size);
         tails-are = tails-are ∙ rw is (sets-over _ tails (rw length-map (omega (arith, room .tails-room))));
         heads-are = heads-are ∙ rw is (sets-over _ heads (rw length-map (omega (arith, room .heads-room))));
         lengths-are = lengths-are ∙ rw is (sets-over _ lengths (rw length-map (omega (arith, room .lengths-room))));

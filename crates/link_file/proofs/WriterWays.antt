@@ -13,7 +13,7 @@ use Rattle.table.specs.Table.{arcs-of, most-wanted}
 use Rattle.link_format.specs.Buffers.{over, file-of, writing, put-bytes}
 use Rattle.link_format.specs.Format.{content, header-bytes, records-bytes, file-bytes}
 use Rattle.link_file.specs.Entries.{write-answer, Write-says}
-use Rattle.link_file.specs.Says.{Put}
+use Rattle.link_fields.specs.Fields.{Put}
 use Rattle.link_file.proofs.ReaderWays.{sets-over}
 use Rattle.link_file.proofs.writer.Pieces.{put-then}
 use Rattle.link_file.specs.declared.Written.{Written}

@@ -1,21 +1,17 @@
 -- What the answers of the reader's and the writer's own functions mean, in the terms of Format.antt and Reading.antt. Assumes nothing: these are
 -- definitions.
-use mathlib.Core.Bool.{Bool, true, false, cond}
+use mathlib.Core.Bool.{Bool, true, cond}
 use mathlib.Core.List.{List, [], _∷_}
-use mathlib.Core.Option.{Option, none, some}
+use mathlib.Core.Option.{Option, none}
 use mathlib.Core.Path.{_≡_}
 use Prim.Native.Nat.{ℕ, zero, suc, _+_, _-_, _*_, _≤_, _<_}
 use lib.ListN.{length, drop}
-use lib.Seq.{sets}
-use Rattle.link_format.specs.Format.{node-width, length-width, limit, most-header, most-record, content, count-up, counts-from, all-nodes, header-bits, header-bytes, fields-bytes}
-use Rattle.link_format.specs.Reading.{Outcome, Reader, got, refused, accepted, list-got, number, optional, implied, read-wanted, read-header, read-record, read-records}
+use Rattle.link_format.specs.Format.{node-width, most-header, most-record, content, count-up, counts-from, all-nodes, header-bits, header-bytes, fields-bytes}
+use Rattle.link_format.specs.Reading.{Outcome, got, refused, accepted, list-got, number, read-wanted, read-header, read-record, read-records}
 use Rattle.table.specs.Refusals.{refusal}
-use Rattle.table.specs.Table.{Arc, arc, most-arcs, most-nodes, most-wanted}
+use Rattle.table.specs.Table.{Arc, most-arcs, most-nodes, most-wanted}
+use Rattle.link_fields.specs.Fields.{arc-of}
 use Rattle.link_file.specs.declared.TableRead.{TableRead}
-use Rattle.link_file.specs.declared.arcs.Arc as Arcs
-use Rattle.link_file.specs.declared.arcs.Previous.{Previous}
-use Rattle.link_file.specs.declared.arcs.Previous.the-variants.{Nothing, Record}
-use Rattle.link_file.specs.declared.arcs.Absent.{Absent}
 use Rattle.link_file.specs.declared.header.NodesRead.{NodesRead}
 use Rattle.link_file.specs.declared.header.NodesRead.the-variants as Nodes
 use Rattle.link_file.specs.declared.header.Header.{Header}
@@ -27,52 +23,6 @@ use Rattle.link_file.specs.declared.records.RecordRead.{RecordRead}
 use Rattle.link_file.specs.declared.records.RecordRead.the-variants as Records
 use Rattle.link_file.specs.declared.records.Counted.{Counted}
 use Rattle.link_file.specs.declared.records.Counted.the-variants as Counts
-use Rattle.link_file.specs.declared.fields.Field.{Field}
-use Rattle.link_file.specs.declared.fields.Field.the-variants.{Value, Cut}
-
--- At an offset of a part of the file a reader gets this value and goes on at the next offset, wherever in the file the part begins.
-pub record Got (m : Reader ℕ) (part : List ℕ) (from width bound value next : ℕ) : Type 0 where
-  pub is : (at : ℕ) → m (at + from) (drop from part) ≡ got value (at + next) (drop next part)
-  -- the next offset is behind this one, by at most the field's width, and inside the part
-  pub on : from ≤ next
-  pub near : next ≤ from + width
-  pub inside : next ≤ length part
-  -- the value is below a bound
-  pub small : value < bound
-
--- The part ends inside a field of this width, which is refused at the file's length.
-pub record Cut-inside (m : Reader ℕ) (part : List ℕ) (from width : ℕ) : Type 0 where
-  pub is : (at : ℕ) → m (at + from) (drop from part) ≡ refused 9 (at + length part)
-  -- the end is near, so that its offset is small
-  pub near : length part < from + width
-
-unfoldable pub Field-says : Field → Reader ℕ → (part : List ℕ) → (from width bound : ℕ) → Type 0
-Field-says (Value v next) m part from w bound = Got m part from w bound v next
-Field-says Cut m part from w bound = Cut-inside m part from w
-
--- the same of a field that may be absent, with a value below any bound that both the field's bytes and what its absence says are below
-unfoldable pub Optional-says : Field → (stands : Bool) → (absent : ℕ) → (part : List ℕ) → (from width : ℕ) → Type 0
-Optional-says r stands absent part from w =
-    (bound : ℕ) → limit w ≤ bound → absent < bound → Field-says r (optional stands w absent) part from w bound
-
--- an arc of the code, and the arc of the record before
-unfoldable pub arc-of : Arcs.Arc → Arc
-arc-of a = arc (a .tail) (a .head) (a .length)
-
-unfoldable pub arc-before : Previous → Option Arc
-arc-before Nothing = none
-arc-before (Record p) = some (arc-of p)
-
--- What a record's absent fields say: a tail and a length fit their fields, a head may be one too high.
-pub record Absent-says (before : Option Arc) (a : Absent) : Type 0 where
-  pub is : arc (a .tail) (a .head) (a .length) ≡ implied before
-  pub tail-fits : a .tail < limit node-width
-  pub length-fits : a .length < limit length-width
-
--- no record before
-unfoldable pub first : Option Arc → Bool
-first none = true
-first (some p) = false
 
 -- The record at the start of a part of the file gives this arc, and the next one begins at this offset of the file.
 pub record Record-got (before : Option Arc) (part : List ℕ) (at : ℕ) (a : Arc) (next : ℕ) : Type 0 where
@@ -87,9 +37,9 @@ Record-says (Records.Record a next) before part at = Record-got before part at (
 Record-says (Records.Refused r) before part at = read-record before at part ≡ refused (r .number) (r .place)
 
 -- the count of records, after so many before them, or the refusal
-unfoldable pub tally : (before : ℕ) → Outcome (List Arc) → Counted
-tally k (got arcs next rest) = Counts.Arcs (k + length arcs)
-tally k (refused number place) = Counts.Refused (refusal number place)
+unfoldable pub count-of : (before : ℕ) → Outcome (List Arc) → Counted
+count-of k (got arcs next rest) = Counts.Arcs (k + length arcs)
+count-of k (refused number place) = Counts.Refused (refusal number place)
 
 -- what reading the records from an offset to the end of the file gives, and their arcs
 abbrev pub records-from : (file : List ℕ) → (start : ℕ) → Outcome (List Arc)
@@ -172,13 +122,6 @@ Header-says (Headers.Refused r) file = read-header 0 file ≡ refused (r .number
 -- the answer to a header and so many arcs that were read
 unfoldable pub header-answer : Header → (arcs : ℕ) → TableRead
 header-answer h k = record { number = 0; place = 0; n = h .n; origin = h .origin; arcs = k; wanted = h .wanted }
-
--- A piece of the file was put at an offset of the output.
-pub record Put (output : List ℕ) (at : ℕ) (piece : List ℕ) (next : ℕ) (output′ : List ℕ) : Type 0 where
-  -- the next offset is behind it
-  pub on : next ≡ at + length piece
-  -- the rest of the output is as it was
-  pub is : output′ ≡ sets output at piece
 
 -- the size of a record with a bit map, whatever its arc
 pub record Record-sized (bits size : ℕ) : Type 0 where

@@ -1,11 +1,11 @@
 // Reading the header: the node count, the origin and the wanted list.
-use crate::arcs;
-use crate::fields::Field;
-use crate::fields::MAP_WIDTH;
-use crate::fields::NODE_WIDTH;
-use crate::fields::read_field;
-use crate::fields::read_optional;
-use crate::fields::refuse;
+use link_fields::arcs;
+use link_fields::fields::Field;
+use link_fields::fields::MAP_WIDTH;
+use link_fields::fields::NODE_WIDTH;
+use link_fields::fields::read_field;
+use link_fields::fields::read_optional;
+use link_fields::fields::refuse;
 use table::MOST_WANTED;
 use table::Refusal;
 ghost use mathlib.Core.Bool.{_&&_};

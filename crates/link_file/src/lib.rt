@@ -1,15 +1,13 @@
-// The link file of a table: reader and writer. Crate `link_format` says what bytes a table has and what reading bytes gives; specs/Entries.antt says
-// what the two entries answer.
-mod arcs;
-mod fields;
+// The link file of a table: reader and writer, over the fields of crate `link_fields`. Crate `link_format` says what bytes a table has and what reading
+// bytes gives; specs/Entries.antt says what the two entries answer.
 mod header;
 mod records;
 mod writer;
 
-use fields::narrow;
-use fields::refuse;
 use header::Header;
 use header::HeaderRead;
+use link_fields::fields::narrow;
+use link_fields::fields::refuse;
 use records::Counted;
 use table::MOST_ARCS;
 use table::MOST_WANTED;

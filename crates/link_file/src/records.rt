@@ -1,13 +1,13 @@
 // Reading the records of arcs.
-use crate::arcs;
-use crate::arcs::Arc;
-use crate::arcs::Previous;
-use crate::fields::Field;
-use crate::fields::LENGTH_WIDTH;
-use crate::fields::MAP_WIDTH;
-use crate::fields::NODE_WIDTH;
-use crate::fields::read_optional;
-use crate::fields::refuse;
+use link_fields::arcs;
+use link_fields::arcs::Arc;
+use link_fields::arcs::Previous;
+use link_fields::fields::Field;
+use link_fields::fields::LENGTH_WIDTH;
+use link_fields::fields::MAP_WIDTH;
+use link_fields::fields::NODE_WIDTH;
+use link_fields::fields::read_optional;
+use link_fields::fields::refuse;
 use table::MOST_ARCS;
 use table::Refusal;
 ghost use mathlib.Core.Path.{_≡_};
@@ -16,7 +16,8 @@ ghost use lib.ListN.{length};
 ghost use lib.Seq.{sets};
 ghost use Rattle.table.specs.Slices.{was, left};
 ghost use Rattle.link_format.specs.Format.{tails-of, heads-of, lengths-of, most-header, most-file};
-ghost use Rattle.link_file.specs.Says.{arc-before, Record-says, tally, records-from, arcs-from, Fillable};
+ghost use Rattle.link_fields.specs.Fields.{arc-before};
+ghost use Rattle.link_file.specs.Says.{Record-says, count-of, records-from, arcs-from, Fillable};
 
 // A record's answer: its arc with the next offset.
 pub enum RecordRead {
@@ -82,7 +83,7 @@ pub enum Counted {
 // The first pass: every record from an offset to the end of the file is read, and counted.
 pub fn count_records(file: &[u8], start: usize) -> Counted
     requires { ⌜ (start ≤ length (now file)) × (start ≤ most-header) ⌝ }
-    ensures { λ r. ⌜ r ≡ tally 0 (records-from (was file) start) ⌝ }
+    ensures { λ r. ⌜ r ≡ count-of 0 (records-from (was file) start) ⌝ }
 {
     let mut at = start;
     let mut count = 0;

@@ -1,13 +1,13 @@
 // Writing a table as a link file: the size of each part, and its bytes.
-use crate::arcs;
-use crate::arcs::Arc;
-use crate::arcs::Previous;
-use crate::fields::LENGTH_WIDTH;
-use crate::fields::MAP_WIDTH;
-use crate::fields::NODE_WIDTH;
-use crate::fields::put_field;
-use crate::fields::put_optional;
 use crate::header;
+use link_fields::arcs;
+use link_fields::arcs::Arc;
+use link_fields::arcs::Previous;
+use link_fields::fields::LENGTH_WIDTH;
+use link_fields::fields::MAP_WIDTH;
+use link_fields::fields::NODE_WIDTH;
+use link_fields::fields::put_field;
+use link_fields::fields::put_optional;
 use table::wide;
 ghost use mathlib.Core.Bool.{cond};
 ghost use mathlib.Core.Option.{none};
@@ -19,7 +19,8 @@ ghost use Rattle.table.specs.Slices.{was, left};
 ghost use Rattle.table.specs.Table.{most-arcs, arc, arcs-of, most-wanted};
 ghost use Rattle.link_format.specs.Buffers.{Equal-columns};
 ghost use Rattle.link_format.specs.Format.{most-record, all-nodes, header-bits, header-bytes, nodes-bytes, wanted-bytes, record-bytes, records-bytes};
-ghost use Rattle.link_file.specs.Says.{arc-of, arc-before, Put, Record-sized, Header-sized, Header-asks};
+ghost use Rattle.link_fields.specs.Fields.{arc-of, arc-before, Put};
+ghost use Rattle.link_file.specs.Says.{Record-sized, Header-sized, Header-asks};
 
 // The size of a field: its width where it stands, else 0.
 fn field_size(stands: bool, width: usize) -> usize

@@ -14,7 +14,7 @@ use Rattle.table.proofs.Basics.{true-or}
 use Rattle.auction.proofs.Demanded.{demands-met}
 use Rattle.auction.proofs.Made.{made}
 use Rattle.auction.specs.Plan.{plan-refusal, plan, routes-of, refused-plan}
-use Rattle.planner.specs.Plan.{answered}
+use Rattle.hand_over.specs.Answered.{answered}
 use Rattle.planner.specs.Promise.{Plans-kept, Refusals-touch-nothing}
 
 pub plans-kept : Plans-kept

@@ -3,14 +3,10 @@
 use mathlib.Core.Path.{_≡_}
 use mathlib.Core.List.{List}
 use Prim.Native.Nat.{ℕ}
-use Rattle.auction.specs.HandOver.{Answer, answer}
 use Rattle.auction.specs.Plan.{plan}
 use Rattle.table.specs.Slices.{Slice, was, left}
-use Rattle.planner.specs.declared.Planned.{Planned}
-
--- the code's answer, with what it left in the buffers
-unfoldable pub answered : Planned → (distances prices tree marks : List ℕ) → Answer
-answered r = answer (r .number) (r .place) (r .reached) (r .horizon) (r .iterations) (r .contractions) (r .extensions) (r .deletions)
+use Rattle.hand_over.specs.declared.Planned.{Planned}
+use Rattle.hand_over.specs.Answered.{answered}
 
 -- THE ANSWER IS THE PLAN, with what the buffers held before and what is left in them
 abbrev pub Plan-made : (n origin : ℕ) →

@@ -8,8 +8,9 @@ use mathlib.Core.Logic.{_⊎_}
 use Prim.Native.Nat.{ℕ, _^_}
 use Rattle.table.specs.Table.{table-of, Below}
 use Rattle.auction.specs.Demands.{Demands}
-use Rattle.planner.specs.declared.Planned.{Planned}
-use Rattle.planner.specs.Plan.{answered, Plan-made}
+use Rattle.hand_over.specs.declared.Planned.{Planned}
+use Rattle.hand_over.specs.Answered.{answered}
+use Rattle.planner.specs.Plan.{Plan-made}
 
 -- `Below` is what the length column's type says, `Plan-made` is plan_routes' contract.
 unfoldable pub Plans-kept : Type 0

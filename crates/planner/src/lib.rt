@@ -7,30 +7,16 @@ ghost use Rattle.auction.specs.Auction.{fresh};
 ghost use Rattle.solver.specs.Seen.{seen, Sized};
 ghost use Rattle.auction.specs.Plan.{routes-of};
 ghost use Rattle.table.specs.Slices.{was, left};
-ghost use Rattle.planner.specs.Plan.{answered, Plans};
-ghost use Rattle.planner.specs.ReadOff.{Fitting};
+ghost use Rattle.hand_over.specs.Answered.{answered};
+ghost use Rattle.hand_over.specs.ReadOff.{Fitting};
+ghost use Rattle.planner.specs.Plan.{Plans};
+use hand_over::Planned;
 use hand_over::hand_over;
 use refusals::table_refusal;
 use solver::run::run;
 use solver::state::Progress;
 use solver::state::RunState;
 use table::Refusal;
-
-mod hand_over;
-mod refusals;
-
-// Number and place of a refusal, number 0 where there is none; nodes reached, horizon and the counts of the run.
-#[repr(C)]
-pub struct Planned {
-    pub number: u32,
-    pub place: u32,
-    pub reached: u32,
-    pub horizon: u64,
-    pub iterations: u64,
-    pub contractions: u64,
-    pub extensions: u64,
-    pub deletions: u64,
-}
 
 // The run from the fresh state that is lent, and what it hands over.
 fn run_lent(

@@ -3,18 +3,16 @@ use mathlib.Core.Path.{_≡_}
 use mathlib.Core.Bool.{Bool, true, false}
 use mathlib.Core.List.{List, [], _∷_, _++_}
 use mathlib.Core.Logic.{_⊎_}
-use Prim.Native.Nat.{ℕ, _+_, _*_, _-_, _≤_, _<_}
-use lib.ListN.{length}
-use Rattle.table.specs.Table.{most-nodes}
+use Prim.Native.Nat.{ℕ, _-_, _≤_, _<_}
 use Rattle.table.specs.Slices.{Slice, was, left}
-use Rattle.planner.specs.declared.Planned.{Planned}
-use Rattle.planner.specs.Plan.{answered}
-use Rattle.sheet.specs.Sheet.{Finished, finished, node-count, has-distance, has-path, passing, path-nodes, node-lines, path-lines, marks-lines, after-nodes, from-counts, from-reached, sheet}
+use Rattle.hand_over.specs.declared.Planned.{Planned}
+use Rattle.hand_over.specs.Answered.{answered}
+use Rattle.sheet.specs.Sheet.{Finished, finished, node-count, has-distance, has-path, passing, node-lines, path-lines, marks-lines, after-nodes, from-counts, from-reached, sheet}
+use Rattle.sheet_lines.specs.Buffers.{Begins}
 use Rattle.printer.specs.declared.lines.Cursor.{Cursor}
 use Rattle.printer.specs.declared.lines.Cursor.the-variants.{Start, Reached, Counts, Node, Path, End}
 use Rattle.printer.specs.declared.lines.Line.{Line}
 use Rattle.printer.specs.declared.lines.Line.the-variants.{Put, Last}
-use Rattle.printer.specs.Buffers.{Begins}
 
 -- WHAT IS PRINTED, as the code has it: the answer, and the columns of a plan
 unfoldable pub printing : Planned → (origin : ℕ) → (tails heads wanted distances prices tree marks : List ℕ) → Finished
@@ -37,16 +35,6 @@ rest p Counts = from-counts p
 rest p (Node v) = nodes-from p v
 rest p (Path v) = paths-from p v
 rest p End = []
-
--- how many bytes a number, the nodes of a path and a line have at the most
-abbrev pub most-digits : ℕ
-most-digits = 20
-
-abbrev pub most-path : ℕ
-most-path = most-nodes * (1 + most-digits)
-
-abbrev pub line-room : ℕ
-line-room = 32768
 
 -- A line was put at the start of a buffer: the next of those to come, which has at least its line end, and the cursor given back leads to the rest of them.
 pub record Puts (p : Finished) (line : List ℕ) (later : List (List ℕ)) (answer : Line) (before after : List ℕ) : Type 0 where

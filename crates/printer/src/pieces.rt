@@ -2,15 +2,14 @@
 ghost use Prim.Native.Nat.{_≤_};
 ghost use lib.ListN.{length};
 ghost use Rattle.table.specs.Slices.{left};
-ghost use Rattle.printer.specs.Lines.{lent-printing, line-room};
+ghost use Rattle.sheet_lines.specs.Room.{line-room};
+ghost use Rattle.printer.specs.Lines.{lent-printing};
 ghost use Rattle.printer.specs.Pieces.{Continues};
 use crate::lines::Cursor;
 use crate::lines::Line;
 use crate::lines::next_line;
-use planner::Planned;
-
-// What every line has room in: a number takes at most 20 bytes, and a path at most 1,024 numbers, each after a space.
-pub const LINE_ROOM: usize = 32768;
+use hand_over::Planned;
+use sheet_lines::LINE_ROOM;
 
 // How many bytes a piece has, and the cursor of the line behind it. No byte: there is no line any more.
 pub struct Piece {

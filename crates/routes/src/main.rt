@@ -2,10 +2,10 @@
 // crates/sheet (specs/Printed.antt); the two calls that are made here are input::plan_input, once, and printer::next_piece, until there is no more.
 ghost use Prim.Native.Nat.{_≤_};
 ghost use lib.ListN.{length};
-ghost use Rattle.printer.specs.Lines.{line-room};
+ghost use Rattle.sheet_lines.specs.Room.{line-room};
 ghost use Rattle.input.specs.Input.{Prints};
+use hand_over::Planned;
 use input::MOST_INPUT;
-use planner::Planned;
 use printer::Cursor;
 use table::MOST_ARCS;
 use table::MOST_NODES;

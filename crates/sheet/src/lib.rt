@@ -1,1 +1,1 @@
-// The printed sheet as definitions, with the promises about it. printer has the code.
+// The printed sheet as definitions, with the promises about it. sheet_lines and printer have the code.

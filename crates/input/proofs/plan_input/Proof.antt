@@ -17,6 +17,15 @@ entry c =
 abbrev reading : tie.After-wanted → tie.After-read-input
 reading c = let heads = c .before .before .before .before in heads .before .before .before
 
+-- the planning of what was read, from where the buffers are handed back; and the reading before it
+abbrev planning : tie.After-slice-known16 → tie.After-plan-read
+planning c = let prices = c .before .before .before .before .before in prices .before .before .before
+
+abbrev reading-before : tie.After-plan-read → tie.After-read-input
+reading-before c =
+    let columns = c .before .before .before .before .before in
+    reading (columns .before .before .before .before .before)
+
 read-input-requires : tie.Need-read-input-requires
 read-input-requires c κs = search needs
 
@@ -42,37 +51,36 @@ plan-read-requires c κs =
       ),
     )
 
+-- each column keeps its length in the reading, each buffer in the planning
 same-length : tie.Need-same-length
-same-length c = search needs
+same-length c = reading-before (planning c) .read-input .kept .1 .0
 
 same-length-2 : tie.Need-same-length-2
-same-length-2 c = search needs
+same-length-2 c = reading-before (planning c) .read-input .kept .1 .1 .0
 
 same-length-3 : tie.Need-same-length-3
-same-length-3 c = search needs
+same-length-3 c = reading-before (planning c) .read-input .kept .1 .1 .1 .0
 
 same-length-4 : tie.Need-same-length-4
-same-length-4 c = search needs
+same-length-4 c = reading-before (planning c) .read-input .kept .1 .1 .1 .1 .0
 
 same-length-5 : tie.Need-same-length-5
-same-length-5 c = search needs
+same-length-5 c = planning c .plan-read .kept .1 .1 .1 .1 .1 .0
 
 same-length-6 : tie.Need-same-length-6
-same-length-6 c = search needs
+same-length-6 c = planning c .plan-read .kept .1 .1 .1 .1 .1 .1 .0
 
 same-length-7 : tie.Need-same-length-7
-same-length-7 c = search needs
+same-length-7 c = planning c .plan-read .kept .1 .1 .1 .1 .1 .1 .1 .0
 
 same-length-8 : tie.Need-same-length-8
-same-length-8 c = search needs
+same-length-8 c = planning c .plan-read .kept .1 .1 .1 .1 .1 .1 .1 .1 .0
 
 returns : tie.Need-returns
 unfolding printed
 returns c =
-    let prices = c .before .before .before .before .before in
-    let plan = prices .before .before .before in
-    let columns = plan .before .before .before .before .before in
-    let call = reading (columns .before .before .before .before .before) in
+    let plan = planning c in
+    let call = reading-before plan in
     let input = entry call .args .input .now in
     record {
       counts = call .read-input .ensures .1;

@@ -14,7 +14,7 @@ use borrow.Author.Tests.{le-leb, lt-leb}
 use Rattle.link_format.specs.Format.{count-up, counts-from}
 use Rattle.link_format.specs.Reading.{_>>=_, got, refused, and-then, give, field, number, read-nodes}
 use Rattle.link_file.specs.Says.{nodes-in, Nodes-got, Nodes-says}
-use Rattle.link_file.proofs.Columns.{Column, column-begins, column-next}
+use Rattle.link_fields.proofs.Columns.{Column, column-begins, column-next}
 use Rattle.link_file.specs.declared.header.NodesRead.{NodesRead}
 use Rattle.link_file.specs.declared.header.NodesRead.the-variants.{Read, Cut}
 use Rattle.table.proofs.Basics.{and-assoc, and-true}

@@ -20,7 +20,8 @@ use Rattle.link_file.specs.declared.header.HeaderRead.{HeaderRead}
 use Rattle.link_file.specs.declared.header.HeaderRead.the-variants as Headers
 use Rattle.link_file.specs.declared.header.WantedRead.{WantedRead}
 use Rattle.link_file.specs.declared.header.WantedRead.the-variants.{Read, Refused}
-use Rattle.link_file.specs.Says.{Header-says, Wanted-says, Got, Cut-inside, Nodes-got, Wanted-got, Header-got, wanted-in}
+use Rattle.link_fields.specs.Fields.{Got, Cut-inside}
+use Rattle.link_file.specs.Says.{Header-says, Wanted-says, Nodes-got, Wanted-got, Header-got, wanted-in}
 use Rattle.link_file.proofs.header.Nodes.{nodes-read, nodes-cut, length-nodes-in}
 use Rattle.table.proofs.Basics.{not-both}
 

@@ -10,8 +10,8 @@ use Rattle.link_format.specs.Buffers.{too-short, reading}
 use Rattle.link_format.specs.Reading.{read-file}
 use Rattle.link_format.proofs.Counts.{Roomy, roomy}
 use Rattle.link_format.proofs.Outcomes.{refused-by, reading-short, reading-roomy}
-use Rattle.link_file.specs.Says.{Header-got, tally, records-from}
-use Rattle.link_file.proofs.ReaderWays.{none-read, header-refuses, records-refuse, tally-accepted, tally-few, read-whole}
+use Rattle.link_file.specs.Says.{Header-got, count-of, records-from}
+use Rattle.link_file.proofs.ReaderWays.{none-read, header-refuses, records-refuse, count-accepted, count-of-few, read-whole}
 use Rattle.link_file.specs.declared.records.Counted.the-variants.{Arcs}
 use Rattle.link_file.specs.declared.header.Header.{Header}
 use Rattle.link_file.proofs.header.Ways.{header-as-refused, header-as-got}
@@ -66,7 +66,7 @@ module _ (c : tie.After-arcs) where
   abbrev behind : tie.After-header
   behind = c .before .before .before .before
 
-  counted : tally 0 (records-from (file (start (fitting behind))) (header behind .next)) ≡ Arcs (c .arcs .given .0 .0)
+  counted : count-of 0 (records-from (file (start (fitting behind))) (header behind .next)) ≡ Arcs (c .arcs .given .0 .0)
   counted = sym (c .before .before .count-records .ensures) ∙ c .arcs .given .1
 
 -- where the buffers were filled
@@ -127,7 +127,7 @@ fill-records-requires c κs =
     record {
       inside = headed h .inside;
       short = headed h .short;
-      good = tally-accepted _ (counted a);
+      good = count-accepted _ (counted a);
       tails-room = e .tails-room;
       heads-room = e .heads-room;
       lengths-room = e .lengths-room;
@@ -137,7 +137,7 @@ all-read-requires : tie.Need-all-read-requires
 all-read-requires c κs =
     let a = good (c .before .before .before .before .before .before) in
     let g = headed (behind a) in
-    (g .nodes, (g .few, tally-few _ _ (counted a)))
+    (g .nodes, (g .few, count-of-few _ _ (counted a)))
 
 returns-2 : tie.Need-returns-2
 returns-2 c =

@@ -12,7 +12,7 @@ use Rattle.link_format.specs.Format.{tails-of, heads-of, lengths-of}
 use Rattle.link_format.specs.Reading.{Outcome, got, refused, accepted, list-got, and-then, give, read-record}
 use Rattle.link_format.proofs.Records.{in-front}
 use Rattle.link_file.specs.Says.{Record-got, Fillable, arcs-from}
-use Rattle.link_file.proofs.Columns.{Column, column-begins, column-next}
+use Rattle.link_fields.proofs.Columns.{Column, column-begins, column-next}
 use Rattle.link_file.proofs.records.Runs.{remaining, Standing, standing-next, run-none, run-full, run-refused, run-more}
 use Rattle.table.proofs.Basics.{not-both}
 use lib.Seq.{sets}

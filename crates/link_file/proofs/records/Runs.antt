@@ -10,8 +10,9 @@ use lib.Seq.{take-all, drop-drop}
 use Rattle.table.specs.Table.{Arc, most-arcs}
 use Rattle.link_format.specs.Reading.{Outcome, got, refused, and-then, give, read-record, read-records}
 use Rattle.link_format.proofs.Records.{in-front, records-more, records-full, records-none}
-use Rattle.link_file.specs.Says.{Record-got, Record-says, arc-of, tally}
-use Rattle.link_file.specs.declared.arcs.Arc as Code
+use Rattle.link_fields.specs.Fields.{arc-of}
+use Rattle.link_file.specs.Says.{Record-got, Record-says, count-of}
+use Rattle.link_fields.specs.declared.arcs.Arc as Code
 use Rattle.link_file.specs.declared.records.RecordRead.{RecordRead}
 use Rattle.link_file.specs.declared.records.RecordRead.the-variants.{Record, Refused}
 use Rattle.link_format.specs.Format.{most-record, most-header}
@@ -54,10 +55,10 @@ module _ (file : List ℕ) (at count : ℕ) (before : Option Arc) where
           rw one-less (records-more (most-arcs - (count + 1)) before at (drop at file) left ∙ rw (r .is, drop-drop (next - at) at file, there))
 
 -- the count of one record more
-pub tally-more : (k : ℕ) (a : Arc) (o : Outcome (List Arc)) → tally k (in-front a o) ≡ tally (k + 1) o
-unfolding and-then give tally
-tally-more k a (got more next rest) = let e : k + suc (length more) ≡ k + 1 + length more = omega arith in rw e
-tally-more k a (refused n p) = refl
+pub count-more : (k : ℕ) (a : Arc) (o : Outcome (List Arc)) → count-of k (in-front a o) ≡ count-of (k + 1) o
+unfolding and-then give count-of
+count-more k a (got more next rest) = let e : k + suc (length more) ≡ k + 1 + length more = omega arith in rw e
+count-more k a (refused n p) = refl
 
 -- Where both passes stand: inside the file, after so many records behind a header.
 pub record Standing (file : List ℕ) (at count : ℕ) : Type 0 where

@@ -11,7 +11,8 @@ use borrow.Author.Tests.{lt-ltb, le-ltb, eq-eqb, ne-eqb}
 use Rattle.table.specs.Table.{Arc, arc}
 use Rattle.link_format.specs.Format.{last-head, has, record-bits}
 use Rattle.link_format.specs.Reading.{_>>_, _>>=_, got, refused, and-then, give, here, refuse-if, field, optional, implied, forbidden, read-record}
-use Rattle.link_file.specs.Says.{Got, Cut-inside, Record-got}
+use Rattle.link_fields.specs.Fields.{Got, Cut-inside}
+use Rattle.link_file.specs.Says.{Record-got}
 
 module _ (before : Option Arc) (part : List ℕ) (at : ℕ) (bits : ℕ) (one : field 1 at part ≡ got bits (at + 1) (drop 1 part)) where
   pub refused-bits : forbidden before bits ≡ true → read-record before at part ≡ refused 10 at

@@ -12,8 +12,9 @@ use lib.Seq.{drop-cons}
 use Rattle.table.specs.Table.{most-wanted}
 use Rattle.link_format.specs.Format.{bytes, has, field-bytes, counts-from, all-nodes, nodes-bytes, wanted-bytes, header-bits, header-bytes}
 use Rattle.link_format.proofs.Numbers.{length-bytes}
-use Rattle.link_file.specs.Says.{Put, Header-sized}
-use Rattle.link_file.proofs.Columns.{Column, column-begins, column-piece}
+use Rattle.link_fields.specs.Fields.{Put}
+use Rattle.link_file.specs.Says.{Header-sized}
+use Rattle.link_fields.proofs.Columns.{Column, column-begins, column-piece}
 use Rattle.link_file.proofs.writer.Pieces.{put-byte, put-then, room-first, room-rest}
 use Rattle.link_file.proofs.writer.Sizes.{length-field}
 

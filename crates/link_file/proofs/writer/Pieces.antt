@@ -9,8 +9,8 @@ use lib.ListN.{length, set, length-append, length-set}
 use lib.Seq.{length-sets}
 use Rattle.table.specs.Table.{Arc}
 use Rattle.link_format.specs.Format.{has, field-bytes, fields-bytes, record-bits, record-bytes}
-use Rattle.link_file.specs.Says.{Put}
-use Rattle.link_file.proofs.Columns.{sets-append}
+use Rattle.link_fields.specs.Fields.{Put}
+use Rattle.link_fields.proofs.Columns.{sets-append}
 
 pub put-byte : (out : List ℕ) (at b : ℕ) → Put out at (b ∷ []) (at + 1) (set out at b)
 put-byte out at b = record { on = refl; is = refl }

@@ -12,8 +12,9 @@ use Rattle.table.specs.Table.{Arc, arc, arcs-of}
 use Rattle.link_format.specs.Buffers.{Equal-columns}
 use Rattle.link_format.specs.Format.{most-record, has, field-bytes, fields-bytes, record-bits, record-bytes, records-bytes}
 use Rattle.link_format.proofs.Numbers.{length-bytes}
-use Rattle.link_file.specs.Says.{Put, Record-sized}
-use Rattle.link_file.proofs.Columns.{Column, column-begins, column-piece}
+use Rattle.link_fields.specs.Fields.{Put}
+use Rattle.link_file.specs.Says.{Record-sized}
+use Rattle.link_fields.proofs.Columns.{Column, column-begins, column-piece}
 
 pub length-field : (stands : Bool) (width value : ℕ) → length (field-bytes stands width value) ≡ cond stands width 0
 unfolding field-bytes

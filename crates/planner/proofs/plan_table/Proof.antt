@@ -9,14 +9,13 @@ use Rattle.auction.specs.Auction.{fresh}
 use Rattle.solver.specs.declared.state.RunState.{RunState}
 use Rattle.solver.specs.Seen.{held, first-of, Sized}
 use Rattle.auction.specs.Plan.{routes-of}
-use Rattle.planner.specs.ReadOff.{Fitting}
+use Rattle.hand_over.specs.ReadOff.{Fitting}
 use Rattle.planner.proofs.Planning.{origin-low, fresh-so, part-fits, part-long}
-use borrow.Author.Needs.{needs}
 use Rattle.planner.proofs.plan_table.Statement.{statement}
 use Rattle.planner.proofs.plan_table.Tie as tie
 
 -- THE PLACES on the way, each named from the one after it: before the state is made; where it is fresh, with room for the most nodes; where its
--- arrays are locals; where their first n entries are lent.
+-- arrays are locals; where their first n entries are lent; where the answer has been made.
 module _ (c : tie.After-slice-known4) where
   abbrev start : tie.Start
   start = c .before .before .before .before .before .before .before .before
@@ -64,6 +63,10 @@ module _ (c : tie.After-status2) where
 module _ (c : tie.After-run-lent) where
   abbrev lent : tie.After-status2
   lent = c .before .before .before .before .before
+
+module _ (c : tie.After-slice-known8) where
+  abbrev handed : tie.After-run-lent
+  handed = c .before .before .before .before .before .before .before .before .before .before .before .before .before
 
 fresh-requires : tie.Need-fresh-requires
 fresh-requires c κs =
@@ -132,21 +135,22 @@ run-lent-requires c κs =
       ),
     )
 
+-- each buffer keeps its length
 same-length : tie.Need-same-length
-same-length c = search needs
+same-length c = handed c .run-lent .kept .1 .1 .1 .1 .1 .1 .1 .1 .1 .1 .1 .0
 
 same-length-2 : tie.Need-same-length-2
-same-length-2 c = search needs
+same-length-2 c = handed c .run-lent .kept .1 .1 .1 .1 .1 .1 .1 .1 .1 .1 .1 .1 .0
 
 same-length-3 : tie.Need-same-length-3
-same-length-3 c = search needs
+same-length-3 c = handed c .run-lent .kept .1 .1 .1 .1 .1 .1 .1 .1 .1 .1 .1 .1 .1 .0
 
 same-length-4 : tie.Need-same-length-4
-same-length-4 c = search needs
+same-length-4 c = handed c .run-lent .kept .1 .1 .1 .1 .1 .1 .1 .1 .1 .1 .1 .1 .1 .1 .0
 
 returns : tie.Need-returns
 returns c =
-    let r = c .before .before .before .before .before .before .before .before .before .before .before .before .before in
+    let r = handed c in
     let f = made (locals (lent r)) in
     let a = s f .args in
     r .run-lent .ensures ∙ ap (λ m. routes-of (table-of m (a .origin) (a .tails .now) (a .heads .now) (a .lengths .now)) (a .wanted .now)) (sym (status-part f))

@@ -2,14 +2,13 @@
 use mathlib.Core.Path.{_≡_, refl, sym, subst, _∙_}
 use mathlib.Core.List.{List}
 use Prim.Native.Nat.{ℕ}
-use native.Mathlib.Omega.{arith}
 use lib.ListN.{length}
+use Rattle.table.specs.Table.{Table, table-of}
 use Rattle.auction.specs.Auction.{iterations, state}
 use Rattle.solver.specs.Seen.{seen}
 use Rattle.solver.proofs.Columns.{nodes-so}
-use Rattle.planner.specs.ReadOff.{Fitting}
+use Rattle.hand_over.specs.ReadOff.{Fitting}
 use Rattle.planner.proofs.Planning.{known-so, ends-so, ends-held, place-low}
-use borrow.Author.Needs.{needs}
 use Rattle.planner.proofs.run_lent.Statement.{statement}
 use Rattle.planner.proofs.run_lent.Tie as tie
 
@@ -30,6 +29,9 @@ module _ (c : tie.After-run) where
   abbrev n : ℕ
   n = length (s .args .status .now)
 
+  abbrev t : Table
+  t = table-of n (s .args .origin) (s .args .tails .now) (s .args .heads .now) (s .args .lengths .now)
+
   abbrev path : List ℕ
   path = c .run .last .1 .1 .1 .1 .1 .1 .0
 
@@ -49,11 +51,12 @@ module _ (c : tie.After-run) where
   statuses = c .run .kept .1 .1 .1 .1 .1 .1 .1 .1 .1 .1 .0
 
   bounds : length bound ≡ length status
-  bounds = omega (arith, c .run .kept .1 .1 .1 .1 .1 .1 .1 .1 .0, s .pre .1 .1 .0 .1 .bounds, statuses)
+  bounds = c .run .kept .1 .1 .1 .1 .1 .1 .1 .1 .0 ∙ s .pre .1 .1 .0 .1 .bounds ∙ sym statuses
 
   kepts : length kept ≡ length status
-  kepts = omega (arith, c .run .kept .1 .1 .1 .1 .1 .1 .1 .1 .1 .0, s .pre .1 .1 .0 .1 .kepts, statuses)
+  kepts = c .run .kept .1 .1 .1 .1 .1 .1 .1 .1 .1 .0 ∙ s .pre .1 .1 .0 .1 .kepts ∙ sym statuses
 
+-- where the arrays are lent to the hand-over, and where the answer has been made
 module _ (c : tie.After-status) where
   abbrev ended : tie.After-run
   ended = c .before .before .before .before .before .before .before .before .before
@@ -61,6 +64,10 @@ module _ (c : tie.After-status) where
 module _ (c : tie.After-hand-over) where
   abbrev lent : tie.After-status
   lent = c .before .before .before .before .before .before .before .before .before
+
+module _ (c : tie.After-slice-known18) where
+  abbrev handed : tie.After-hand-over
+  handed = c .before .before .before .before .before .before .before .before
 
 run-requires : tie.Need-run-requires
 run-requires c κs = let s = start (known (c .before .before .before .before .before)) in (s .pre .0, (s .pre .1 .0, (s .pre .1 .1 .0, s .pre .1 .1 .1 .0)))
@@ -71,7 +78,7 @@ hand-over-requires c κs =
     let r = ended (c .before .before .before .before .before .before .before .before) in
     let a = s r .args in
     let pre = s r .pre in (
-      known-so _ (a .wanted .now) (r .run .result .missing) (path r) (price r) (bound r) (kept r) (status r) (r .run .result .progress) (r .run .ensures) (bounds r),
+      known-so (t r) (a .wanted .now) (r .run .result .missing) (path r) (price r) (bound r) (kept r) (status r) (r .run .result .progress) (r .run .ensures) (bounds r),
       (
         ends-so (n r) (a .origin) (a .tails .now) (a .heads .now) (a .lengths .now) (a .wanted .now) (pre .0 .0) (pre .0 .1) (pre .1 .0)
             (kept r) (status r) (kepts r) (sym (statuses r)),
@@ -86,40 +93,41 @@ hand-over-requires c κs =
       ),
     )
 
+-- what is lent keeps its length: the arrays in the run, the buffers in the hand-over
 same-length : tie.Need-same-length
-same-length c = search needs
+same-length c = ended (lent (handed c)) .run .kept .1 .1 .1 .1 .1 .1 .0
 
 same-length-2 : tie.Need-same-length-2
-same-length-2 c = search needs
+same-length-2 c = ended (lent (handed c)) .run .kept .1 .1 .1 .1 .1 .1 .1 .0
 
 same-length-3 : tie.Need-same-length-3
-same-length-3 c = search needs
+same-length-3 c = ended (lent (handed c)) .run .kept .1 .1 .1 .1 .1 .1 .1 .1 .0
 
 same-length-4 : tie.Need-same-length-4
-same-length-4 c = search needs
+same-length-4 c = ended (lent (handed c)) .run .kept .1 .1 .1 .1 .1 .1 .1 .1 .1 .0
 
 same-length-5 : tie.Need-same-length-5
-same-length-5 c = search needs
+same-length-5 c = ended (lent (handed c)) .run .kept .1 .1 .1 .1 .1 .1 .1 .1 .1 .1 .0
 
 same-length-6 : tie.Need-same-length-6
-same-length-6 c = search needs
+same-length-6 c = handed c .hand-over .kept .1 .1 .1 .1 .1 .1 .1 .0
 
 same-length-7 : tie.Need-same-length-7
-same-length-7 c = search needs
+same-length-7 c = handed c .hand-over .kept .1 .1 .1 .1 .1 .1 .1 .1 .0
 
 same-length-8 : tie.Need-same-length-8
-same-length-8 c = search needs
+same-length-8 c = handed c .hand-over .kept .1 .1 .1 .1 .1 .1 .1 .1 .1 .0
 
 same-length-9 : tie.Need-same-length-9
-same-length-9 c = search needs
+same-length-9 c = handed c .hand-over .kept .1 .1 .1 .1 .1 .1 .1 .1 .1 .1 .0
 
 returns : tie.Need-returns
 returns c =
-    let h = c .before .before .before .before .before .before .before .before in
+    let h = handed c in
     let r = ended (lent h) in
     let a = s r .args in
     let pre = s r .pre in
-    h .hand-over .ensures _ (a .wanted .now) (path r) (price r)
+    h .hand-over .ensures (t r) (a .wanted .now) (path r) (price r)
     (nodes-so (n r) (a .origin) (a .tails .now) (a .heads .now) (a .lengths .now) (pre .0 .0) (pre .0 .1) ∙ sym (statuses r))
     (ends-held (n r) (a .origin) (a .tails .now) (a .heads .now) (a .lengths .now) (a .wanted .now) (pre .0 .0) (pre .0 .1) (pre .1 .0))
     refl (r .run .ensures)

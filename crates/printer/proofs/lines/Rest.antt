@@ -10,15 +10,15 @@ use borrow.Author.Tests.{eq-eqb, ne-eqb}
 use Rattle.table.specs.Table.{most-nodes}
 use Rattle.auction.specs.Demands.{distance-of, price-of, link-of}
 use Rattle.paths.specs.Listing.{listing, tree-in}
+use Rattle.sheet.specs.Text.{text, decimal, spaced}
+use Rattle.sheet.specs.Sheet.{Finished, arc-text, reached-line, counts-line, path-nodes, reached-nodes, after-nodes, after-counts, passing, node-count, has-distance, has-path, node-line, path-line, marks-line, node-lines, path-lines, marks-lines, from-reached, refused-line, sheet}
+use Rattle.sheet_lines.specs.Buffers.{Begins}
+use Rattle.sheet_lines.specs.declared.tally.Tally.{Tally}
+use Rattle.sheet_lines.specs.Tally.{tally-of}
 use Rattle.printer.specs.declared.lines.Cursor.{Cursor}
 use Rattle.printer.specs.declared.lines.Cursor.the-variants.{Start, Node, Path, End}
 use Rattle.printer.specs.declared.lines.Line.{Line}
 use Rattle.printer.specs.declared.lines.Line.the-variants.{Put, Last}
-use Rattle.printer.specs.Buffers.{Begins}
-use Rattle.sheet.specs.Text.{text, decimal, spaced}
-use Rattle.sheet.specs.Sheet.{Finished, arc-text, reached-line, counts-line, path-nodes, reached-nodes, after-nodes, after-counts, passing, node-count, has-distance, has-path, node-line, path-line, marks-line, node-lines, path-lines, marks-lines, from-reached, refused-line, sheet}
-use Rattle.printer.specs.declared.tally.Tally.{Tally}
-use Rattle.printer.specs.Tally.{tally-of}
 use Rattle.printer.specs.Lines.{First-passing, nodes-from, paths-from, rest, Gives}
 use Rattle.printer.proofs.lines.Passing.{passing-here, passing-none}
 

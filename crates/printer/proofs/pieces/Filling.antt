@@ -10,9 +10,9 @@ use borrow.Rule.Slice.PartMut.{midOf, postOf, putMid, same-len-mid, put-same}
 use Rattle.table.proofs.Basics.{same-or}
 use Rattle.sheet.specs.Sheet.{Finished}
 use Rattle.sheet.specs.Printed.{joined}
+use Rattle.sheet_lines.specs.Buffers.{Begins}
 use Rattle.printer.specs.declared.lines.Cursor.{Cursor}
 use Rattle.printer.specs.declared.lines.Line.the-variants.{Put, Last}
-use Rattle.printer.specs.Buffers.{Begins}
 use Rattle.printer.specs.Lines.{rest, Gives}
 use Rattle.printer.specs.Pieces.{Continues}
 

@@ -1,7 +1,6 @@
 -- `routes::print_pieces` ends: each piece but the last has a line, so fewer lines are to come after it. Assumes nothing.
 use mathlib.Core.Path.{_≡_, refl, sym, _∙_}
 use native.Mathlib.Omega.{arith}
-use borrow.Author.Needs.{needs}
 use lib.ListN.{length}
 use lib.Seq.{length-take-le}
 use Rattle.printer.specs.Lines.{printing, rest}

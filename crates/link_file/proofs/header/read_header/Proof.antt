@@ -12,8 +12,9 @@ use Rattle.table.specs.Refusals.{count-bad}
 use Rattle.link_format.specs.Format.{has, header-bits}
 use Rattle.link_format.specs.Reading.{forbidden-header, got, field, optional}
 use Rattle.link_format.proofs.Counts.{few-nodes}
-use Rattle.link_file.specs.Says.{Optional-says, Cut-inside, Got, Field-says, Wanted-got, Wanted-says, Header-says, wanted-in}
-use Rattle.link_file.proofs.fields.Parts.{as-got, as-cut, renamed, first-byte}
+use Rattle.link_fields.specs.Fields.{Optional-says, Cut-inside, Got, Field-says}
+use Rattle.link_file.specs.Says.{Wanted-got, Wanted-says, Header-says, wanted-in}
+use Rattle.link_fields.proofs.fields.Parts.{as-got, as-cut, renamed, first-byte}
 use Rattle.link_file.proofs.header.Ways.{wanted-as-refused, wanted-as-got, header-empty, header-forbidden, cut-n, bad-n, cut-origin, wanted-refused, header-needless, header-got}
 use Rattle.link_format.proofs.Outcomes.{refused-by}
 use Rattle.link_file.proofs.header.read_header.Statement.{statement}

@@ -6,8 +6,9 @@ use native.Mathlib.Omega.{arith}
 use borrow.Author.Tests.{not-true, not-false}
 use denote.Ref.{now}
 use Rattle.link_format.specs.Reading.{field}
-use Rattle.link_file.specs.Says.{Cut-inside, Got, Wanted-says}
-use Rattle.link_file.proofs.fields.Parts.{as-got, as-cut}
+use Rattle.link_fields.specs.Fields.{Cut-inside, Got}
+use Rattle.link_file.specs.Says.{Wanted-says}
+use Rattle.link_fields.proofs.fields.Parts.{as-got, as-cut}
 use Rattle.link_file.proofs.header.Nodes.{nodes-as-got, nodes-as-cut}
 use Rattle.link_file.proofs.header.Ways.{wanted-absent, wanted-cut-count, wanted-many, wanted-cut, wanted-got}
 use mathlib.Core.List.{List}

@@ -9,8 +9,9 @@ use borrow.Author.Needs.{needs}
 use lib.ListN.{length, drop, length-drop}
 use Rattle.table.specs.Table.{Arc, most-arcs}
 use Rattle.link_format.specs.Reading.{read-records}
-use Rattle.link_file.specs.Says.{tally, arc-before, arc-of, Record-got}
-use Rattle.link_file.proofs.records.Runs.{remaining, Standing, standing-next, run-none, run-full, run-refused, run-more, tally-more, part-is, answer-record, answer-refused}
+use Rattle.link_fields.specs.Fields.{arc-before, arc-of}
+use Rattle.link_file.specs.Says.{count-of, Record-got}
+use Rattle.link_file.proofs.records.Runs.{remaining, Standing, standing-next, run-none, run-full, run-refused, run-more, count-more, part-is, answer-record, answer-refused}
 use Rattle.link_file.specs.declared.records.Counted.the-variants.{Arcs, Refused}
 use Rattle.table.specs.Refusals.{refusal}
 use Rattle.link_file.proofs.records.count_records.Statement.{statement}
@@ -19,7 +20,7 @@ use Rattle.link_file.proofs.records.count_records.Tie as tie
 -- The loop: the count so far with what is left to read gives the answer for all.
 record Counting (file : List ℕ) (start at count : ℕ) (before : Option Arc) : Type 0 where
   stands : Standing file at count
-  same : tally count (remaining file at count before) ≡ tally 0 (read-records most-arcs none start (drop start file))
+  same : count-of count (remaining file at count before) ≡ count-of 0 (read-records most-arcs none start (drop start file))
 
 abbrev Inv-loop : tie.InvT-loop
 Inv-loop file start at₀ count₀ previous₀ at count previous = Counting file start at count (arc-before previous)
@@ -66,11 +67,11 @@ refuse-requires : tie.Need-refuse-requires Inv-loop μ-loop
 refuse-requires c κs = omega arith
 
 returns : tie.Need-returns Inv-loop μ-loop
-unfolding tally
+unfolding count-of
 returns c =
     let t = c .before in
     let l = t .before .before in
-    ap Refused (c .refuse .ensures) ∙ sym (ap (tally (l .loop .count)) (run-full _ _ _ _ (t .before .loop-test .taken) (t .if1 .taken))) ∙ l .loop .inv .same
+    ap Refused (c .refuse .ensures) ∙ sym (ap (count-of (l .loop .count)) (run-full _ _ _ _ (t .before .loop-test .taken) (t .if1 .taken))) ∙ l .loop .inv .same
 
 sub-read-record : tie.Need-sub-read-record Inv-loop μ-loop
 sub-read-record c = omega arith
@@ -103,26 +104,26 @@ loop-again c =
     let r = read (c .before) in
     record {
       stands = standing-next (l .loop .inv .stands) _ _ _ (few t) r;
-      same = sym (tally-more _ _ _) ∙ ap (tally (l .loop .count)) (sym (run-more _ _ _ _ (more t) (few t) r)) ∙ l .loop .inv .same;
+      same = sym (count-more _ _ _) ∙ ap (count-of (l .loop .count)) (sym (run-more _ _ _ _ (more t) (few t) r)) ∙ l .loop .inv .same;
     }
 
 enum-known-refusal : tie.Need-enum-known-refusal Inv-loop μ-loop
 enum-known-refusal c = search needs
 
 returns-2 : tie.Need-returns-2 Inv-loop μ-loop
-unfolding tally refusal
+unfolding count-of refusal
 returns-2 c =
     let a = c .before .before .before in
     let t = turn a in
     let l = loop t in
     let r = answer-refused _ _ _ (a .read-record .result) (a .read-record .ensures) (c .before .refusal .given .1) in
-    sym (ap (tally (l .loop .count)) (run-refused _ _ _ _ (more t) (few t) r)) ∙ l .loop .inv .same
+    sym (ap (count-of (l .loop .count)) (run-refused _ _ _ _ (more t) (few t) r)) ∙ l .loop .inv .same
 
 returns-3 : tie.Need-returns-3 Inv-loop μ-loop
-unfolding tally
+unfolding count-of
 returns-3 c =
     let l = c .before in
-    sym (ap (tally (l .loop .count)) (run-none _ _ _ _ (c .loop-test .left)) ∙ ap Arcs (add-zero (l .loop .count))) ∙ l .loop .inv .same
+    sym (ap (count-of (l .loop .count)) (run-none _ _ _ _ (c .loop-test .left)) ∙ ap Arcs (add-zero (l .loop .count))) ∙ l .loop .inv .same
 
 pub count-records-spec : {M : Type 1} → statement M
 count-records-spec =

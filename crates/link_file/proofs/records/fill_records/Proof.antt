@@ -5,7 +5,8 @@ use native.Mathlib.Omega.{arith}
 use borrow.Author.Needs.{needs}
 use lib.ListN.{length, drop, length-drop}
 use Rattle.table.specs.Table.{Arc, arc, most-arcs}
-use Rattle.link_file.specs.Says.{arc-before, arc-of, Record-got}
+use Rattle.link_fields.specs.Fields.{arc-before, arc-of}
+use Rattle.link_file.specs.Says.{Record-got}
 use Rattle.link_file.proofs.records.Filling.{Filling, filling-begins, filling-next, tails-done, heads-done, lengths-done, still-few, no-refusal-here}
 use Rattle.link_file.proofs.records.Runs.{part-is, answer-record, answer-refused}
 use mathlib.Core.List.{List}

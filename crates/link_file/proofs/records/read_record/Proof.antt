@@ -11,10 +11,11 @@ use denote.Ref.{now}
 use Rattle.table.specs.Table.{Arc, arc}
 use Rattle.link_format.specs.Format.{has, record-bits}
 use Rattle.link_format.specs.Reading.{Reader, got, field, optional, implied, forbidden}
-use Rattle.link_file.specs.Says.{Optional-says, Got, Field-says, Record-says, arc-before, arc-of}
-use Rattle.link_file.proofs.fields.Parts.{as-got, as-cut, renamed, loose, first-byte}
+use Rattle.link_fields.specs.Fields.{Optional-says, Got, Field-says, arc-before, arc-of}
+use Rattle.link_file.specs.Says.{Record-says}
+use Rattle.link_fields.proofs.fields.Parts.{as-got, as-cut, renamed, loose, first-byte}
 use Rattle.link_file.proofs.records.Ways.{refused-bits, cut-tail, cut-head, cut-length, refused-head, refused-needless, got-record}
-use Rattle.link_file.specs.declared.arcs.Absent.{Absent}
+use Rattle.link_fields.specs.declared.arcs.Absent.{Absent}
 use borrow.Author.Needs.{needs}
 use Rattle.link_format.proofs.Outcomes.{refused-by}
 use Rattle.link_file.proofs.records.read_record.Statement.{statement}

@@ -1,7 +1,7 @@
 -- `writer::arc_at` meets its contract: the definition is the code. Assumes nothing.
 use borrow.Author.Needs.{needs}
 use mathlib.Core.Path.{refl}
-use Rattle.link_file.specs.Says.{arc-of}
+use Rattle.link_fields.specs.Fields.{arc-of}
 use Rattle.link_file.proofs.writer.arc_at.Statement.{statement}
 use Rattle.link_file.proofs.writer.arc_at.Tie as tie
 

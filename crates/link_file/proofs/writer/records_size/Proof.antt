@@ -3,7 +3,7 @@ use Prim.Native.Nat.{_-_}
 use native.Mathlib.Omega.{arith}
 use borrow.Author.Needs.{needs}
 use lib.ListN.{length}
-use Rattle.link_file.specs.Says.{arc-before}
+use Rattle.link_fields.specs.Fields.{arc-before}
 use Rattle.link_file.proofs.writer.Sizes.{Sizing, sizing-begins, sizing-next, sizing-done}
 use Rattle.link_file.proofs.writer.records_size.Statement.{statement}
 use Rattle.link_file.proofs.writer.records_size.Tie as tie

@@ -2,7 +2,7 @@
 use borrow.Author.Needs.{needs}
 use denote.Ref.{now}
 use Rattle.link_format.specs.Format.{has, field-bytes, header-bytes}
-use Rattle.link_file.specs.Says.{Put}
+use Rattle.link_fields.specs.Fields.{Put}
 use Rattle.link_file.proofs.writer.HeaderBytes.{wanted-room, byte-room, count-room, origin-room, put-header, list-renamed, list-room-renamed}
 use Rattle.link_file.proofs.writer.Pieces.{put-renamed, piece-room, put-kept}
 use Prim.Native.Nat.{ℕ}

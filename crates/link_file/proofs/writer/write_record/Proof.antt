@@ -8,7 +8,7 @@ use denote.Ref.{now}
 use lib.ListN.{length, set}
 use Rattle.table.specs.Table.{Arc, arc}
 use Rattle.link_format.specs.Format.{has, field-bytes, fields-bytes, record-bytes}
-use Rattle.link_file.specs.Says.{Put, arc-of, arc-before}
+use Rattle.link_fields.specs.Fields.{Put, arc-of, arc-before}
 use Rattle.link_file.proofs.writer.Pieces.{put-renamed, piece-room, put-kept, room-by-bits, put-by-bits, room-tail, room-head, room-length, put-record}
 use Rattle.link_file.proofs.writer.write_record.Statement.{statement}
 use Rattle.link_file.proofs.writer.write_record.Tie as tie

@@ -2,7 +2,7 @@
 use Prim.Native.Nat.{_-_}
 use native.Mathlib.Omega.{arith}
 use lib.ListN.{length}
-use Rattle.link_file.specs.Says.{arc-before}
+use Rattle.link_fields.specs.Fields.{arc-before}
 use Rattle.link_file.proofs.writer.Sizes.{Writing, writing-begins, writing-next, record-room, writing-done}
 use Rattle.link_file.proofs.writer.write_records.Statement.{statement}
 use Rattle.link_file.proofs.writer.write_records.Tie as tie

@@ -1,7 +1,7 @@
 -- `printer::lines::first_line` meets its contract: the refusal's line first, and what follows it. Assumes nothing.
 use mathlib.Core.Path.{refl}
 use borrow.Author.Needs.{needs}
-use Rattle.planner.specs.Plan.{answered}
+use Rattle.hand_over.specs.Answered.{answered}
 use Rattle.sheet.specs.Sheet.{from-reached}
 use Rattle.printer.specs.declared.lines.Cursor.the-variants.{Reached, Counts, End}
 use Rattle.printer.specs.Lines.{printing, rest}

@@ -1,7 +1,7 @@
 -- `printer::lines::next_line` meets its contract: at each cursor the line that stands there is put, and the next cursor leads to the rest. Assumes nothing.
 use mathlib.Core.Path.{refl}
 use borrow.Author.Needs.{needs}
-use Rattle.planner.specs.Plan.{answered}
+use Rattle.hand_over.specs.Answered.{answered}
 use Rattle.sheet.specs.Sheet.{Finished, from-counts, from-reached}
 use Rattle.printer.specs.declared.lines.Cursor.{Cursor}
 use Rattle.printer.specs.declared.lines.Cursor.the-variants.{Start, Reached, Counts, Node, Path, End}

@@ -2,8 +2,8 @@
 use native.Mathlib.Nat.{le-trans}
 use Rattle.table.specs.Table.{no-distance}
 use Rattle.auction.specs.Demands.{distance-of, price-of, link-of}
-use Rattle.planner.specs.declared.Planned.{Planned}
-use Rattle.planner.specs.Plan.{answered}
+use Rattle.hand_over.specs.declared.Planned.{Planned}
+use Rattle.hand_over.specs.Answered.{answered}
 use Rattle.printer.proofs.lines.Passing.{inside-same}
 use Rattle.sheet.specs.Sheet.{Finished}
 use Rattle.printer.specs.Lines.{printing, rest}

@@ -6,8 +6,8 @@ use native.Mathlib.Omega.{arith}
 use lib.ListN.{length, take, length-take}
 use Rattle.table.specs.Table.{most-nodes}
 use Rattle.paths.specs.Listing.{Listing, listing, tree-in}
-use Rattle.planner.specs.declared.Planned.{Planned}
-use Rattle.planner.specs.Plan.{answered}
+use Rattle.hand_over.specs.declared.Planned.{Planned}
+use Rattle.hand_over.specs.Answered.{answered}
 use Rattle.sheet.specs.Sheet.{Finished}
 use Rattle.printer.specs.Lines.{printing, rest}
 use Rattle.printer.proofs.lines.Rest.{path-last, path-put}
