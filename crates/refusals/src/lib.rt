@@ -1,5 +1,4 @@
-// The refusals 1 to 7 of a table, in the order in which they are tested: all of them by table_refusal; those of the wanted nodes and of
-// the arcs also by themselves.
+// The refusals 1 to 7 of a table, in the order in which they are tested.
 ghost use mathlib.Core.Path.{_≡_};
 ghost use mathlib.Core.Bool.{not};
 ghost use Prim.Native.Nat.{_≤_};
@@ -46,7 +45,7 @@ fn bad_buffers(
 }
 
 // 5: too many wanted nodes, or the first one not below n.
-pub fn wanted_refusal(n: usize, wanted: &[u16]) -> Refusal
+fn wanted_refusal(n: usize, wanted: &[u16]) -> Refusal
     ensures { λ r. ⌜ r ≡ wanted-refusal n (was wanted) ⌝ }
 {
     if MOST_WANTED < wanted.len() {
@@ -85,7 +84,7 @@ fn arc_refusal(n: usize, tail: u16, head: u16, length: u32) -> u32
 }
 
 // 6 and 7: the refusal of the first arc that has one.
-pub fn arcs_refusal(n: usize, tails: &[u16], heads: &[u16], lengths: &[u32]) -> Refusal
+fn arcs_refusal(n: usize, tails: &[u16], heads: &[u16], lengths: &[u32]) -> Refusal
     requires { ⌜ (length (now heads) ≡ length (now tails)) × ((length (now lengths) ≡ length (now tails)) × (length (now tails) ≤ most-arcs)) ⌝ }
     ensures { λ r. ⌜ r ≡ arcs-refusal n (arcs-of (was tails) (was heads) (was lengths)) ⌝ }
 {
