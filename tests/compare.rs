@@ -277,16 +277,6 @@ pub fn round_trip(entries: &dyn Entries, table: &Table) -> Verdict {
 
 // The program.
 
-/// The sheet with its path lines, which stand together, in ascending order of text: their order is free.
-fn path_lines_sorted(sheet: &str) -> Vec<&str> {
-    let mut lines: Vec<&str> = sheet.split_inclusive('\n').collect();
-    let is_path = |line: &&str| line.starts_with("path ");
-    let start = lines.iter().position(is_path).unwrap_or(lines.len());
-    let count = lines[start..].iter().copied().take_while(is_path).count();
-    lines[start..start + count].sort();
-    lines
-}
-
 /// The last line of a sheet that lists nodes counts each arc of the table once, and a tree arc for each reached node
 /// but the origin. Any other sheet is one line.
 fn check_totals(sheet: &str, arcs: usize) -> Verdict {
@@ -309,7 +299,8 @@ pub fn same_sheet(printed: &str, input: &[u8]) -> Verdict {
     let arcs = RIGHT.table_of(input, &mut table).map_or(0, |()| table.tails.len());
     check_totals(&expected, arcs).map_err(|fault| format!("the model's own sheet: {fault}"))?;
     check_totals(printed, arcs)?;
-    let (printed, expected) = (path_lines_sorted(printed), path_lines_sorted(&expected));
+    let (printed, expected): (Vec<&str>, Vec<&str>) =
+        (printed.split_inclusive('\n').collect(), expected.split_inclusive('\n').collect());
     let differs = |line: &usize| printed.get(*line) != expected.get(*line);
     match (0..printed.len().max(expected.len())).find(differs) {
         None => Ok(()),

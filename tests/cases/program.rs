@@ -8,6 +8,7 @@ use crate::shapes;
 
 pub const GROUPS: &[Group] = &[
     Group { name: "program: refused files", run: refused },
+    Group { name: "program: the order of the path lines", run: path_order },
     Group { name: "program: the line of the marks", run: marks },
     Group { name: "program: random tables", run: random_tables },
     Group { name: "program: long sheets", run: long_sheets },
@@ -29,6 +30,33 @@ fn refused(entries: &dyn Entries, _: &mut Random) -> Tried {
     inputs.push(file(&example(4, &[3, 0, 3, 0, 3])));
     inputs.iter().try_for_each(|input| compare::print(entries, input))?;
     Ok(inputs.len())
+}
+
+/// The nodes of the path lines, from the first line to the last: by distance, and at equal distances by node number.
+fn path_order(entries: &dyn Entries, _: &mut Random) -> Tried {
+    let backwards = &[(4, 3, 1), (3, 2, 1), (2, 1, 1), (1, 0, 1)];
+    let rows: [(Table, &[u16]); 9] = [
+        (Table::new(3, 0, &[(0, 1, 5), (0, 2, 2)], &[1, 2, 1]), &[2, 1]),
+        (Table::new(3, 0, &[(0, 2, 2), (0, 1, 2)], &[2, 1, 0]), &[0, 1, 2]),
+        (Table::new(3, 0, &[(0, 2, LONGEST_ARC), (0, 1, LONGEST_ARC)], &[2, 2, 1, 2]), &[1, 2]),
+        (Table::new(5, 4, backwards, &[0, 1, 2, 3, 4, 0]), &[4, 3, 2, 1, 0]),
+        (example(4, &[3, 2, 1, 0]), &[0, 1, 2, 3]),
+        (example(4, &[3, 0, 3, 0, 3]), &[0, 3]),
+        (example(5, &[4, 2, 4, 1]), &[1, 2]),
+        (example(4, &[]), &[]),
+        (example(4, &[3, 4]), &[]),
+    ];
+    for (table, nodes) in &rows {
+        let file = write_file(&RIGHT, table).expect("such tables can be written");
+        compare::print(entries, &file)?;
+        let sheet = entries.print(&file)?;
+        let word = |line: &'_ str| line.strip_prefix("path ").and_then(|rest| rest.split(':').next()).map(str::to_string);
+        let listed: Vec<String> = sheet.lines().filter_map(word).collect();
+        if listed != nodes.iter().map(u16::to_string).collect::<Vec<_>>() {
+            return Err(format!("the path lines must be those of {nodes:?}: {sheet:?} of {table:?}"));
+        }
+    }
+    Ok(rows.len())
 }
 
 /// The last line of every sheet that lists nodes, and of no other.
@@ -76,7 +104,8 @@ fn random_tables(entries: &dyn Entries, random: &mut Random) -> Tried {
 fn long_sheets(entries: &dyn Entries, _: &mut Random) -> Tried {
     let whole = wide_table(1_024, 6_000, 1_024);
     let repeated = Table { wanted: vec![1_023; 1_024], ..chain(1_024, 1) };
-    let tables = [chain(1_024, 1), chain(1_024, LONGEST_ARC), chain(100, LONGEST_ARC), whole, repeated];
+    let turned = Table { wanted: (0..1_024).rev().collect(), ..chain(1_024, 1) };
+    let tables = [chain(1_024, 1), chain(1_024, LONGEST_ARC), chain(100, LONGEST_ARC), whole, repeated, turned];
     for table in &tables {
         compare::print(entries, &write_file(&RIGHT, table).expect("such tables can be written"))?;
     }

@@ -34,12 +34,15 @@ pub enum Wrong {
     ShortBufferFirst,
     OriginsEntryRead,
     RepeatsPrinted,
+    PathsByNode,
+    PathTiesTurned,
+    PathsAsWanted,
     NoMarksAfterNoRoute,
     MarksBeforePaths,
     MarkCountsExchanged,
 }
 
-pub const ALL_WRONG: [Wrong; 26] = [
+pub const ALL_WRONG: [Wrong; 29] = [
     Wrong::TieByFirstMet,
     Wrong::HorizonFromRawPrice,
     Wrong::RawPrices,
@@ -63,6 +66,9 @@ pub const ALL_WRONG: [Wrong; 26] = [
     Wrong::ShortBufferFirst,
     Wrong::OriginsEntryRead,
     Wrong::RepeatsPrinted,
+    Wrong::PathsByNode,
+    Wrong::PathTiesTurned,
+    Wrong::PathsAsWanted,
     Wrong::NoMarksAfterNoRoute,
     Wrong::MarksBeforePaths,
     Wrong::MarkCountsExchanged,

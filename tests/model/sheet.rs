@@ -31,14 +31,22 @@ impl Model {
         sheet
     }
 
-    /// One line for each different wanted node that was reached.
+    /// One line for each different wanted node that was reached, by distance, and at equal distances by node number.
     fn path_lines(&self, table: &Table, distances: &[u64], tree: &[u16]) -> String {
-        let mut nodes = table.wanted.clone();
-        nodes.sort();
-        if !self.has(Wrong::RepeatsPrinted) {
-            nodes.dedup();
+        let mut nodes = Vec::new();
+        for &node in &table.wanted {
+            let repeated = nodes.contains(&node) && !self.has(Wrong::RepeatsPrinted);
+            if distances[node as usize] != NO_DISTANCE && !repeated {
+                nodes.push(node);
+            }
         }
-        nodes.retain(|&node| distances[node as usize] != NO_DISTANCE);
+        let distance = |&node: &u16| distances[node as usize];
+        match self.wrong {
+            Some(Wrong::PathsByNode) => nodes.sort(),
+            Some(Wrong::PathTiesTurned) => nodes.sort_by_key(|node| (distance(node), std::cmp::Reverse(*node))),
+            Some(Wrong::PathsAsWanted) => {}
+            _ => nodes.sort_by_key(|node| (distance(node), *node)),
+        }
         nodes.iter().map(|&node| path_line(table, tree, node)).collect()
     }
 

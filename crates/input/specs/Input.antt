@@ -12,7 +12,7 @@ use Rattle.link_file.specs.Entries.{Left-by-reading}
 use Rattle.link_file.specs.Promises.{Counts-fit}
 use Rattle.hand_over.specs.declared.Planned.{Planned}
 use Rattle.hand_over.specs.Answered.{answered}
-use Rattle.sheet.specs.Sheet.{Finished, finished, sheet}
+use Rattle.sheet.specs.Sheet.{Finished, to-print, finished, sheet}
 use Rattle.sheet.specs.Printed.{read-input, lines-of, printed}
 use Rattle.input.specs.declared.PlannedInput.{PlannedInput}
 
@@ -61,5 +61,5 @@ pub record Ready (input : List ℕ) (r : PlannedInput) (tails heads wanted dista
   pub prints : sheet (printing-read (r .read) (r .answer) tails heads wanted distances prices tree marks) ≡ printed input
 
 -- What the printing loop asks: the sheet of the answer and of the columns that are lent is what is printed of the input.
-abbrev pub Prints : (input : List ℕ) → Planned → (origin : ℕ) → (tails heads wanted distances prices tree marks : List ℕ) → Type 0
-Prints input a o ts hs ws ds ps tr ms = sheet (finished o ts hs ws (answered a ds ps tr ms)) ≡ printed input
+abbrev pub Prints : (input : List ℕ) → Planned → (origin : ℕ) → (tails heads order distances prices tree marks : List ℕ) → Type 0
+Prints input a o ts hs vs ds ps tr ms = sheet (to-print o ts hs vs (answered a ds ps tr ms)) ≡ printed input

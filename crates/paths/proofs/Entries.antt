@@ -1,21 +1,14 @@
 -- What it says that a tree entry leads back, what the code's reads of the columns find of it, and one step of the way back. Assumes nothing.
-use mathlib.Core.Path.{_≡_, refl}
+use mathlib.Core.Path.{_≡_}
 use mathlib.Core.Bool.{true, false, _&&_}
-use mathlib.Core.List.{List, [], _∷_}
+use mathlib.Core.List.{List, _∷_}
 use mathlib.Core.Option.{none, some}
-use Prim.Native.Nat.{ℕ, zero, suc, _≤_, _<_}
-use native.Mathlib.Omega.{arith}
+use Prim.Native.Nat.{ℕ, suc, _≤_, _<_}
 use lib.Dec.{ltb, eqb}
 use lib.ListN.{length, getD}
 use borrow.Author.Tests.{ltb-true, eqb-true, lt-ltb, le-ltb, eq-eqb, ne-eqb}
 use Rattle.table.proofs.Basics.{both-true}
 use Rattle.paths.specs.Listing.{Tree, node-count, entry, node-before, leads-back, back-to}
-
--- within a list the default does not count
-pub either-default : (l : List ℕ) (i a b : ℕ) → i < length l → getD l i a ≡ getD l i b
-either-default [] i a b h = absurd (omega arith)
-either-default (x ∷ l) zero a b h = refl
-either-default (x ∷ l) (suc i) a b h = either-default l i a b (omega arith)
 
 pub record Leads (k : Tree) (v : ℕ) : Type 0 where
   pub listed : entry k v < length (k .tails)

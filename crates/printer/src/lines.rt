@@ -4,9 +4,9 @@ ghost use Prim.Native.Nat.{_≤_};
 ghost use lib.ListN.{length, getD};
 ghost use Rattle.table.specs.Table.{no-arc, most-nodes};
 ghost use Rattle.table.specs.Slices.{was};
-ghost use Rattle.sheet.specs.Sheet.{node-count, has-distance, has-path};
+ghost use Rattle.sheet.specs.Sheet.{node-count, has-distance};
 ghost use Rattle.sheet_lines.specs.Room.{line-room};
-ghost use Rattle.printer.specs.Lines.{lent-printing, Next-line, First-line, Next-node, Next-path, First-passing, Lesser};
+ghost use Rattle.printer.specs.Lines.{lent-printing, Next-line, First-line, Next-node, Next-path, First-passing};
 use hand_over::Planned;
 use sheet_lines::put_counts;
 use sheet_lines::put_marks;
@@ -20,8 +20,8 @@ use table::Refusal;
 use table::wide;
 
 // Where in a sheet the next line stands: at its start; at the line of the reached nodes; at the line of the other counts; at the line of the first node
-// that has one, from a node on, and past the last of these at the first path line; at the path line of the first node that has one, from a node on, and past
-// the last of these at the line of the marks; or past all lines.
+// that has one, from a node on, and past the last of these at the first path line; at the path line of the node at an index of their order, and past the last
+// of these at the line of the marks; or past all lines.
 pub enum Cursor {
     Start,
     Reached,
@@ -64,38 +64,6 @@ fn next_with_distance(from: usize, n: usize, distances: &[u64]) -> usize
     n
 }
 
-// One step of the search for the least node that has a path, from a node on: the least found so far, or v in its place, where v is less and is not before
-// `from` and has a distance.
-fn lesser(from: usize, found: usize, v: usize, distances: &[u64]) -> usize
-    requires { ⌜ found ≤ length (now distances) ⌝ }
-    ensures { λ r. ⌜ Lesser (was distances) from found v r ⌝ }
-{
-    if v < from {
-        return found;
-    }
-    if found <= v {
-        return found;
-    }
-    if distances[v] == table::NO_DISTANCE {
-        return found;
-    }
-    v
-}
-
-// The first wanted node with a distance, from a node on; n where there is none below n. The wanted list is in no order, so that every entry is looked at.
-fn next_with_path(from: usize, n: usize, distances: &[u64], wanted: &[u16]) -> usize
-    requires { ⌜ n ≤ length (now distances) ⌝ }
-    ensures { λ r. ⌜ First-passing (has-path (was distances) (was wanted)) n from r ⌝ }
-{
-    let mut found = n;
-    let mut i = 0;
-    while i < wanted.len() {
-        found = lesser(from, found, wide(wanted[i]), distances);
-        i += 1;
-    }
-    found
-}
-
 // A node's price, 0 where the prices have no entry for it.
 fn price_at(node: usize, prices: &[u64]) -> u64
     ensures { λ r. ⌜ r ≡ getD (was prices) node 0 ⌝ }
@@ -114,32 +82,31 @@ fn arc_at(node: usize, tree: &[u16]) -> u16
     }
 }
 
-// The next path line, of the first node from a node on that has one; past the last of them the line of the marks.
+// The path line of the node at an index of their order; past the last of them the line of the marks. The path is listed in a buffer that is lent for it.
 fn next_path(
-    from: usize,
+    at: usize,
     origin: u16,
     tails: &[u16],
     heads: &[u16],
-    wanted: &[u16],
-    distances: &[u64],
+    order: &[u16],
     tree: &[u16],
     marks: &[u8],
+    nodes: &mut [u16],
     out: &mut [u8],
 ) -> Line
+    requires { ⌜ length (now nodes) ≡ most-nodes ⌝ }
     requires { ⌜ line-room ≤ length (now out) ⌝ }
-    ensures { λ r. ⌜ Next-path from origin tails heads wanted distances tree marks out r ⌝ }
+    ensures { λ r. ⌜ Next-path at origin tails heads order tree marks out r ⌝ }
 {
-    let n = node_count(distances);
-    let v = next_with_path(from, n, distances, wanted);
-    if n <= v {
+    if order.len() <= at {
         let count = put_marks(tally_marks(marks), out);
         return Line::Put(count, Cursor::End);
     }
-    let mut nodes = [0u16; MOST_NODES];
-    let listed = paths::list_path(origin, v as u16, tails, heads, tree, &mut nodes);
+    let node = order[at];
+    let listed = paths::list_path(origin, node, tails, heads, tree, nodes);
     let k = listed.count as usize;
-    let count = put_path(v, &nodes[..k], out);
-    Line::Put(count, Cursor::Path(v + 1))
+    let count = put_path(wide(node), &nodes[..k], out);
+    Line::Put(count, Cursor::Path(at + 1))
 }
 
 // The next node line, of the first node from a node on that has one; past the last of them what follows.
@@ -148,20 +115,22 @@ fn next_node(
     origin: u16,
     tails: &[u16],
     heads: &[u16],
-    wanted: &[u16],
+    order: &[u16],
     distances: &[u64],
     prices: &[u64],
     tree: &[u16],
     marks: &[u8],
+    nodes: &mut [u16],
     out: &mut [u8],
 ) -> Line
+    requires { ⌜ length (now nodes) ≡ most-nodes ⌝ }
     requires { ⌜ line-room ≤ length (now out) ⌝ }
-    ensures { λ r. ⌜ Next-node from origin tails heads wanted distances prices tree marks out r ⌝ }
+    ensures { λ r. ⌜ Next-node from origin tails heads order distances prices tree marks out r ⌝ }
 {
     let n = node_count(distances);
     let v = next_with_distance(from, n, distances);
     if n <= v {
-        return next_path(0, origin, tails, heads, wanted, distances, tree, marks, out);
+        return next_path(0, origin, tails, heads, order, tree, marks, nodes, out);
     }
     let price = price_at(v, prices);
     let arc = arc_at(v, tree);
@@ -186,22 +155,24 @@ fn first_line(answer: Planned, out: &mut [u8]) -> Line
     Line::Put(count, Cursor::End)
 }
 
-// The next line of a plan's sheet, from a cursor on, at the start of a buffer with room for a line.
+// The next line of a plan's sheet, from a cursor on, at the start of a buffer with room for a line. A path is listed in a buffer that is lent for it.
 pub fn next_line(
     cursor: Cursor,
     answer: Planned,
     origin: u16,
     tails: &[u16],
     heads: &[u16],
-    wanted: &[u16],
+    order: &[u16],
     distances: &[u64],
     prices: &[u64],
     tree: &[u16],
     marks: &[u8],
+    nodes: &mut [u16],
     out: &mut [u8],
 ) -> Line
+    requires { ⌜ length (now nodes) ≡ most-nodes ⌝ }
     requires { ⌜ line-room ≤ length (now out) ⌝ }
-    ensures { λ r. ⌜ Next-line cursor (lent-printing answer origin tails heads wanted distances prices tree marks) out r ⌝ }
+    ensures { λ r. ⌜ Next-line cursor (lent-printing answer origin tails heads order distances prices tree marks) out r ⌝ }
 {
     match cursor {
         Cursor::Start => first_line(answer, out),
@@ -223,24 +194,15 @@ pub fn next_line(
             origin,
             tails,
             heads,
-            wanted,
+            order,
             distances,
             prices,
             tree,
             marks,
+            nodes,
             out,
         ),
-        Cursor::Path(from) => next_path(
-            from,
-            origin,
-            tails,
-            heads,
-            wanted,
-            distances,
-            tree,
-            marks,
-            out,
-        ),
+        Cursor::Path(at) => next_path(at, origin, tails, heads, order, tree, marks, nodes, out),
         Cursor::End => Line::Last,
     }
 }

@@ -10,6 +10,7 @@ use crate::lines::Line;
 use crate::lines::next_line;
 use hand_over::Planned;
 use sheet_lines::LINE_ROOM;
+use table::MOST_NODES;
 
 // How many bytes a piece has, and the cursor of the line behind it. No byte: there is no line any more.
 pub struct Piece {
@@ -24,7 +25,7 @@ pub fn next_piece(
     origin: u16,
     tails: &[u16],
     heads: &[u16],
-    wanted: &[u16],
+    order: &[u16],
     distances: &[u64],
     prices: &[u64],
     tree: &[u16],
@@ -32,8 +33,9 @@ pub fn next_piece(
     out: &mut [u8],
 ) -> Piece
     requires { ⌜ line-room ≤ length (now out) ⌝ }
-    ensures { λ r. ⌜ Continues (lent-printing answer origin tails heads wanted distances prices tree marks) cursor r (left out) ⌝ }
+    ensures { λ r. ⌜ Continues (lent-printing answer origin tails heads order distances prices tree marks) cursor r (left out) ⌝ }
 {
+    let mut nodes = [0u16; MOST_NODES];
     let mut at = 0;
     let mut next = cursor;
     while LINE_ROOM <= out.len() - at {
@@ -43,11 +45,12 @@ pub fn next_piece(
             origin,
             tails,
             heads,
-            wanted,
+            order,
             distances,
             prices,
             tree,
             marks,
+            &mut nodes,
             &mut out[at..],
         );
         let Line::Put(count, later) = line else {

@@ -10,7 +10,7 @@ use Rattle.paths.specs.Examples as Paths
 use Rattle.link_format.specs.Promises.{Accepted-files-write-back, Written-tables-read-back, Long-files-are-refused, Files-refused-by-number, Needless-is-not-canonical, Needless-header-is-not-canonical}
 use Rattle.link_format.specs.Rows as Files
 use Rattle.link_file.specs.Promises.{Write-then-read, Read-then-write, Answers-fit}
-use Rattle.sheet.specs.Promises.{Each-once, Plans-printed, Refusals-printed}
+use Rattle.sheet.specs.Promises.{Each-once, In-order, Plans-printed, Refusals-printed}
 use Rattle.sheet.specs.Examples as Sheets
 use Rattle.printer.specs.Promises.{Pieces-printed}
 
@@ -66,10 +66,11 @@ pub record Promise : Type 0 where
   pub needless-is-not-canonical : Needless-is-not-canonical
   pub needless-header-is-not-canonical : Needless-header-is-not-canonical
   pub answers-fit : Answers-fit
-  -- THE SHEET AND THE PROGRAM: a plan is shown whole, each path once, and the pieces that are written are what is printed of the input
+  -- THE SHEET AND THE PROGRAM: a plan is shown whole, each path once, the nearest first, and the pieces that are written are what is printed of the input
   pub plans-printed : Plans-printed
   pub refusals-printed : Refusals-printed
   pub each-once : Each-once
+  pub in-order : In-order
   pub pieces-printed : Pieces-printed
   -- THE ROWS: tables, listings, files and sheets, computed
   pub rack : Rack-holds

@@ -22,14 +22,14 @@ fn print_pieces(
     origin: u16,
     tails: &[u16],
     heads: &[u16],
-    wanted: &[u16],
+    order: &[u16],
     distances: &[u64],
     prices: &[u64],
     tree: &[u16],
     marks: &[u8],
     out: &mut [u8],
 )
-    requires { ⌜ Prints (now input) answer origin (now tails) (now heads) (now wanted) (now distances) (now prices) (now tree) (now marks) ⌝ }
+    requires { ⌜ Prints (now input) answer origin (now tails) (now heads) (now order) (now distances) (now prices) (now tree) (now marks) ⌝ }
     requires { ⌜ line-room ≤ length (now out) ⌝ }
 {
     let mut cursor = Cursor::Start;
@@ -40,7 +40,7 @@ fn print_pieces(
             origin,
             tails,
             heads,
-            wanted,
+            order,
             distances,
             prices,
             tree,
@@ -83,6 +83,8 @@ fn print_input(input: &[u8]) {
     let n = read.n as usize;
     let m = read.arcs as usize;
     let w = read.wanted as usize;
+    let mut order = [0u16; MOST_WANTED];
+    let k = path_order::order_paths(&distances[..n], &wanted[..w], &mut order);
     let mut out = io::large_buffer();
     print_pieces(
         input,
@@ -90,7 +92,7 @@ fn print_input(input: &[u8]) {
         read.origin,
         &tails[..m],
         &heads[..m],
-        &wanted[..w],
+        &order[..k],
         &distances[..n],
         &prices[..n],
         &tree[..n],

@@ -1,4 +1,5 @@
 pub mod Nodes
+pub mod Order
 pub mod Promised
 pub mod Unseen
 pub mod Examples

@@ -1,7 +1,7 @@
 -- How often a node stands among those that pass a test, and which nodes have a distance. Assumes nothing.
-use mathlib.Core.Path.{_≡_, refl, sym, ap, ap₂, _∙_}
+use mathlib.Core.Path.{_≡_, refl, sym, ap, _∙_}
 use mathlib.Core.Bool.{Bool, true, false, not}
-use mathlib.Core.List.{List, [], _∷_, map}
+use mathlib.Core.List.{List, [], _∷_}
 use mathlib.Core.Logic.{⊎-elim}
 use Prim.Native.Nat.{ℕ, zero, suc, _+_, _≤_, _<_}
 use native.Mathlib.Omega.{arith}
@@ -38,14 +38,6 @@ module _ (f : ℕ → Bool) (v : ℕ) where
       let later = present k (suc a) (omega arith) (omega arith) t in
       ⊎-elim (λ (u : f a ≡ true). rw (u, ne-eqb a v d) (omega (arith, later))) (λ (u : f a ≡ false). rw u later) (true-or (f a)))
       (same-or a v)
-
--- two functions that agree on the nodes that pass give the same lines
-pub agree : (f : ℕ → Bool) (g h : ℕ → List ℕ) → ((v : ℕ) → f v ≡ true → g v ≡ h v) → (k a : ℕ) → map g (passing f k a) ≡ map h (passing f k a)
-unfolding passing with-node
-agree f g h same zero a = refl
-agree f g h same (suc k) a =
-    let later = agree f g h same k (suc a) in
-    ⊎-elim (λ (t : f a ≡ true). rw t (ap₂ (λ (l : List ℕ) (ls : List (List ℕ)). l ∷ ls) (same a t) later)) (λ (t : f a ≡ false). rw t later) (true-or (f a))
 
 -- past its end a list has only what stands for nothing
 pub outside : (l : List ℕ) (i d : ℕ) → length l ≤ i → getD l i d ≡ d

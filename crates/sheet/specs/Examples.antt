@@ -83,6 +83,31 @@ pub record Examples : Type 0 where
       ∷ text "path 1: 0 1\n"
       ∷ text "marks 0 1 0 1\n"
       ∷ []
+  -- arcs 0 to 1 of 5 and 0 to 2 of 2, wanted 1, 2 and 1 again: the nearer node's path line is the first
+  pub nearer-first :
+      printed (5 ∷ 3 ∷ 0 ∷ 3 ∷ 0 ∷ 1 ∷ 0 ∷ 2 ∷ 0 ∷ 1 ∷ 0 ∷ 7 ∷ 0 ∷ 0 ∷ 1 ∷ 0 ∷ 5 ∷ 0 ∷ 0 ∷ 0 ∷ 4 ∷ 2 ∷ 0 ∷ 0 ∷ 0 ∷ [])
+      ≡ text "reached 3 horizon 5 iterations 5\n"
+      ∷ text "contractions 2 extensions 2 deletions 1\n"
+      ∷ text "node 0 distance 0 price 5 arc -\n"
+      ∷ text "node 1 distance 5 price 0 arc 0\n"
+      ∷ text "node 2 distance 2 price 3 arc 1\n"
+      ∷ text "path 2: 0 2\n"
+      ∷ text "path 1: 0 1\n"
+      ∷ text "marks 0 0 0 2\n"
+      ∷ []
+  -- arcs 0 to 2 of 2 and 0 to 1 of 2, wanted 2, 1 and 0: among nodes as near, the smaller number's is the first
+  pub smaller-first :
+      printed (5 ∷ 3 ∷ 0 ∷ 3 ∷ 0 ∷ 2 ∷ 0 ∷ 1 ∷ 0 ∷ 0 ∷ 0 ∷ 7 ∷ 0 ∷ 0 ∷ 2 ∷ 0 ∷ 2 ∷ 0 ∷ 0 ∷ 0 ∷ 2 ∷ 1 ∷ 0 ∷ [])
+      ≡ text "reached 3 horizon 2 iterations 4\n"
+      ∷ text "contractions 1 extensions 2 deletions 1\n"
+      ∷ text "node 0 distance 0 price 2 arc -\n"
+      ∷ text "node 1 distance 2 price 0 arc 1\n"
+      ∷ text "node 2 distance 2 price 0 arc 0\n"
+      ∷ text "path 0: 0\n"
+      ∷ text "path 1: 0 1\n"
+      ∷ text "path 2: 0 2\n"
+      ∷ text "marks 0 0 0 2\n"
+      ∷ []
   -- numbers of twenty digits, the most that 64 bits hold
   pub twenty-digits :
       node-line 1023 18446744073709551614 10000000000000000000 5999

@@ -2,7 +2,7 @@
 use mathlib.Core.Bool.{Bool, true, false, _&&_, _||_, not, cond}
 use mathlib.Core.List.{List, [], _∷_, _++_, map}
 use Prim.Native.Nat.{ℕ, zero, suc, min}
-use lib.Dec.{eqb}
+use lib.Dec.{eqb, ltb}
 use lib.ListN.{length, getD}
 use Rattle.table.specs.Table.{most-nodes, no-arc, no-distance}
 use Rattle.auction.specs.HandOver.{Answer, how-many}
@@ -10,16 +10,17 @@ use Rattle.auction.specs.Demands.{distance-of, price-of, link-of}
 use Rattle.paths.specs.Listing.{tree-in, listing}
 use Rattle.sheet.specs.Text.{text, decimal, spaced}
 
--- what a sheet is printed from: the table's origin, tails and heads, the wanted list, and the plan's answer with its buffers
+-- what a sheet is printed from: the table's origin, tails and heads, the nodes that have a path line, in its lines' order, and the plan's answer with its
+-- buffers
 pub record Finished : Type 0 where
   pub origin : ℕ
   pub tails : List ℕ
   pub heads : List ℕ
-  pub wanted : List ℕ
+  pub order : List ℕ
   pub answer : Answer
 
-abbrev pub finished : (origin : ℕ) → (tails heads wanted : List ℕ) → Answer → Finished
-finished o ts hs ws a = record { origin = o; tails = ts; heads = hs; wanted = ws; answer = a }
+abbrev pub to-print : (origin : ℕ) → (tails heads order : List ℕ) → Answer → Finished
+to-print o ts hs vs a = record { origin = o; tails = ts; heads = hs; order = vs; answer = a }
 
 -- THE LINES, each with its line end
 unfoldable pub refused-line : (number place : ℕ) → List ℕ
@@ -46,19 +47,12 @@ unfoldable pub marks-line : (unreached dropped kept tree : ℕ) → List ℕ
 marks-line u d k t =
     text "marks " ++ decimal u ++ text " " ++ decimal d ++ text " " ++ decimal k ++ text " " ++ decimal t ++ text "\n"
 
--- THE NODES that have a line: those with a distance; and those that have a path line: of these the wanted ones. Each comes once, ascending.
+-- THE NODES that have a line: those with a distance. Each comes once, ascending.
 unfoldable pub node-count : (distances : List ℕ) → ℕ
 node-count ds = min (length ds) most-nodes
 
 unfoldable pub has-distance : (distances : List ℕ) → (v : ℕ) → Bool
 has-distance ds v = not (eqb (getD ds v no-distance) no-distance)
-
-unfoldable pub holds : (v : ℕ) → List ℕ → Bool
-holds v [] = false
-holds v (w ∷ ws) = eqb w v || holds v ws
-
-unfoldable pub has-path : (distances wanted : List ℕ) → (v : ℕ) → Bool
-has-path ds ws v = has-distance ds v && holds v ws
 
 -- those of `left` nodes from v on that pass a test, ascending
 unfoldable pub with-node : Bool → (v : ℕ) → List ℕ → List ℕ
@@ -72,8 +66,29 @@ passing f (suc k) v = with-node (f v) v (passing f k (suc v))
 unfoldable pub reached-nodes : Finished → List ℕ
 reached-nodes p = passing (has-distance (p .answer .distances)) (node-count (p .answer .distances)) 0
 
-unfoldable pub path-nodes : Finished → List ℕ
-path-nodes p = passing (has-path (p .answer .distances) (p .wanted)) (node-count (p .answer .distances)) 0
+-- THE ORDER of the path lines: by distance, and at equal distances by node number. Whether node v comes before node u:
+unfoldable pub before : (distances : List ℕ) → (v u : ℕ) → Bool
+before ds v u =
+    let d = getD ds v no-distance in
+    let e = getD ds u no-distance in
+    ltb d e || (eqb d e && ltb v u)
+
+-- a node is put in order: behind those that come before it, unless it is there already
+unfoldable pub insert : (distances : List ℕ) → (v : ℕ) → (nodes : List ℕ) → List ℕ
+insert ds v [] = v ∷ []
+insert ds v (u ∷ us) = cond (before ds u v) (u ∷ insert ds v us) (cond (eqb u v) (u ∷ us) (v ∷ u ∷ us))
+
+-- THE NODES that have a path line: those with a line that are wanted. Each comes once, in order.
+unfoldable pub has-line : (distances : List ℕ) → (v : ℕ) → Bool
+has-line ds v = ltb v (node-count ds) && has-distance ds v
+
+unfoldable pub path-nodes : (distances wanted : List ℕ) → List ℕ
+path-nodes ds [] = []
+path-nodes ds (w ∷ ws) = cond (has-line ds w) (insert ds w (path-nodes ds ws)) (path-nodes ds ws)
+
+-- a plan that is finished, of a table with this wanted list
+abbrev pub finished : (origin : ℕ) → (tails heads wanted : List ℕ) → Answer → Finished
+finished o ts hs ws a = to-print o ts hs (path-nodes (a .distances) ws) a
 
 unfoldable pub node-lines : Finished → (nodes : List ℕ) → List (List ℕ)
 node-lines p vs = map (λ v. node-line v (distance-of (p .answer) v) (price-of (p .answer) v) (link-of (p .answer) v)) vs
@@ -87,7 +102,7 @@ marks-lines ms = marks-line (how-many 0 ms) (how-many 1 ms) (how-many 2 ms) (how
 
 -- THE SHEET: the refusal's line first; nothing else but where the plan was made, which is without a refusal or on number 8
 unfoldable pub after-nodes : Finished → List (List ℕ)
-after-nodes p = path-lines p (path-nodes p) ++ marks-lines (p .answer .marks)
+after-nodes p = path-lines p (p .order) ++ marks-lines (p .answer .marks)
 
 unfoldable pub after-counts : Finished → List (List ℕ)
 after-counts p = node-lines p (reached-nodes p) ++ after-nodes p

@@ -69,6 +69,10 @@ pub and-true : (a : Bool) → (a && true) ≡ a
 and-true true = refl
 and-true false = refl
 
+pub or-false : (a : Bool) → (a || false) ≡ a
+or-false true = refl
+or-false false = refl
+
 pub option-or {ℓ} : {A : Type ℓ} (o : Option A) → (o ≡ none) ⊎ ((a : A) × (o ≡ some a))
 option-or none = inl refl
 option-or (some a) = inr (a, refl)
@@ -89,3 +93,9 @@ pub inside-some : {A : Type 0} {a : A} (l : List (Option A)) (i : ℕ) → getD 
 inside-some [] i h = absurd (some-none h refl)
 inside-some (b ∷ l) zero h = omega arith
 inside-some (b ∷ l) (suc i) h = let r = inside-some l i h in omega arith
+
+-- and one inside the list is the same whatever stands for one outside
+pub inside-same : (l : List ℕ) (i a b : ℕ) → i < length l → getD l i a ≡ getD l i b
+inside-same [] i a b h = absurd (omega arith)
+inside-same (x ∷ l) zero a b h = refl
+inside-same (x ∷ l) (suc i) a b h = inside-same l i a b (omega arith)

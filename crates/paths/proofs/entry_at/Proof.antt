@@ -2,7 +2,7 @@
 use mathlib.Core.Path.{_∙_}
 use borrow.Author.Needs.{needs}
 use Rattle.table.specs.Table.{no-arc}
-use Rattle.paths.proofs.Entries.{either-default}
+use Rattle.table.proofs.Basics.{inside-same}
 use Rattle.paths.proofs.entry_at.Statement.{statement}
 use Rattle.paths.proofs.entry_at.Tie as tie
 
@@ -21,7 +21,7 @@ wide-requires-2 c κs = search needs
 returns : tie.Need-returns
 returns c =
     let s = c .before .before .before .before in
-    c .wide2 .ensures .0 ∙ rw (c .before .before .wide .ensures .0) (either-default (s .args .tree .now) (s .args .node) 0 no-arc (s .pre))
+    c .wide2 .ensures .0 ∙ rw (c .before .before .wide .ensures .0) (inside-same (s .args .tree .now) (s .args .node) 0 no-arc (s .pre))
 
 pub entry-at-spec : {M : Type 1} → statement M
 entry-at-spec =

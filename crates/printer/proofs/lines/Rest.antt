@@ -5,13 +5,15 @@ use mathlib.Core.List.{List, [], _∷_, _++_}
 use Prim.Native.Nat.{ℕ, _+_, _-_, _≤_, _<_}
 use native.Mathlib.Omega.{arith}
 use lib.Dec.{eqb}
-use lib.ListN.{length, length-append}
+use native.Mathlib.Numerals.{add-one}
+use lib.ListN.{length, getD, drop, length-append, drop-of-length-le}
+use lib.Seq.{drop-cons}
 use borrow.Author.Tests.{eq-eqb, ne-eqb}
 use Rattle.table.specs.Table.{most-nodes}
 use Rattle.auction.specs.Demands.{distance-of, price-of, link-of}
 use Rattle.paths.specs.Listing.{listing, tree-in}
 use Rattle.sheet.specs.Text.{text, decimal, spaced}
-use Rattle.sheet.specs.Sheet.{Finished, arc-text, reached-line, counts-line, path-nodes, reached-nodes, after-nodes, after-counts, passing, node-count, has-distance, has-path, node-line, path-line, marks-line, node-lines, path-lines, marks-lines, from-reached, refused-line, sheet}
+use Rattle.sheet.specs.Sheet.{Finished, arc-text, reached-line, counts-line, reached-nodes, after-nodes, after-counts, passing, node-count, has-distance, node-line, path-line, marks-line, node-lines, path-lines, marks-lines, from-reached, refused-line, sheet}
 use Rattle.sheet_lines.specs.Buffers.{Begins}
 use Rattle.sheet_lines.specs.declared.tally.Tally.{Tally}
 use Rattle.sheet_lines.specs.Tally.{tally-of}
@@ -65,48 +67,33 @@ marks-some u d k t =
     starts (text "marks ") (decimal u ++ text " " ++ decimal d ++ text " " ++ decimal k ++ text " " ++ decimal t ++ text "\n") (omega arith)
 
 -- from the first node on come all of them
-paths-all : (p : Finished) → paths-from p 0 ≡ after-nodes p
-unfolding paths-from path-nodes after-nodes
-paths-all p =
-    let whole : node-count (p .answer .distances) - 0 ≡ node-count (p .answer .distances) = omega arith in
-    ap (λ (k : ℕ). path-lines p (passing (has-path (p .answer .distances) (p .wanted)) k 0) ++ marks-lines (p .answer .marks)) whole
-
 pub nodes-all : (p : Finished) → nodes-from p 0 ≡ after-counts p
 unfolding nodes-from after-counts reached-nodes
 nodes-all p =
     let whole : node-count (p .answer .distances) - 0 ≡ node-count (p .answer .distances) = omega arith in
     ap (λ (k : ℕ). node-lines p (passing (has-distance (p .answer .distances)) k 0) ++ after-nodes p) whole
 
+-- the path line at an index of their order, and past the last of them the line of the marks
+module _ (p : Finished) (at : ℕ) where
+  pub path-last : {count : ℕ} {b a : List ℕ} (tally : Tally) → length (p .order) ≤ at → tally ≡ tally-of (p .answer .marks) →
+      Begins (marks-line (tally .unreached) (tally .dropped) (tally .kept) (tally .tree)) b a count → Gives p (paths-from p at) (Put count End) b a
+  unfolding paths-from path-lines marks-lines tally-of rest
+  path-last {count} {b} {a} tally h same begins =
+      gives-put p (paths-from p at) _ [] count End b a (ap (λ (vs : List ℕ). path-lines p vs ++ marks-lines (p .answer .marks)) (drop-of-length-le (p .order) h)) (marks-some _ _ _ _)
+      (subst (λ (t : Tally). Begins (marks-line (t .unreached) (t .dropped) (t .kept) (t .tree)) b a count) same begins) refl
+
+  pub path-put : {count : ℕ} {b a vs : List ℕ} → at < length (p .order) →
+      vs ≡ listing (p .origin) (getD (p .order) at 0) (tree-in (p .tails) (p .heads) (p .answer .tree)) most-nodes .nodes →
+      Begins (path-line (getD (p .order) at 0) vs) b a count → Gives p (paths-from p at) (Put count (Path (at + 1))) b a
+  unfolding paths-from path-lines rest
+  path-put {count} {b} {a} {vs} h same begins =
+      let v = getD (p .order) at 0 in
+      let here : drop at (p .order) ≡ v ∷ drop (at + 1) (p .order) =
+      drop-cons (p .order) at 0 h ∙ ap (λ (j : ℕ). v ∷ drop j (p .order)) (sym (add-one at)) in
+      gives-put p (paths-from p at) _ _ count (Path (at + 1)) b a (ap (λ (l : List ℕ). path-lines p l ++ marks-lines (p .answer .marks)) here) (path-some v _)
+      (subst (λ (l : List ℕ). Begins (path-line v l) b a count) same begins) refl
+
 module _ (p : Finished) (n from v : ℕ) (all : n ≡ node-count (p .answer .distances)) where
-  module _ (f : First-passing (has-path (p .answer .distances) (p .wanted)) n from v) where
-    abbrev test : ℕ → Bool
-    test = has-path (p .answer .distances) (p .wanted)
-
-    -- the path lines of these nodes, and the line of the marks
-    abbrev lines-of : (nodes : List ℕ) → List (List ℕ)
-    lines-of vs = path-lines p vs ++ marks-lines (p .answer .marks)
-
-    paths-as : paths-from p from ≡ lines-of (passing test (n - v) v)
-    unfolding paths-from
-    paths-as = ap (λ (k : ℕ). lines-of (passing test (k - from) from)) (sym all) ∙ ap lines-of (f .same)
-
-    pub path-last : {count : ℕ} {b a : List ℕ} (tally : Tally) → n ≤ v → tally ≡ tally-of (p .answer .marks) →
-        Begins (marks-line (tally .unreached) (tally .dropped) (tally .kept) (tally .tree)) b a count → Gives p (paths-from p from) (Put count End) b a
-    unfolding path-lines marks-lines tally-of rest
-    path-last {count} {b} {a} tally h same begins =
-        gives-put p (paths-from p from) _ [] count End b a (paths-as ∙ ap lines-of (passing-none test n v h)) (marks-some _ _ _ _)
-        (subst (λ (t : Tally). Begins (marks-line (t .unreached) (t .dropped) (t .kept) (t .tree)) b a count) same begins) refl
-
-    pub path-put : {count : ℕ} {b a vs : List ℕ} → v < n → vs ≡ listing (p .origin) v (tree-in (p .tails) (p .heads) (p .answer .tree)) most-nodes .nodes →
-        Begins (path-line v vs) b a count →
-        Gives p (paths-from p from) (Put count (Path (v + 1))) b a
-    unfolding path-lines rest paths-from
-    path-put {count} {b} {a} {vs} h same begins =
-        gives-put p (paths-from p from) _ (lines-of (passing test (n - (v + 1)) (v + 1))) count (Path (v + 1)) b a
-        (paths-as ∙ ap lines-of (passing-here test n v h (f .passes h))) (path-some v _)
-        (subst (λ (l : List ℕ). Begins (path-line v l) b a count) same begins)
-        (ap (λ (k : ℕ). lines-of (passing test (k - (v + 1)) (v + 1))) (sym all))
-
   module _ (f : First-passing (has-distance (p .answer .distances)) n from v) where
     nodes-as : nodes-from p from ≡ node-lines p (passing (has-distance (p .answer .distances)) (n - v) v) ++ after-nodes p
     unfolding nodes-from
@@ -115,10 +102,10 @@ module _ (p : Finished) (n from v : ℕ) (all : n ≡ node-count (p .answer .dis
         ∙ ap (λ (vs : List ℕ). node-lines p vs ++ after-nodes p) (f .same)
 
     pub node-last : (r : Line) (b a : List ℕ) → n ≤ v → Gives p (paths-from p 0) r b a → Gives p (nodes-from p from) r b a
-    unfolding node-lines
+    unfolding node-lines paths-from after-nodes
     node-last r b a h g =
         subst (λ (ls : List (List ℕ)). Gives p ls r b a)
-        (paths-all p ∙ sym (nodes-as ∙ ap (λ (vs : List ℕ). node-lines p vs ++ after-nodes p) (passing-none (has-distance (p .answer .distances)) n v h)))
+        (sym (nodes-as ∙ ap (λ (vs : List ℕ). node-lines p vs ++ after-nodes p) (passing-none (has-distance (p .answer .distances)) n v h)))
         g
 
     pub node-put : {count distance price arc : ℕ} {b a : List ℕ} → v < n → distance ≡ distance-of (p .answer) v → price ≡ price-of (p .answer) v →

@@ -8,11 +8,11 @@ use Rattle.routes.proofs.print_pieces.Statement.{statement}
 use Rattle.routes.proofs.print_pieces.Tie as tie
 
 abbrev Inv-loop : tie.InvT-loop
-Inv-loop input answer origin tails heads wanted distances prices tree marks out₀ cursor₀ out cursor = length out ≡ length out₀
+Inv-loop input answer origin tails heads order distances prices tree marks out₀ cursor₀ out cursor = length out ≡ length out₀
 
 abbrev μ-loop : tie.MeasureT-loop
-μ-loop input answer origin tails heads wanted distances prices tree marks out₀ cursor₀ out cursor =
-    length (rest (printing answer origin tails heads wanted distances prices tree marks) cursor)
+μ-loop input answer origin tails heads order distances prices tree marks out₀ cursor₀ out cursor =
+    length (rest (printing answer origin tails heads order distances prices tree marks) cursor)
 
 loop-holds : tie.Need-loop-holds Inv-loop μ-loop
 loop-holds c = refl

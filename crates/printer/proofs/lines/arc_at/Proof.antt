@@ -3,7 +3,7 @@ use mathlib.Core.Path.{sym}
 use native.Mathlib.Omega.{arith}
 use lib.ListN.{List·getD-eq-default}
 use Rattle.table.specs.Table.{no-arc}
-use Rattle.printer.proofs.lines.Passing.{inside-same}
+use Rattle.table.proofs.Basics.{inside-same}
 use borrow.Author.Needs.{needs}
 use Rattle.printer.proofs.lines.arc_at.Statement.{statement}
 use Rattle.printer.proofs.lines.arc_at.Tie as tie

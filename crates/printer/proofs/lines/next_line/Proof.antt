@@ -11,14 +11,14 @@ use Rattle.printer.proofs.lines.next_line.Statement.{statement}
 use Rattle.printer.proofs.lines.next_line.Tie as tie
 
 -- what is printed, and from where
-module _ (c : tie.After-slice-known) where
+module _ (c : tie.After-slice-known2) where
   abbrev entry : tie.Start
-  entry = let wanted = c .before .before .before .before .before in wanted .before .before .before
+  entry = let order = c .before .before .before .before .before .before in order .before .before .before
 
   abbrev subject : Finished
   subject =
       let a = entry .args in
-      printing (a .answer) (a .origin) (a .tails .now) (a .heads .now) (a .wanted .now) (a .distances .now) (a .prices .now) (a .tree .now) (a .marks .now)
+      printing (a .answer) (a .origin) (a .tails .now) (a .heads .now) (a .order .now) (a .distances .now) (a .prices .now) (a .tree .now) (a .marks .now)
 
   abbrev from : Cursor
   from = entry .args .cursor
@@ -57,7 +57,7 @@ enum-told-4 : tie.Need-enum-told-4
 enum-told-4 c = search needs
 
 same-length : tie.Need-same-length
-same-length c = search needs
+same-length c = c .before .out .given
 
 returns : tie.Need-returns
 unfolding rest
@@ -68,7 +68,7 @@ returns c =
     at-cursor (subject s) (from s) Start _ _ _ (told .enum-told .given .1) (put .first-line .ensures _ _ _ _ _ _ _ _)
 
 same-length-2 : tie.Need-same-length-2
-same-length-2 c = search needs
+same-length-2 c = c .before .out2 .given
 
 returns-2 : tie.Need-returns-2
 unfolding rest from-reached printing answered
@@ -80,7 +80,7 @@ returns-2 c =
     (gives-put (subject s) _ _ _ (put .put-reached .result) Counts _ _ refl (reached-some _ _ _) (put .put-reached .ensures) refl)
 
 same-length-3 : tie.Need-same-length-3
-same-length-3 c = search needs
+same-length-3 c = c .before .out3 .given
 
 returns-3 : tie.Need-returns-3
 unfolding rest from-counts printing answered
@@ -92,24 +92,30 @@ returns-3 c =
     (gives-put (subject s) _ _ _ (put .put-counts .result) (Node 0) _ _ refl (counts-some _ _ _) (put .put-counts .ensures) (nodes-all (subject s)))
 
 same-length-4 : tie.Need-same-length-4
-same-length-4 c = search needs
+same-length-4 c = c .before .before .before .nodes .given
+
+same-length-5 : tie.Need-same-length-5
+same-length-5 c = c .before .out4 .given
 
 returns-4 : tie.Need-returns-4
 returns-4 c =
-    let put = c .before .before in
-    let told = put .before .before .before in
+    let put = c .before .before .before .before in
+    let told = put .before .before .before .before in
     let s = told .before .before in
     at-cursor (subject s) (from s) (Node _) (put .next-node .result) (entry s .args .out .now) _ (told .cursor .given .1) (put .next-node .ensures (entry s .args .answer))
 
-same-length-5 : tie.Need-same-length-5
-same-length-5 c = search needs
+same-length-6 : tie.Need-same-length-6
+same-length-6 c = c .before .before .before .nodes2 .given
+
+same-length-7 : tie.Need-same-length-7
+same-length-7 c = c .before .out5 .given
 
 returns-5 : tie.Need-returns-5
 returns-5 c =
-    let put = c .before .before in
-    let told = put .before .before .before in
+    let put = c .before .before .before .before in
+    let told = put .before .before .before .before in
     let s = told .before .before in
-    at-cursor (subject s) (from s) (Path _) (put .next-path .result) (entry s .args .out .now) _ (told .cursor2 .given .1) (put .next-path .ensures (entry s .args .answer) (entry s .args .prices .now))
+    at-cursor (subject s) (from s) (Path _) (put .next-path .result) (entry s .args .out .now) _ (told .cursor2 .given .1) (put .next-path .ensures (entry s .args .answer) (entry s .args .distances .now) (entry s .args .prices .now))
 
 returns-6 : tie.Need-returns-6
 unfolding rest
@@ -139,7 +145,9 @@ next-line-spec =
     same-length-3
     returns-3
     same-length-4
-    returns-4
     same-length-5
+    returns-4
+    same-length-6
+    same-length-7
     returns-5
     returns-6)

@@ -4,7 +4,7 @@ use Rattle.table.specs.Table.{no-distance}
 use Rattle.auction.specs.Demands.{distance-of, price-of, link-of}
 use Rattle.hand_over.specs.declared.Planned.{Planned}
 use Rattle.hand_over.specs.Answered.{answered}
-use Rattle.printer.proofs.lines.Passing.{inside-same}
+use Rattle.table.proofs.Basics.{inside-same}
 use Rattle.sheet.specs.Sheet.{Finished}
 use Rattle.printer.specs.Lines.{printing, rest}
 use Rattle.printer.proofs.lines.Rest.{node-last, node-put}
@@ -13,14 +13,14 @@ use Rattle.printer.proofs.lines.next_node.Statement.{statement}
 use Rattle.printer.proofs.lines.next_node.Tie as tie
 
 -- what is printed, and from where
-module _ (c : tie.After-slice-known) where
+module _ (c : tie.After-slice-known2) where
   abbrev entry : tie.Start
-  entry = let wanted = c .before .before .before .before .before in wanted .before .before .before
+  entry = let order = c .before .before .before .before .before .before in order .before .before .before
 
   abbrev subject : Planned → Finished
   subject answer =
       let a = entry .args in
-      printing answer (a .origin) (a .tails .now) (a .heads .now) (a .wanted .now) (a .distances .now) (a .prices .now) (a .tree .now) (a .marks .now)
+      printing answer (a .origin) (a .tails .now) (a .heads .now) (a .order .now) (a .distances .now) (a .prices .now) (a .tree .now) (a .marks .now)
 
 node-count-requires : tie.Need-node-count-requires
 node-count-requires c κs = search needs
@@ -34,18 +34,21 @@ next-path-requires c κs = search needs
 same-length : tie.Need-same-length
 same-length c = search needs
 
+same-length-2 : tie.Need-same-length-2
+same-length-2 c = search needs
+
 returns : tie.Need-returns
 unfolding printing answered rest
 returns c answer =
-    let call = c .before .before in
-    let test = call .before .before in
+    let call = c .before .before .before .before in
+    let test = call .before .before .before in
     let found = test .before in
     let count = found .before in
     let s = count .before in
     let f = found .next-with-distance in
     let n = count .node-count in
     node-last (subject s answer) (n .result) (entry s .args .from) (f .result) (n .ensures .0) (f .ensures) (call .next-path .result) (entry s .args .out .now) _ (test .if1 .taken)
-    (call .next-path .ensures answer (entry s .args .prices .now))
+    (call .next-path .ensures answer (entry s .args .distances .now) (entry s .args .prices .now))
 
 price-at-requires : tie.Need-price-at-requires
 price-at-requires c κs = search needs
@@ -62,11 +65,11 @@ shared-slice-read-put-node c = search needs
 put-node-requires : tie.Need-put-node-requires
 put-node-requires c κs = search needs
 
-add-t19 : tie.Need-add-t19
-add-t19 c = search needs
+add-t22 : tie.Need-add-t22
+add-t22 c = search needs
 
-same-length-2 : tie.Need-same-length-2
-same-length-2 c = search needs
+same-length-3 : tie.Need-same-length-3
+same-length-3 c = search needs
 
 returns-2 : tie.Need-returns-2
 unfolding printing answered rest distance-of price-of link-of
@@ -92,12 +95,13 @@ next-node-spec =
     next-with-distance-requires
     next-path-requires
     same-length
+    same-length-2
     returns
     price-at-requires
     arc-at-requires
     mul-put-node
     shared-slice-read-put-node
     put-node-requires
-    add-t19
-    same-length-2
+    add-t22
+    same-length-3
     returns-2)
