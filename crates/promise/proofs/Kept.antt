@@ -18,7 +18,7 @@ use Rattle.link_format.proofs.Outcomes.{files-refused-by-number}
 use Rattle.link_format.proofs.BitMaps.{needless-record, needless-header-bits}
 use Rattle.link_format.proofs.Rows.{rows}
 use Rattle.link_file.proofs.EntryTrips.{write-then-read, read-then-write, answers-fit}
-use Rattle.sheet.proofs.Promised.{each-once, in-order, plans-printed, refusals-printed}
+use Rattle.sheet.proofs.Promised.{each-once, in-order, order-unseen, plans-printed, refusals-printed}
 use Rattle.sheet.proofs.Examples as Sheets
 use Rattle.printer.proofs.Promised.{pieces-printed}
 use Rattle.promise.specs.Promise.{Promise}
@@ -71,6 +71,7 @@ kept =
       refusals-printed = refusals-printed;
       each-once = each-once;
       in-order = in-order;
+      order-unseen = order-unseen;
       pieces-printed = pieces-printed;
       rack = rack-holds;
       listings = Paths.examples;

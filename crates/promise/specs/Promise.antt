@@ -10,7 +10,7 @@ use Rattle.paths.specs.Examples as Paths
 use Rattle.link_format.specs.Promises.{Accepted-files-write-back, Written-tables-read-back, Long-files-are-refused, Files-refused-by-number, Needless-is-not-canonical, Needless-header-is-not-canonical}
 use Rattle.link_format.specs.Rows as Files
 use Rattle.link_file.specs.Promises.{Write-then-read, Read-then-write, Answers-fit}
-use Rattle.sheet.specs.Promises.{Each-once, In-order, Plans-printed, Refusals-printed}
+use Rattle.sheet.specs.Promises.{Each-once, In-order, Order-unseen, Plans-printed, Refusals-printed}
 use Rattle.sheet.specs.Examples as Sheets
 use Rattle.printer.specs.Promises.{Pieces-printed}
 
@@ -71,6 +71,7 @@ pub record Promise : Type 0 where
   pub refusals-printed : Refusals-printed
   pub each-once : Each-once
   pub in-order : In-order
+  pub order-unseen : Order-unseen
   pub pieces-printed : Pieces-printed
   -- THE ROWS: tables, listings, files and sheets, computed
   pub rack : Rack-holds

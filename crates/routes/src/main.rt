@@ -1,5 +1,6 @@
 // The program: reads a link file from standard input, plans its routes and prints the sheet. It only moves bytes: what is printed of an input is defined in
-// crates/sheet (specs/Printed.antt); the two calls that are made here are input::plan_input, once, and printer::next_piece, until there is no more.
+// crates/sheet (specs/Printed.antt); the three calls that are made here are input::plan_input and path_order::order_paths, once each, and printer::next_piece,
+// until there is no more.
 ghost use Prim.Native.Nat.{_≤_};
 ghost use lib.ListN.{length};
 ghost use Rattle.sheet_lines.specs.Room.{line-room};
@@ -58,7 +59,7 @@ fn print_pieces(
     }
 }
 
-// Reads and plans the input, and prints the sheet.
+// Reads and plans the input, puts its path lines in order, and prints the sheet.
 fn print_input(input: &[u8]) {
     let mut tails = [0u16; MOST_ARCS];
     let mut heads = [0u16; MOST_ARCS];

@@ -20,9 +20,9 @@ use Rattle.paths.specs.Listing.{tree-in, listing, listed}
 use Rattle.paths.specs.Promises.{Plans-listed, nodes-of-walk}
 use Rattle.paths.proofs.Promised.{plans-listed}
 use Rattle.sheet.specs.Sheet.{Finished, finished, path-line, node-count, has-distance, has-line, reached-nodes, path-nodes, node-lines, path-lines, marks-lines, after-nodes, after-counts, from-counts, from-reached, sheet}
-use Rattle.sheet.specs.Promises.{holds, has-path, Each-once, Ascending, In-order, refusal-lines, totals-lines, Shows, Plans-printed, Refusals-printed, Promises}
+use Rattle.sheet.specs.Promises.{holds, has-path, Each-once, Ascending, In-order, Order-unseen, refusal-lines, totals-lines, Shows, Plans-printed, Refusals-printed, Promises}
 use Rattle.sheet.proofs.Nodes.{absent, present, distances-counted, given-has, has-given, not-given, given-low}
-use Rattle.sheet.proofs.Order.{agree, line-wanted, stands-once, upper}
+use Rattle.sheet.proofs.Order.{agree, line-wanted, stands-once, upper, same-order}
 
 pub each-once : Each-once
 unfolding Each-once has-path has-line
@@ -45,6 +45,10 @@ each-once ds ws v =
 pub in-order : In-order
 unfolding In-order Ascending
 in-order ds ws i j low h = upper ds ws i j low h
+
+pub order-unseen : Order-unseen
+unfolding Order-unseen
+order-unseen ds ws ws′ same = same-order ds ws ws′ same
 
 -- the buffers of a plan that was made have an entry for each of at most 1,024 nodes
 buffers-long : (t : Table) (ws : List ℕ) → (length (routes-of t ws .distances) ≡ t .n) × (length (routes-of t ws .tree) ≡ t .n)
@@ -140,4 +144,4 @@ unfolding Refusals-printed sheet
 refusals-printed p not-zero not-eight = rw (ne-eqb (p .answer .number) 0 not-zero, ne-eqb (p .answer .number) 8 not-eight) refl
 
 pub promised : Promises
-promised = record { each-once = each-once; in-order = in-order; plans-printed = plans-printed; refusals-printed = refusals-printed }
+promised = record { each-once = each-once; in-order = in-order; order-unseen = order-unseen; plans-printed = plans-printed; refusals-printed = refusals-printed }

@@ -42,6 +42,11 @@ Ascending ds vs = (i j : ℕ) → i < j → j < length vs → Upper ds (getD vs 
 unfoldable pub In-order : Type 0
 In-order = (distances wanted : List ℕ) → Ascending distances (path-nodes distances wanted)
 
+-- THE WANTED LIST'S ORDER DOES NOT SHOW: two lists that hold the same nodes, in whatever order and however often, have the same path lines in the same order.
+unfoldable pub Order-unseen : Type 0
+Order-unseen =
+    (distances wanted wanted′ : List ℕ) → ((v : ℕ) → holds v wanted ≡ holds v wanted′) → path-nodes distances wanted ≡ path-nodes distances wanted′
+
 -- WHERE A PLAN WAS MADE, the sheet shows it: after the refusal's line, if there is one, come the two lines of totals, a line for each node that was given
 -- a walk, a path line for each of these that is wanted, which lists the nodes of the walk returned to it, and how many arcs have each of the four marks.
 unfoldable pub refusal-lines : Answer → List (List ℕ)
@@ -85,5 +90,6 @@ Refusals-printed =
 pub record Promises : Type 0 where
   pub each-once : Each-once
   pub in-order : In-order
+  pub order-unseen : Order-unseen
   pub plans-printed : Plans-printed
   pub refusals-printed : Refusals-printed
