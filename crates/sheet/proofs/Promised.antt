@@ -20,7 +20,7 @@ use Rattle.paths.specs.Listing.{tree-in, listing, listed}
 use Rattle.paths.specs.Promises.{Plans-listed, nodes-of-walk}
 use Rattle.paths.proofs.Promised.{plans-listed}
 use Rattle.sheet.specs.Sheet.{Finished, finished, path-line, node-count, has-distance, has-line, reached-nodes, path-nodes, node-lines, path-lines, marks-lines, after-nodes, after-counts, from-counts, from-reached, sheet}
-use Rattle.sheet.specs.Promises.{holds, has-path, Each-once, Ascending, In-order, Order-unseen, refusal-lines, totals-lines, Shows, Plans-printed, Refusals-printed, Promises}
+use Rattle.sheet.specs.Promises.{holds, has-path, Each-once, Nearest-first, In-order, Order-unseen, refusal-lines, totals-lines, Shows, Plans-printed, Refusals-printed, Promises}
 use Rattle.sheet.proofs.Nodes.{absent, present, distances-counted, given-has, has-given, not-given, given-low}
 use Rattle.sheet.proofs.Order.{agree, line-wanted, stands-once, upper, same-order}
 
@@ -43,7 +43,7 @@ each-once ds ws v =
     }
 
 pub in-order : In-order
-unfolding In-order Ascending
+unfolding In-order Nearest-first
 in-order ds ws i j low h = upper ds ws i j low h
 
 pub order-unseen : Order-unseen
@@ -130,7 +130,7 @@ module _ (n o : ℕ) (ts hs ls ws ds ps tr ms : List ℕ) (low : Below (2 ^ 32) 
             (λ (h : has-distance (a .distances) v ≡ true). and-false (has-distance (a .distances) v) (holds v ws) (d (has-given a v h)))
             (λ (h : has-distance (a .distances) v ≡ false). rw h refl)
             (true-or (has-distance (a .distances) v)));
-        ascending = in-order (a .distances) ws;
+        nearest-first = in-order (a .distances) ws;
         tallied = record { all = demands .marks-all; tree = demands .marks-tree };
         reached = reached-lines;
       }

@@ -36,11 +36,11 @@ Upper ds v u =
     let e = getD ds u no-distance in
     (d < e) ⊎ ((d ≡ e) × (v < u))
 
-unfoldable pub Ascending : (distances nodes : List ℕ) → Type 0
-Ascending ds vs = (i j : ℕ) → i < j → j < length vs → Upper ds (getD vs i 0) (getD vs j 0)
+unfoldable pub Nearest-first : (distances nodes : List ℕ) → Type 0
+Nearest-first ds vs = (i j : ℕ) → i < j → j < length vs → Upper ds (getD vs i 0) (getD vs j 0)
 
 unfoldable pub In-order : Type 0
-In-order = (distances wanted : List ℕ) → Ascending distances (path-nodes distances wanted)
+In-order = (distances wanted : List ℕ) → Nearest-first distances (path-nodes distances wanted)
 
 -- THE WANTED LIST'S ORDER DOES NOT SHOW: two lists that hold the same nodes, in whatever order and however often, have the same path lines in the same order.
 unfoldable pub Order-unseen : Type 0
@@ -70,7 +70,7 @@ pub record Shows (t : Table) (ws : List ℕ) (p : Finished) (a : Answer) : Type 
   -- each of these that is wanted has one path line, and no other has any; the nearer nodes come first, at equal distances the smaller node numbers
   pub paths : (v : ℕ) → Given a v → holds v ws ≡ true → how-many v (p .order) ≡ 1
   pub no-other-paths : (v : ℕ) → (Given a v → holds v ws ≡ false) → how-many v (p .order) ≡ 0
-  pub ascending : Ascending (a .distances) (p .order)
+  pub nearest-first : Nearest-first (a .distances) (p .order)
   -- the four numbers of the last line add up to the arcs, and the last of them is one less than the nodes reached, which have as many lines
   pub tallied : Tallied (arc-count t) (a .reached) (a .marks)
   pub reached : length (reached-nodes p) ≡ a .reached
