@@ -14,6 +14,13 @@ pub const HEAD: u8 = 2;
 
 pub const LENGTH: u8 = 4;
 
+// The weights of a header's bits.
+pub const COUNT: u8 = 1;
+
+pub const ORIGIN: u8 = 2;
+
+pub const WANTED: u8 = 4;
+
 // The highest head, which no implied head may pass.
 pub const LAST_HEAD: usize = 65535;
 

@@ -1,5 +1,4 @@
--- Laws that several functions share. Those of one Rust module stand beside its functions' proofs, named in the module's node file (header.antt,
--- records.antt, writer.antt).
+-- Laws that several functions share.
 pub mod ReaderWays
 pub mod WriterWays
 pub mod EntryTrips

@@ -16,10 +16,11 @@ use Rattle.link_format.specs.Reading.{_>>=_, Outcome, got, refused, accepted, l
 use Rattle.link_format.proofs.Counts.{Roomy}
 use Rattle.link_format.proofs.Records.{few-records}
 use Rattle.link_file.specs.Entries.{read-answer, Read-says}
-use Rattle.link_file.specs.Says.{arcs-from, wanted-of, header-answer, Header-got, count-of, records-from}
+use Rattle.link_file.specs.Says.{header-answer}
+use Rattle.link_reader.specs.Says.{arcs-from, wanted-of, Header-got, count-of, records-from}
 use Rattle.link_file.specs.declared.TableRead.{TableRead}
-use Rattle.link_file.specs.declared.header.Header.{Header}
-use Rattle.link_file.specs.declared.records.Counted.the-variants.{Arcs, Refused}
+use Rattle.link_reader.specs.declared.header.Header.{Header}
+use Rattle.link_reader.specs.declared.records.Counted.the-variants.{Arcs, Refused}
 use Rattle.table.specs.declared.Refusal.{Refusal}
 
 -- a list stored from the start

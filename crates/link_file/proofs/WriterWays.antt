@@ -15,7 +15,7 @@ use Rattle.link_format.specs.Format.{content, header-bytes, records-bytes, file
 use Rattle.link_file.specs.Entries.{write-answer, Write-says}
 use Rattle.link_fields.specs.Fields.{Put}
 use Rattle.link_file.proofs.ReaderWays.{sets-over}
-use Rattle.link_file.proofs.writer.Pieces.{put-then}
+use Rattle.link_writer.proofs.Pieces.{put-then}
 use Rattle.link_file.specs.declared.Written.{Written}
 use Rattle.table.specs.declared.Refusal.{Refusal}
 use native.Mathlib.Omega.{arith}

@@ -1,14 +1,12 @@
 // The link file of a table: reader and writer, over the fields of crate `link_fields`. Crate `link_format` says what bytes a table has and what reading
 // bytes gives; specs/Entries.antt says what the two entries answer.
-mod header;
-mod records;
-mod writer;
-
-use header::Header;
-use header::HeaderRead;
 use link_fields::fields::narrow;
 use link_fields::fields::refuse;
-use records::Counted;
+use link_reader::header;
+use link_reader::header::Header;
+use link_reader::header::HeaderRead;
+use link_reader::records;
+use link_reader::records::Counted;
 use table::MOST_ARCS;
 use table::MOST_WANTED;
 use table::Refusal;
@@ -148,14 +146,14 @@ pub fn write_link_file(
     if MOST_WANTED < wanted.len() {
         return not_written(refuse(Refusal::WANTED, MOST_WANTED));
     }
-    let bits = writer::header_bits(n, origin, wanted);
-    let size = writer::header_size(bits, wanted.len())
-        + writer::records_size(tails, heads, lengths);
+    let bits = link_writer::header_bits(n, origin, wanted);
+    let size = link_writer::header_size(bits, wanted.len())
+        + link_writer::records_size(tails, heads, lengths);
     if output.len() < size {
         return not_written(refuse(Refusal::ROOM, 0));
     }
-    let at = writer::write_header(n, origin, wanted, bits, output);
-    writer::write_records(tails, heads, lengths, at, output);
+    let at = link_writer::write_header(n, origin, wanted, bits, output);
+    link_writer::write_records(tails, heads, lengths, at, output);
     Written {
         number: Refusal::NONE,
         place: 0,

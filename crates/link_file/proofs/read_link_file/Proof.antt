@@ -10,11 +10,11 @@ use Rattle.link_format.specs.Buffers.{too-short, reading}
 use Rattle.link_format.specs.Reading.{read-file}
 use Rattle.link_format.proofs.Counts.{Roomy, roomy}
 use Rattle.link_format.proofs.Outcomes.{refused-by, reading-short, reading-roomy}
-use Rattle.link_file.specs.Says.{Header-got, count-of, records-from}
+use Rattle.link_reader.specs.Says.{Header-got, count-of, records-from}
 use Rattle.link_file.proofs.ReaderWays.{none-read, header-refuses, records-refuse, count-accepted, count-of-few, read-whole}
-use Rattle.link_file.specs.declared.records.Counted.the-variants.{Arcs}
-use Rattle.link_file.specs.declared.header.Header.{Header}
-use Rattle.link_file.proofs.header.Ways.{header-as-refused, header-as-got}
+use Rattle.link_reader.specs.declared.records.Counted.the-variants.{Arcs}
+use Rattle.link_reader.specs.declared.header.Header.{Header}
+use Rattle.link_reader.proofs.header.Ways.{header-as-refused, header-as-got}
 use native.Mathlib.Omega.{arith}
 use Rattle.link_file.proofs.read_link_file.Statement.{statement}
 use Rattle.link_file.proofs.read_link_file.Tie as tie
@@ -154,16 +154,16 @@ returns-3 c =
     none-read (file (start e)) (all e ∙ records-refuse _ _ (headed h) (sym (k .count-records .ensures) ∙ r .refusal2 .given .1)) (c .not-read3 .ensures)
 
 same-length : tie.Need-same-length
-same-length c = search needs
+same-length c = c .before .before .before .before .before .before .tails .given
 
 same-length-2 : tie.Need-same-length-2
-same-length-2 c = search needs
+same-length-2 c = c .before .before .before .before .heads .given
 
 same-length-3 : tie.Need-same-length-3
-same-length-3 c = search needs
+same-length-3 c = c .before .before .lengths .given
 
 same-length-4 : tie.Need-same-length-4
-same-length-4 c = search needs
+same-length-4 c = c .before .before .before .before .before .before .before .before .before .before .before .before .wanted .given
 
 returns-4 : tie.Need-returns-4
 returns-4 c =

@@ -13,7 +13,7 @@ use Rattle.table.specs.Table.{arcs-of, most-wanted}
 use Rattle.link_format.specs.Buffers.{file-of}
 use Rattle.link_format.proofs.Counts.{equal-columns}
 use Rattle.link_file.proofs.WriterWays.{file-size, none-written, refuses-count, refuses-columns, refuses-wanted, refuses-room, all-written}
-use Rattle.link_file.proofs.writer.Pieces.{put-kept}
+use Rattle.link_writer.proofs.Pieces.{put-kept}
 use Rattle.link_format.specs.Format.{records-bytes, header-bytes}
 use Rattle.link_file.proofs.write_link_file.Statement.{statement}
 use Rattle.link_file.proofs.write_link_file.Tie as tie
@@ -187,7 +187,7 @@ narrow-requires c κs =
     omega (arith, r .records-size .ensures .1, r .before .header-size .ensures .near)
 
 same-length : tie.Need-same-length
-same-length c = search needs
+same-length c = c .before .before .output2 .given ∙ c .before .before .before .before .before .before .output .given
 
 returns-5 : tie.Need-returns-5
 returns-5 c =
