@@ -1,4 +1,4 @@
-// An arc's record: the canonical bit map, and what absent fields say.
+// Bit maps: the weights of a header's and of a record's, and of an arc's record the canonical map and what absent fields say.
 use table::wide;
 ghost use mathlib.Core.Path.{_≡_};
 ghost use mathlib.Core.Bool.{cond};
