@@ -15,10 +15,10 @@ use Rattle.auction.specs.Auction.{State, Ended, ended, auction, iterations, was
 use Rattle.auction.specs.HandOver.{answer, handed-over, route-refusal, entries, greatest, sum, horizon, reached-count, distances, prices, tree, marks, mark, arc-or-none}
 use Rattle.table.proofs.Basics.{same-or, true-or}
 use Rattle.auction.proofs.Sums.{greatest-bound}
-use Rattle.solver.specs.declared.state.Progress.{Progress}
-use Rattle.solver.specs.Seen.{seen, arc-of}
-use Rattle.solver.specs.Steps.{Ran}
-use Rattle.solver.proofs.Arrays.{seen-status, seen-distance, seen-kept, some-arc, no-kept}
+use Rattle.steps.specs.declared.state.Progress.{Progress}
+use Rattle.steps.specs.Seen.{seen, arc-of}
+use Rattle.steps.specs.Steps.{Ran}
+use Rattle.steps.proofs.Arrays.{seen-status, seen-distance, seen-kept, some-arc, no-kept}
 use Rattle.auction.specs.Plan.{routes-of}
 use Rattle.hand_over.specs.ReadOff.{Known, Arc-ends, Ends-held, None-farther, mark-entry}
 use Rattle.hand_over.proofs.Entries.{entries-same}

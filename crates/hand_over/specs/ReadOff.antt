@@ -8,10 +8,10 @@ use Rattle.table.specs.Table.{Table, arc-count, tail-at, head-at, no-distance, 
 use Rattle.auction.specs.Auction.{State}
 use Rattle.auction.specs.HandOver.{Answer, mark-number}
 use Rattle.auction.specs.Plan.{routes-of}
-use Rattle.solver.specs.declared.state.Progress.{Progress}
-use Rattle.solver.specs.declared.run.RunEnd.{RunEnd}
-use Rattle.solver.specs.Seen.{seen}
-use Rattle.solver.specs.Steps.{Ran}
+use Rattle.steps.specs.declared.state.Progress.{Progress}
+use Rattle.steps.specs.declared.state.RunEnd.{RunEnd}
+use Rattle.steps.specs.Seen.{seen}
+use Rattle.steps.specs.Steps.{Ran}
 
 -- the bounds and the statuses are those of a run that has ended
 pub record Known (bound status : List ℕ) : Type 0 where

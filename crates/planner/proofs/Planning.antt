@@ -16,11 +16,11 @@ use Rattle.auction.specs.HandOver.{Answer, answer}
 use Rattle.table.proofs.Basics.{both-true, inside}
 use Rattle.auction.proofs.Good.{good}
 use Rattle.auction.proofs.Made.{unrefused}
-use Rattle.solver.specs.declared.state.Progress.{Progress}
-use Rattle.solver.specs.declared.state.RunState.{RunState}
-use Rattle.solver.specs.Seen.{seen, held, first-of}
-use Rattle.solver.specs.Steps.{Ran}
-use Rattle.solver.proofs.Arrays.{seen-bound, seen-status, no-bound}
+use Rattle.steps.specs.declared.state.Progress.{Progress}
+use Rattle.steps.specs.declared.state.RunState.{RunState}
+use Rattle.steps.specs.Seen.{seen, held, first-of}
+use Rattle.steps.specs.Steps.{Ran}
+use Rattle.steps.proofs.Arrays.{seen-bound, seen-status, no-bound}
 use Rattle.solver.proofs.Columns.{count-so, tail-so, head-so, nodes-so, origin-so}
 use Rattle.auction.specs.Plan.{plan-refusal, plan, routes-of, refused-plan}
 use Rattle.hand_over.specs.ReadOff.{Known, Arc-ends, Fitting, Ends-held}

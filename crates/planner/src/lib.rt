@@ -4,7 +4,7 @@ ghost use mathlib.Core.Bool.{true};
 ghost use lib.ListN.{length};
 ghost use Rattle.table.specs.Table.{table-of, is-table};
 ghost use Rattle.auction.specs.Auction.{fresh};
-ghost use Rattle.solver.specs.Seen.{seen, Sized};
+ghost use Rattle.steps.specs.Seen.{seen, Sized};
 ghost use Rattle.auction.specs.Plan.{routes-of};
 ghost use Rattle.table.specs.Slices.{was, left};
 ghost use Rattle.hand_over.specs.Answered.{answered};
@@ -14,8 +14,8 @@ use hand_over::Planned;
 use hand_over::hand_over;
 use refusals::table_refusal;
 use solver::run::run;
-use solver::state::Progress;
-use solver::state::RunState;
+use steps::state::Progress;
+use steps::state::RunState;
 use table::Refusal;
 
 // The run from the fresh state that is lent, and what it hands over.

@@ -1,4 +1,2 @@
--- What the proofs of more than one module use: what the arrays hold, the columns of a table, and the arcs out of a node.
-pub mod Arrays
+-- What the proofs of more than one crate use: the columns of a table.
 pub mod Columns
-pub mod Arcs

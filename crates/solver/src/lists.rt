@@ -4,7 +4,7 @@ ghost use Prim.Native.Nat.{ℕ, _≤_, _<_};
 ghost use lib.ListN.{length, getD};
 ghost use Rattle.table.specs.Table.{Table, no-arc, most-arcs};
 ghost use Rattle.table.specs.Slices.{was, left};
-ghost use Rattle.solver.specs.Lists.{Tails, Linked};
+ghost use Rattle.steps.specs.Lists.{Tails, Linked};
 use table::wide;
 
 // A position as it stands in a list.

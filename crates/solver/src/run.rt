@@ -7,25 +7,21 @@ ghost use lib.ListN.{length, getD};
 ghost use Rattle.table.specs.Table.{Table, table-of, is-table};
 ghost use Rattle.auction.specs.Auction.{fresh, start};
 ghost use Rattle.table.specs.Slices.{was};
-ghost use Rattle.solver.specs.Seen.{seen, lent, back, held, Sized};
-ghost use Rattle.solver.specs.Lists.{star, lent-star};
-ghost use Rattle.solver.specs.Steps.{Begun, Ran, Runs, First-from};
-use super::bids::least_bid;
+ghost use Rattle.steps.specs.Seen.{seen, lent, back, held, Sized};
+ghost use Rattle.steps.specs.Lists.{star, lent-star};
+ghost use Rattle.steps.specs.Steps.{Ran};
+ghost use Rattle.solver.specs.Runs.{Begun, Runs, First-from};
 use super::lists::link_arcs;
-use super::reaching::reach;
-use super::state::Progress;
-use super::state::RunState;
-use super::steps::step;
+use steps::bids::least_bid;
+use steps::reaching::reach;
+use steps::state::Progress;
+use steps::state::RunEnd;
+use steps::state::RunState;
+use steps::steps::step;
 use table::MOST_ARCS;
 use table::MOST_NODES;
 use table::NO_ARC;
 use table::wide;
-
-// Where a run has ended: the index of the first wanted node that was not reached, which is their number where all were; the counts.
-pub struct RunEnd {
-    pub missing: usize,
-    pub progress: Progress,
-}
 
 // The index of the first wanted node, from an index on, that has not been reached.
 fn first_unreached(from: usize, wanted: &[u16], status: &[u8]) -> usize

@@ -3,7 +3,7 @@ use mathlib.Core.Path.{_≡_, refl, sym, subst}
 use Prim.Native.Nat.{ℕ}
 use native.Mathlib.Omega.{arith}
 use Rattle.auction.specs.Auction.{state, iterations}
-use Rattle.solver.specs.Seen.{seen}
+use Rattle.steps.specs.Seen.{seen}
 use mathlib.Core.Bool.{cond}
 use lib.Dec.{eqb}
 use Rattle.table.specs.Refusals.{no-refusal, refusal}

@@ -6,8 +6,8 @@ use native.Mathlib.Omega.{arith}
 use lib.ListN.{length, take}
 use Rattle.table.specs.Table.{table-of, is-table, most-nodes}
 use Rattle.auction.specs.Auction.{fresh}
-use Rattle.solver.specs.declared.state.RunState.{RunState}
-use Rattle.solver.specs.Seen.{held, first-of, Sized}
+use Rattle.steps.specs.declared.state.RunState.{RunState}
+use Rattle.steps.specs.Seen.{held, first-of, Sized}
 use Rattle.auction.specs.Plan.{routes-of}
 use Rattle.hand_over.specs.ReadOff.{Fitting}
 use Rattle.planner.proofs.Planning.{origin-low, fresh-so, part-fits, part-long}

@@ -5,7 +5,7 @@ use Prim.Native.Nat.{ℕ}
 use lib.ListN.{length}
 use Rattle.table.specs.Table.{Table, table-of}
 use Rattle.auction.specs.Auction.{iterations, state}
-use Rattle.solver.specs.Seen.{seen}
+use Rattle.steps.specs.Seen.{seen}
 use Rattle.solver.proofs.Columns.{nodes-so}
 use Rattle.hand_over.specs.ReadOff.{Fitting}
 use Rattle.planner.proofs.Planning.{known-so, ends-so, ends-held, place-low}

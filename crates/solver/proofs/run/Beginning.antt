@@ -10,11 +10,11 @@ use lib.Seq.{getD-set-same, take-at}
 use Rattle.table.specs.Table.{Table, table-of, is-table, most-nodes, most-arcs}
 use Rattle.auction.specs.Auction.{State, state, bound-at, reach, fresh, start}
 use Rattle.auction.proofs.Good.{good}
-use Rattle.solver.specs.declared.state.Progress.{Progress}
-use Rattle.solver.specs.Seen.{seen, greatest-sum}
-use Rattle.solver.specs.Lists.{star, Linked, Tails}
-use Rattle.solver.specs.Steps.{Begun}
-use Rattle.solver.proofs.Arrays.{seen-bound}
+use Rattle.steps.specs.declared.state.Progress.{Progress}
+use Rattle.steps.specs.Seen.{seen, greatest-sum}
+use Rattle.steps.specs.Lists.{star, Linked, Tails}
+use Rattle.solver.specs.Runs.{Begun}
+use Rattle.steps.proofs.Arrays.{seen-bound}
 use Rattle.solver.proofs.run.Iterating.{bound-value}
 use Rattle.solver.proofs.Columns.{count-so, tail-so, head-so, length-so, nodes-so, origin-so}
 

@@ -17,12 +17,13 @@ use Rattle.auction.proofs.Good.{wanted-in}
 use Rattle.auction.proofs.Steps.Effects.{reached-status, status-reached, known-distance}
 use Rattle.auction.proofs.Steps.Bids.{best-bid}
 use Rattle.auction.proofs.Run.{Running, begins, goes-on, done, stuck, stepped}
-use Rattle.solver.specs.declared.state.Progress.{Progress}
-use Rattle.solver.specs.Seen.{bound-of, bid-of, seen, Sized, greatest-sum, too-many}
-use Rattle.solver.specs.Lists.{star, Outgoing}
-use Rattle.solver.specs.Steps.{Can-step, Begun, Ran, First-from}
-use Rattle.solver.proofs.Arrays.{seen-price, seen-bound, some-bid, some-bound, no-bound}
-use Rattle.solver.proofs.steps.Stepping.{last-entry, as-many, is-extension, is-stop}
+use Rattle.steps.specs.declared.state.Progress.{Progress}
+use Rattle.steps.specs.Seen.{bound-of, bid-of, seen, Sized, greatest-sum, too-many}
+use Rattle.steps.specs.Lists.{star, Outgoing}
+use Rattle.steps.specs.Steps.{Can-step, Ran}
+use Rattle.solver.specs.Runs.{Begun, First-from}
+use Rattle.steps.proofs.Arrays.{seen-price, seen-bound, some-bid, some-bound, no-bound}
+use Rattle.steps.proofs.steps.Stepping.{last-entry, as-many, is-extension, is-stop}
 use Rattle.solver.proofs.run.Wanted.{some-missing, none-missing, jump}
 
 -- the bound in numbers

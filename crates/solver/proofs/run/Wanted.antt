@@ -12,7 +12,7 @@ use borrow.Author.Tests.{lt-ltb, le-ltb}
 use Rattle.auction.specs.Auction.{State, was-reached, status-at, all-reached}
 use Rattle.auction.specs.HandOver.{first-missing}
 use Rattle.table.proofs.Basics.{true-or}
-use Rattle.solver.specs.Steps.{First-from}
+use Rattle.solver.specs.Runs.{First-from}
 
 -- ONE INDEX AFTER THE OTHER
 module _ (w : ℕ) (ws : List ℕ) (x : State) where

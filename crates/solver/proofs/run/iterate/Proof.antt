@@ -9,9 +9,9 @@ use native.Mathlib.Omega.{arith}
 use lib.ListN.{length}
 use Rattle.table.specs.Table.{Table}
 use Rattle.auction.specs.Auction.{best, most-iterations}
-use Rattle.solver.specs.Seen.{seen}
-use Rattle.solver.specs.Lists.{star, Outgoing, Some-table}
-use Rattle.solver.specs.Steps.{bid-in}
+use Rattle.steps.specs.Seen.{seen}
+use Rattle.steps.specs.Lists.{star, Outgoing, Some-table}
+use Rattle.steps.specs.Steps.{bid-in}
 use Rattle.solver.proofs.run.Iterating.{Iterating, Ready, starts, now-ready, wanted-below, may-step, continues, counted, ends, stops, few-in-all}
 use Rattle.solver.proofs.run.iterate.Statement.{statement}
 use Rattle.solver.proofs.run.iterate.Tie as tie

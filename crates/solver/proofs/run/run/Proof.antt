@@ -5,9 +5,9 @@ use Prim.Native.Nat.{ℕ, _≤_, _<_}
 use lib.ListN.{length, getD, take, drop, replicate}
 use Rattle.table.specs.Table.{Table, table-of, no-arc, most-nodes, most-arcs}
 use Rattle.auction.specs.Auction.{fresh}
-use Rattle.solver.specs.Seen.{arrays, held, Sized}
-use Rattle.solver.specs.Lists.{star}
-use Rattle.solver.specs.Steps.{Begun}
+use Rattle.steps.specs.Seen.{arrays, held, Sized}
+use Rattle.steps.specs.Lists.{star}
+use Rattle.solver.specs.Runs.{Begun}
 use Rattle.solver.proofs.Columns.{filled-long, filled-with, nodes-so}
 use Rattle.solver.proofs.run.Beginning.{tails-held, few-tails, few-nodes, tails-below, begun-fresh, prefix-fits, prefix-long, lent-again}
 use borrow.Author.Needs.{needs}
@@ -157,19 +157,19 @@ run-listed-requires c κs =
     )
 
 same-length : tie.Need-same-length
-same-length c = search needs
+same-length c = c .before .before .before .before .before .before .before .before .before .path .given
 
 same-length-2 : tie.Need-same-length-2
-same-length-2 c = search needs
+same-length-2 c = c .before .before .before .before .before .before .before .price .given
 
 same-length-3 : tie.Need-same-length-3
-same-length-3 c = search needs
+same-length-3 c = c .before .before .before .before .before .bound .given
 
 same-length-4 : tie.Need-same-length-4
-same-length-4 c = search needs
+same-length-4 c = c .before .before .before .kept .given
 
 same-length-5 : tie.Need-same-length-5
-same-length-5 c = search needs
+same-length-5 c = c .before .status .given
 
 returns : tie.Need-returns
 returns c =

@@ -2,11 +2,10 @@
 use mathlib.Core.Path.{_∙_}
 use Rattle.table.specs.Table.{Table}
 use Rattle.auction.specs.Auction.{fresh}
-use Rattle.solver.specs.Seen.{arrays, held}
-use Rattle.solver.specs.Lists.{star, Some-table}
-use Rattle.solver.specs.Steps.{Begun}
+use Rattle.steps.specs.Seen.{arrays, held}
+use Rattle.steps.specs.Lists.{star, Some-table}
+use Rattle.solver.specs.Runs.{Begun}
 use Rattle.solver.proofs.run.Beginning.{origin-below, origin-bound, started}
-use borrow.Author.Needs.{needs}
 use Rattle.solver.proofs.run.run_listed.Statement.{statement}
 use Rattle.solver.proofs.run.run_listed.Tie as tie
 
@@ -38,6 +37,10 @@ module _ (c : tie.After-status) where
 module _ (c : tie.After-iterate) where
   abbrev lent-again : tie.After-status
   lent-again = c .before .before .before .before .before .before .before
+
+module _ (c : tie.After-slice-known13) where
+  abbrev iterated : tie.After-iterate
+  iterated = c .before .before .before .before .before .before .before .before .before .before
 
 reach-requires : tie.Need-reach-requires
 unfolding Some-table
@@ -75,24 +78,24 @@ iterate-requires c κs =
     )
 
 same-length : tie.Need-same-length
-same-length c = search needs
+same-length c = c .before .before .before .before .before .before .before .before .before .path .given
 
 same-length-2 : tie.Need-same-length-2
-same-length-2 c = search needs
+same-length-2 c = c .before .before .before .before .before .before .before .price .given
 
 same-length-3 : tie.Need-same-length-3
-same-length-3 c = search needs
+same-length-3 c = c .before .before .before .before .before .bound2 .given ∙ reached (lent-again (iterated c)) .reach .kept .1 .1 .1 .1 .1 .0
 
 same-length-4 : tie.Need-same-length-4
-same-length-4 c = search needs
+same-length-4 c = c .before .before .before .kept2 .given ∙ reached (lent-again (iterated c)) .reach .kept .1 .1 .1 .1 .1 .1 .0
 
 same-length-5 : tie.Need-same-length-5
-same-length-5 c = search needs
+same-length-5 c = c .before .status2 .given ∙ reached (lent-again (iterated c)) .reach .kept .1 .1 .1 .1 .1 .1 .1 .0
 
 returns : tie.Need-returns
 returns c =
     λ t bg.
-    let i = c .before .before .before .before .before .before .before .before .before .before in
+    let i = iterated c in
     i .iterate .ensures t (begun (reached (lent-again i)) t bg)
 
 pub run-listed-spec : {M : Type 1} → statement M

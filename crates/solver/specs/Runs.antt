@@ -1,0 +1,34 @@
+-- How a run begins, and what it and the search for a missing node leave behind. Assumes nothing: these are definitions.
+use mathlib.Core.Path.{_≡_}
+use mathlib.Core.Bool.{true}
+use mathlib.Core.List.{List}
+use Prim.Native.Nat.{ℕ, _≤_}
+use lib.ListN.{length, drop}
+use Rattle.table.specs.Table.{Table, is-table}
+use Rattle.auction.specs.Auction.{State}
+use Rattle.auction.specs.HandOver.{first-missing}
+use Rattle.steps.specs.declared.state.RunState.{RunState}
+use Rattle.steps.specs.Seen.{held}
+use Rattle.steps.specs.Lists.{Star, Outgoing}
+use Rattle.steps.specs.Steps.{Ran}
+
+-- A run begins: at the state that `from` gives each table, the fresh one or the start
+pub record Begun (from : Table → State) (t : Table) (ws : List ℕ) (origin : ℕ) (o : Star) (x : State) : Type 0 where
+  -- the forward star and the origin are the table's
+  pub listed : Outgoing t o
+  pub origin-is : t .origin ≡ origin
+  -- the table and the wanted list are not refused
+  pub good : is-table t ws ≡ true
+  -- and that is the state
+  pub begun : x ≡ from t
+
+-- A RUN from the fresh state or the start: in each table in which the arrays hold that, it ends in the auction's last state.
+abbrev pub Runs : (from : Table → State) → (ws : List ℕ) → (origin : ℕ) → Star → (a b : RunState) → (missing : ℕ) → Type 0
+Runs from ws origin o a b missing = (t : Table) → Begun from t ws origin o (held a) → Ran t ws missing (held b)
+
+-- The index of the first wanted node, from an index on, that has not been reached
+pub record First-from (from : ℕ) (ws status : List ℕ) (r : ℕ) : Type 0 where
+  -- or the number of wanted nodes where there is none
+  pub low : r ≤ length ws
+  -- as the definition finds it in every state with these statuses
+  pub first : (x : State) → x .status ≡ status → r ≡ first-missing from (drop from ws) x
