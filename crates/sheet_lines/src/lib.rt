@@ -1,12 +1,9 @@
 // The lines of a sheet as bytes: each kind has a function that puts a line of it whole at the start of a buffer and answers its length. crates/sheet says which
-// bytes a line has, and crates/printer which line comes next. Beneath the lines, texts and numbers are put one after the other (text), and the arcs of each mark
-// are counted for the line of the marks (tally).
-mod tally;
+// bytes a line has, and crates/printer which line comes next. Beneath the lines, texts and numbers are put one after the other (text).
 mod text;
 
+use mark_tally::Tally;
 use table::wide;
-pub use tally::Tally;
-pub use tally::tally_marks;
 use text::put;
 use text::put_field;
 use text::put_number;

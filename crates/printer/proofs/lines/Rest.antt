@@ -15,8 +15,8 @@ use Rattle.paths.specs.Listing.{listing, tree-in}
 use Rattle.sheet.specs.Text.{text, decimal, spaced}
 use Rattle.sheet.specs.Sheet.{Finished, arc-text, reached-line, counts-line, reached-nodes, after-nodes, after-counts, passing, node-count, has-distance, node-line, path-line, marks-line, node-lines, path-lines, marks-lines, from-reached, refused-line, sheet}
 use Rattle.sheet_lines.specs.Buffers.{Begins}
-use Rattle.sheet_lines.specs.declared.tally.Tally.{Tally}
-use Rattle.sheet_lines.specs.Tally.{tally-of}
+use Rattle.mark_tally.specs.declared.Tally.{Tally}
+use Rattle.mark_tally.specs.Tally.{tally-of}
 use Rattle.printer.specs.declared.lines.Cursor.{Cursor}
 use Rattle.printer.specs.declared.lines.Cursor.the-variants.{Start, Node, Path, End}
 use Rattle.printer.specs.declared.lines.Line.{Line}

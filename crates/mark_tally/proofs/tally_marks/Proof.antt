@@ -1,12 +1,12 @@
--- `sheet_lines::tally::tally_marks` meets its contract: the tally is that of the marks from the index on. Assumes nothing.
+-- `mark_tally::tally_marks` meets its contract: the tally is that of the marks from the index on. Assumes nothing.
 use mathlib.Core.Path.{_≡_, ap, _∙_}
 use native.Mathlib.Omega.{arith}
 use Prim.Native.Nat.{_≤_}
 use lib.ListN.{length, drop}
-use Rattle.sheet_lines.specs.Tally.{tally-of}
-use Rattle.sheet_lines.proofs.tally.Counting.{none-left, one-before, roomy}
-use Rattle.sheet_lines.proofs.tally.tally_marks.Statement.{statement}
-use Rattle.sheet_lines.proofs.tally.tally_marks.Tie as tie
+use Rattle.mark_tally.specs.Tally.{tally-of}
+use Rattle.mark_tally.proofs.Counting.{none-left, one-before, roomy}
+use Rattle.mark_tally.proofs.tally_marks.Statement.{statement}
+use Rattle.mark_tally.proofs.tally_marks.Tie as tie
 
 abbrev Inv-loop : tie.InvT-loop
 Inv-loop marks tally₀ i₀ tally i = (i ≤ length marks) × (tally ≡ tally-of (drop i marks))

@@ -7,8 +7,8 @@ use lib.ListN.{length, drop, getD, length-drop}
 use lib.Seq.{drop-cons, drop-length}
 use Rattle.auction.specs.HandOver.{how-many}
 use Rattle.auction.proofs.Sums.{counted, passed-over, how-many-low}
-use Rattle.sheet_lines.specs.declared.tally.Tally.{Tally}
-use Rattle.sheet_lines.specs.Tally.{tally-of, Roomy}
+use Rattle.mark_tally.specs.declared.Tally.{Tally}
+use Rattle.mark_tally.specs.Tally.{tally-of, Roomy}
 
 -- a tally is that of a list where its four counts are
 pub tally-is : (u d k t : ℕ) (ms : List ℕ) → u ≡ how-many 0 ms → d ≡ how-many 1 ms → k ≡ how-many 2 ms → t ≡ how-many 3 ms →

@@ -1,7 +1,7 @@
-// How many arcs have each mark.
+// How many arcs have each mark, for the last line of a sheet. specs/Tally.antt says what a tally is.
 ghost use mathlib.Core.Path.{_≡_};
 ghost use Rattle.table.specs.Slices.{was};
-ghost use Rattle.sheet_lines.specs.Tally.{tally-of, Roomy, Counts};
+ghost use Rattle.mark_tally.specs.Tally.{tally-of, Roomy, Counts};
 
 // How many arcs have both ends unreached, are dropped, are kept into an unreached node, and are the tree arc of a reached node: marks 0 to 3.
 pub struct Tally {

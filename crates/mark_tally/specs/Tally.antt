@@ -3,7 +3,7 @@ use mathlib.Core.Path.{_≡_}
 use mathlib.Core.List.{List, _∷_}
 use Prim.Native.Nat.{ℕ, _^_, _<_}
 use Rattle.auction.specs.HandOver.{how-many}
-use Rattle.sheet_lines.specs.declared.tally.Tally.{Tally}
+use Rattle.mark_tally.specs.declared.Tally.{Tally}
 
 unfoldable pub tally-of : (marks : List ℕ) → Tally
 tally-of ms = record { unreached = how-many 0 ms; dropped = how-many 1 ms; kept = how-many 2 ms; tree = how-many 3 ms }

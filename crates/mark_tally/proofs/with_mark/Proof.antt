@@ -1,8 +1,8 @@
--- `sheet_lines::tally::with_mark` meets its contract: the mark adds to its own count and to no other. Assumes nothing.
+-- `mark_tally::with_mark` meets its contract: the mark adds to its own count and to no other. Assumes nothing.
 use borrow.Author.Needs.{needs}
-use Rattle.sheet_lines.proofs.tally.Counting.{one-unreached, one-dropped, one-kept, one-tree, no-mark}
-use Rattle.sheet_lines.proofs.tally.with_mark.Statement.{statement}
-use Rattle.sheet_lines.proofs.tally.with_mark.Tie as tie
+use Rattle.mark_tally.proofs.Counting.{one-unreached, one-dropped, one-kept, one-tree, no-mark}
+use Rattle.mark_tally.proofs.with_mark.Statement.{statement}
+use Rattle.mark_tally.proofs.with_mark.Tie as tie
 
 add-t4 : tie.Need-add-t4
 add-t4 c = search needs

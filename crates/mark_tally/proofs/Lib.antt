@@ -1,0 +1,2 @@
+-- The laws of one mark more.
+pub mod Counting
