@@ -10,7 +10,7 @@ use Rattle.auction.specs.Demands.{distance-of, price-of, link-of}
 use Rattle.paths.specs.Listing.{tree-in, listing}
 use Rattle.sheet.specs.Text.{text, decimal, spaced}
 
--- what a sheet is printed from: the table's origin, tails and heads, the nodes that have a path line, in its lines' order, and the plan's answer with its
+-- what a sheet is printed from: the table's origin, tails and heads, the nodes that have a path line, in order, and the plan's answer with its
 -- buffers
 pub record Finished : Type 0 where
   pub origin : ℕ
