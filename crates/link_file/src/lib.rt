@@ -1,5 +1,5 @@
-// The link file of a table: reader and writer, over the parts of crates `link_reader` and `link_writer`. Crate `link_format` says what bytes a table has and what reading
-// bytes gives; specs/Entries.antt says what the two entries answer.
+// The link file of a table: reader and writer, over the parts of crates `link_reader` and `link_writer`. Crate `link_format` says what bytes a table has and
+// what reading bytes gives; specs/Entries.antt says what the two entries answer.
 use link_fields::fields::narrow;
 use link_fields::fields::refuse;
 use link_reader::header;
