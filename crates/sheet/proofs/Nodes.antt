@@ -1,11 +1,11 @@
 -- How often a node stands among those that pass a test, and which nodes have a distance. Assumes nothing.
 use mathlib.Core.Path.{_≡_, refl, sym, ap, _∙_}
 use mathlib.Core.Bool.{Bool, true, false, not}
-use mathlib.Core.List.{List, [], _∷_}
+use mathlib.Core.List.{List}
 use mathlib.Core.Logic.{⊎-elim}
 use Prim.Native.Nat.{ℕ, zero, suc, _+_, _≤_, _<_}
 use native.Mathlib.Omega.{arith}
-use lib.ListN.{length, getD, drop}
+use lib.ListN.{length, getD, drop, List·getD-eq-default}
 use lib.Seq.{drop-cons, drop-length}
 use borrow.Author.Tests.{eq-eqb, ne-eqb, eqb-false, not-true}
 use Rattle.table.specs.Table.{no-distance}
@@ -39,12 +39,6 @@ module _ (f : ℕ → Bool) (v : ℕ) where
       ⊎-elim (λ (u : f a ≡ true). rw (u, ne-eqb a v d) (omega (arith, later))) (λ (u : f a ≡ false). rw u later) (true-or (f a)))
       (same-or a v)
 
--- past its end a list has only what stands for nothing
-pub outside : (l : List ℕ) (i d : ℕ) → length l ≤ i → getD l i d ≡ d
-outside [] i d h = refl
-outside (x ∷ l) zero d h = absurd (omega arith)
-outside (x ∷ l) (suc i) d h = outside l i d (omega arith)
-
 -- as many nodes pass as have a distance: those without one are the others
 pub distances-counted : (ds : List ℕ) (k v : ℕ) → v + k ≡ length ds → length (passing (has-distance ds) k v) + how-many no-distance (drop v ds) ≡ k
 unfolding passing with-node has-distance how-many
@@ -76,5 +70,5 @@ module _ (a : Answer) (v : ℕ) where
   pub given-low : Given a v → v < length (a .distances)
   unfolding Given distance-of
   given-low g =
-      ⊎-elim (λ (h : v < length (a .distances)). h) (λ (h : length (a .distances) ≤ v). absurd (g (outside (a .distances) v no-distance h)))
+      ⊎-elim (λ (h : v < length (a .distances)). h) (λ (h : length (a .distances) ≤ v). absurd (g (List·getD-eq-default (a .distances) no-distance {n = v} h)))
       (below-or v (length (a .distances)))

@@ -19,14 +19,15 @@ use Rattle.auction.proofs.Sums.{entries-length}
 use Rattle.paths.specs.Listing.{tree-in, listing, listed}
 use Rattle.paths.specs.Promises.{Plans-listed, nodes-of-walk}
 use Rattle.paths.proofs.Promised.{plans-listed}
-use Rattle.sheet.specs.Sheet.{Finished, finished, path-line, node-count, has-distance, has-line, reached-nodes, path-nodes, node-lines, path-lines, marks-lines, after-nodes, after-counts, from-counts, from-reached, sheet}
+use Rattle.sheet.specs.Sheet.{Finished, to-print, finished, path-line, node-count, has-distance, has-line, reached-nodes, path-nodes, node-lines, path-lines, marks-lines, after-nodes, after-counts, from-counts, from-reached, sheet}
 use Rattle.sheet.specs.Promises.{holds, has-path, Each-once, Nearest-first, In-order, Order-unseen, refusal-lines, totals-lines, Shows, Plans-printed, Refusals-printed, Promises}
 use Rattle.sheet.proofs.Nodes.{absent, present, distances-counted, given-has, has-given, not-given, given-low}
 use Rattle.sheet.proofs.Order.{agree, line-wanted, stands-once, upper, same-order}
 
 pub each-once : Each-once
 unfolding Each-once has-path has-line
-each-once ds ws v =
+each-once o ts hs ws a v =
+    let ds = a .distances in
     record {
       once =
           λ low t.
@@ -44,11 +45,11 @@ each-once ds ws v =
 
 pub in-order : In-order
 unfolding In-order Nearest-first
-in-order ds ws i j low h = upper ds ws i j low h
+in-order o ts hs ws a i j low h = upper (a .distances) ws i j low h
 
 pub order-unseen : Order-unseen
 unfolding Order-unseen
-order-unseen ds ws ws′ same = same-order ds ws ws′ same
+order-unseen o ts hs ws ws′ a same = ap (λ (vs : List ℕ). sheet (to-print o ts hs vs a)) (same-order (a .distances) ws ws′ same)
 
 -- the buffers of a plan that was made have an entry for each of at most 1,024 nodes
 buffers-long : (t : Table) (ws : List ℕ) → (length (routes-of t ws .distances) ≡ t .n) × (length (routes-of t ws .tree) ≡ t .n)
@@ -121,16 +122,16 @@ module _ (n o : ℕ) (ts hs ls ws ds ps tr ms : List ℕ) (low : Below (2 ^ 32) 
         no-others = λ v d. absent (has-distance (a .distances)) v (node-count (a .distances)) 0 (λ x y. not-given a v d);
         paths =
             λ v g w.
-            each-once (a .distances) ws v .once (omega (arith, count, given-low a v g)) (true-both (has-distance (a .distances) v) (holds v ws) (given-has a v g) w);
+            each-once o ts hs ws a v .once (omega (arith, count, given-low a v g)) (true-both (has-distance (a .distances) v) (holds v ws) (given-has a v g) w);
         no-other-paths =
             λ v d.
-            each-once (a .distances) ws v .never
+            each-once o ts hs ws a v .never
             (λ x.
             ⊎-elim
             (λ (h : has-distance (a .distances) v ≡ true). and-false (has-distance (a .distances) v) (holds v ws) (d (has-given a v h)))
             (λ (h : has-distance (a .distances) v ≡ false). rw h refl)
             (true-or (has-distance (a .distances) v)));
-        nearest-first = in-order (a .distances) ws;
+        nearest-first = in-order o ts hs ws a;
         tallied = record { all = demands .marks-all; tree = demands .marks-tree };
         reached = reached-lines;
       }

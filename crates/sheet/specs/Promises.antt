@@ -12,7 +12,7 @@ use Rattle.auction.specs.Plan.{plan}
 use Rattle.auction.specs.Promises.{Tallied}
 use Rattle.auction.specs.Demands.{Given, distance-of, price-of, link-of, walk-of}
 use Rattle.paths.specs.Promises.{nodes-of-walk}
-use Rattle.sheet.specs.Sheet.{Finished, finished, refused-line, reached-line, counts-line, node-line, path-line, node-count, has-distance, reached-nodes, path-nodes, marks-lines, sheet}
+use Rattle.sheet.specs.Sheet.{Finished, finished, refused-line, reached-line, counts-line, node-line, path-line, node-count, has-distance, reached-nodes, marks-lines, sheet}
 
 -- EACH PATH LINE ONCE, whatever the buffers hold: a node that has a distance and is wanted, however often, has one path line, and no other node has any.
 unfoldable pub holds : (v : ℕ) → List ℕ → Bool
@@ -22,12 +22,12 @@ holds v (w ∷ ws) = eqb w v || holds v ws
 unfoldable pub has-path : (distances wanted : List ℕ) → (v : ℕ) → Bool
 has-path ds ws v = has-distance ds v && holds v ws
 
-pub record Once (ds ws : List ℕ) (v : ℕ) : Type 0 where
-  pub once : v < node-count ds → has-path ds ws v ≡ true → how-many v (path-nodes ds ws) ≡ 1
-  pub never : (v < node-count ds → has-path ds ws v ≡ false) → how-many v (path-nodes ds ws) ≡ 0
+pub record Once (p : Finished) (ws : List ℕ) (v : ℕ) : Type 0 where
+  pub once : v < node-count (p .answer .distances) → has-path (p .answer .distances) ws v ≡ true → how-many v (p .order) ≡ 1
+  pub never : (v < node-count (p .answer .distances) → has-path (p .answer .distances) ws v ≡ false) → how-many v (p .order) ≡ 0
 
 unfoldable pub Each-once : Type 0
-Each-once = (distances wanted : List ℕ) (v : ℕ) → Once distances wanted v
+Each-once = (o : ℕ) (tails heads wanted : List ℕ) (a : Answer) (v : ℕ) → Once (finished o tails heads wanted a) wanted v
 
 -- IN ORDER, whatever the buffers hold: of two path lines the upper one's node has the smaller distance, or the same distance and the smaller number.
 unfoldable pub Upper : (distances : List ℕ) → (v u : ℕ) → Type 0
@@ -40,12 +40,13 @@ unfoldable pub Nearest-first : (distances nodes : List ℕ) → Type 0
 Nearest-first ds vs = (i j : ℕ) → i < j → j < length vs → Upper ds (getD vs i 0) (getD vs j 0)
 
 unfoldable pub In-order : Type 0
-In-order = (distances wanted : List ℕ) → Nearest-first distances (path-nodes distances wanted)
+In-order = (o : ℕ) (tails heads wanted : List ℕ) (a : Answer) → Nearest-first (a .distances) (finished o tails heads wanted a .order)
 
--- THE WANTED LIST'S ORDER DOES NOT SHOW: two lists that hold the same nodes, in whatever order and however often, have the same path lines in the same order.
+-- THE WANTED LIST'S ORDER DOES NOT SHOW: of one answer, two lists that hold the same nodes, in whatever order and however often, print the same sheet.
 unfoldable pub Order-unseen : Type 0
 Order-unseen =
-    (distances wanted wanted′ : List ℕ) → ((v : ℕ) → holds v wanted ≡ holds v wanted′) → path-nodes distances wanted ≡ path-nodes distances wanted′
+    (o : ℕ) (tails heads wanted wanted′ : List ℕ) (a : Answer) → ((v : ℕ) → holds v wanted ≡ holds v wanted′) →
+    sheet (finished o tails heads wanted a) ≡ sheet (finished o tails heads wanted′ a)
 
 -- WHERE A PLAN WAS MADE, the sheet shows it: after the refusal's line, if there is one, come the two lines of totals, a line for each node that was given
 -- a walk, a path line for each of these that is wanted, which lists the nodes of the walk returned to it, and how many arcs have each of the four marks.
