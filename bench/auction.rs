@@ -7,6 +7,7 @@ const NODES: usize = 1_024;
 const ARCS: usize = 6_000;
 const NONE: u16 = u16::MAX;
 const NO_BOUND: u64 = u64::MAX;
+const DOWN: u32 = u32::MAX;
 
 /// What a plan fills.
 #[derive(Default)]
@@ -26,7 +27,7 @@ impl Plan {
 
 struct State<'a> {
     table: &'a Table,
-    /// The first outgoing arc of each node, and the arc after each arc with the same tail.
+    /// The first outgoing arc of each node, and the arc after each arc with the same tail; those that are down are left out.
     first: [u16; NODES],
     next: [u16; ARCS],
     price: [u64; NODES],
@@ -85,8 +86,10 @@ impl State<'_> {
             counts: Counts::default(),
         };
         for (arc, &tail) in table.tails.iter().enumerate().rev() {
-            state.next[arc] = state.first[tail as usize];
-            state.first[tail as usize] = arc as u16;
+            if table.lengths[arc] != DOWN {
+                state.next[arc] = state.first[tail as usize];
+                state.first[tail as usize] = arc as u16;
+            }
         }
         for &node in wanted {
             state.missing_count += !state.missing[node as usize] as usize;
@@ -171,6 +174,7 @@ impl State<'_> {
             let (tail, head) = (self.table.tails[arc] as usize, self.table.heads[arc] as usize);
             let kept = self.kept[head] as usize == arc;
             out.marks[arc] = match (self.reached[tail], self.reached[head]) {
+                _ if self.table.lengths[arc] == DOWN => 1,
                 (_, true) => if kept { 3 } else { 1 },
                 (true, false) => if kept { 2 } else { 1 },
                 (false, false) => 0,

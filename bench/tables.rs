@@ -20,7 +20,7 @@ pub const FAMILIES: [Family; 8] = [
     Family { name: "two hubs", make: two_hubs, n: 1_024 },
     Family { name: "chain", make: chain, n: 1_024 },
     Family { name: "chain with branches", make: chain_with_branches, n: 1_024 },
-    Family { name: "ring, lengths 4,294,967,295", make: ring, n: 1_024 },
+    Family { name: "ring, lengths 4,294,967,294", make: ring, n: 1_024 },
     Family { name: "grid", make: grid, n: 1_024 },
 ];
 
@@ -83,7 +83,8 @@ fn chain_with_branches(n: usize) -> Table {
 }
 
 fn ring(n: usize) -> Table {
-    table(n, (0..n).flat_map(|node| [(node, (node + 1) % n, u32::MAX), ((node + 1) % n, node, u32::MAX)]).collect())
+    const LONGEST: u32 = u32::MAX - 1;
+    table(n, (0..n).flat_map(|node| [(node, (node + 1) % n, LONGEST), ((node + 1) % n, node, LONGEST)]).collect())
 }
 
 /// A square grid with arcs both ways between neighbours.

@@ -7,6 +7,7 @@ from typing import NamedTuple, Optional
 TAKES = {"nodes": "one number", "origin": "one node", "wanted": "nodes", "link": "three numbers: from, to, length"}
 SIZES = {"nodes": [2], "origin": [2], "link": [2, 2, 4]}
 MOST_LISTED = 65535
+DOWN = 4294967295  # the length of a link that is down; a text has the word for it
 
 
 class Fault(Exception):
@@ -24,11 +25,13 @@ class Table(NamedTuple):
 
 
 def number(word, size):
-    """The number that a word says, for a field of that many bytes."""
-    most = 256**size - 1
+    """The number that a word says, for a field of that many bytes; one of 4 bytes is a length."""
+    if size == 4 and word == "down":
+        return DOWN
+    most, other = 256**size - 1, " or 'down'" if size == 4 else ""
     digits = word.lstrip("0") or "0"
     if not (word.isascii() and word.isdigit() and len(digits) <= 10 and int(digits) <= most):
-        raise Fault(f"'{shown(word)}' is not a whole number from 0 to {most}")
+        raise Fault(f"'{shown(word)}' is not a whole number from 0 to {most}{other}")
     return int(digits)
 
 
@@ -79,7 +82,7 @@ def write_text(table):
         lines.append(f"origin {table.origin}")
     if table.wanted is not None:
         lines.append(" ".join(["wanted", *map(str, table.wanted)]))
-    lines += [f"link {tail} {head} {length}" for tail, head, length in table.links]
+    lines += [f"link {tail} {head} {'down' if length == DOWN else length}" for tail, head, length in table.links]
     return "\n".join(lines) + "\n"
 
 

@@ -6,7 +6,7 @@
  *
  *   n                1 to KESTRELORE_MOST_NODES
  *   arcs             0 to KESTRELORE_MOST_ARCS; parallel arcs and loops are allowed
- *   length           1 to 4,294,967,295
+ *   length           1 to 4,294,967,294; KESTRELORE_DOWN says that the link is down
  *   wanted nodes     0 to KESTRELORE_MOST_WANTED; repeats and the origin may stand among them
  *
  * Every function ends on every input. A list is a pointer and the number of its elements; the
@@ -15,7 +15,7 @@
  *
  * Calls share nothing: there is no global state, no allocation and no call out of the library but
  * to memcpy and memset, so two threads may call at once. Stack needed, measured on x86-64
- * (docs/PERFORMANCE.md): planning 44,072 bytes, each other call less than 512.
+ * (docs/PERFORMANCE.md): planning 44,088 bytes, each other call less than 512.
  *
  * Every answer starts with a number and a place: kestrelore_refusal lists them. docs/RULES.md has
  * the rules of planning, the file format with an example byte by byte, and the order of the tests.
@@ -37,6 +37,12 @@ extern "C" {
 #define KESTRELORE_MOST_ARCS 6000
 #define KESTRELORE_MOST_WANTED 1024
 #define KESTRELORE_LONGEST_FILE 56055
+
+/*
+ * The length of a link that is down. Its arc is absent: it keeps its position and is tested like any
+ * other, but it is in no walk and its mark is 1. A plan is that of the table without such arcs.
+ */
+#define KESTRELORE_DOWN UINT32_C(4294967295)
 
 /* The entry of a tree column at the origin and at nodes that were not reached. */
 #define KESTRELORE_NO_ARC UINT16_C(65535)
@@ -61,7 +67,8 @@ typedef enum kestrelore_refusal {
                                      below n (its index); a node to list is not below n (place 0) */
     KESTRELORE_ARC_END = 6,       /* an arc's tail or head is not below n (its position) */
     KESTRELORE_ARC_LENGTH = 7,    /* an arc's length is 0 (its position) */
-    KESTRELORE_NO_ROUTE = 8,      /* a wanted node has no walk from the origin (the first such index) */
+    KESTRELORE_NO_ROUTE = 8,      /* a wanted node has no walk from the origin (the first such index);
+                                     also where only links that are down lead there */
     KESTRELORE_CUT = 9,           /* the file is cut inside a field, or empty (the file's length) */
     KESTRELORE_BIT_MAP = 10,      /* a bit map has one of bits 3 to 7, or a needed field is absent (the
                                      bit map's offset) */
@@ -115,12 +122,14 @@ typedef struct kestrelore_written {
  * the numbers 1 to 5, then 6 and 7 arc by arc, then 8. Filled where the number is 0 or 8:
  *
  *   distances  of a reached node the least length of all walks to it; else KESTRELORE_NO_DISTANCE
- *   prices     of a reached node horizon - distance; else 0. On every arc the tail's price is at
- *              most the length + the head's price, with equality along the returned walks
+ *   prices     of a reached node horizon - distance; else 0. On every arc that is not down the
+ *              tail's price is at most the length + the head's price, with equality along the
+ *              returned walks
  *   tree       of a reached node the position of the last arc of its walk: the earliest listed of
  *              those that attain the distance; KESTRELORE_NO_ARC at the origin and elsewhere
  *   marks      3: the tree arc of a reached node. 1: any other arc into a reached node, or out of
- *              one and not kept. 2: kept into an unreached node. 0: both ends unreached
+ *              one and not kept; and every arc that is down. 2: kept into an unreached node. 0: both
+ *              ends unreached
  */
 kestrelore_planned kestrelore_plan_routes(
     uint32_t n, uint16_t origin,

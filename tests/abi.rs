@@ -9,6 +9,7 @@ pub const MOST_NODES: usize = 1_024;
 pub const MOST_ARCS: usize = 6_000;
 pub const MOST_WANTED: usize = 1_024;
 pub const LONGEST_FILE: usize = 56_055;
+pub const DOWN: u32 = 4_294_967_295;
 pub const NO_ARC: u16 = 65_535;
 pub const NO_DISTANCE: u64 = u64::MAX;
 
@@ -203,6 +204,7 @@ pub fn layout() -> Result<String, std::fmt::Error> {
     ] {
         writeln!(text, "KESTRELORE_{name} {limit}")?;
     }
+    writeln!(text, "KESTRELORE_DOWN {DOWN}")?;
     writeln!(text, "KESTRELORE_NO_ARC {NO_ARC}")?;
     writeln!(text, "KESTRELORE_NO_DISTANCE {NO_DISTANCE}")?;
     for (number, name) in REFUSALS.iter().enumerate() {

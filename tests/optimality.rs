@@ -11,6 +11,11 @@ pub struct Filled {
     pub marks: Vec<u8>,
 }
 
+/// The arcs that are not down, with their positions.
+fn present_arcs(table: &Table) -> Vec<(usize, Arc)> {
+    table.arcs().into_iter().enumerate().filter(|(_, arc)| arc.2 != DOWN).collect()
+}
+
 /// The least length of all walks from the origin to each node; none where there is no walk.
 fn least_distances(table: &Table) -> Vec<Option<u64>> {
     let mut least: Vec<Option<u64>> = vec![None; table.n as usize];
@@ -18,7 +23,7 @@ fn least_distances(table: &Table) -> Vec<Option<u64>> {
     let mut changed = true;
     while changed {
         changed = false;
-        for (tail, head, length) in table.arcs() {
+        for (_, (tail, head, length)) in present_arcs(table) {
             let through = least[tail as usize].map(|distance| distance + length as u64);
             let known = least[head as usize];
             if through.is_some() && (known.is_none() || through < known) {
@@ -60,12 +65,14 @@ fn check_answer(table: &Table, plan: &Planned, filled: &Filled, least: &[Option<
     demand(farthest == Some(plan.horizon), || format!("the largest distance is {farthest:?}"))?;
     let tree_arcs = filled.marks.iter().filter(|&&mark| mark == 3).count();
     demand(tree_arcs + 1 == reached.len(), || format!("{tree_arcs} arcs are marked 3"))?;
-    demand(filled.marks.iter().all(|&mark| mark <= 3), || "an arc has none of the four marks".to_string())
+    demand(filled.marks.iter().all(|&mark| mark <= 3), || "an arc has none of the four marks".to_string())?;
+    let mut down = (0..table.tails.len()).filter(|&position| table.lengths[position] == DOWN);
+    demand(down.all(|position| filled.marks[position] == 1), || "an arc is down and its mark is not 1".to_string())
 }
 
 fn check_nodes(table: &Table, plan: &Planned, filled: &Filled, least: &[Option<u64>]) -> Result<(), String> {
     let mut earliest = vec![NO_ARC; table.n as usize];
-    for (position, (tail, head, length)) in table.arcs().into_iter().enumerate().rev() {
+    for (position, (tail, head, length)) in present_arcs(table).into_iter().rev() {
         let attained = least[tail as usize].map(|distance| distance + length as u64);
         if attained.is_some() && attained == least[head as usize] && head != table.origin {
             earliest[head as usize] = position as u16;
@@ -85,9 +92,9 @@ fn check_nodes(table: &Table, plan: &Planned, filled: &Filled, least: &[Option<u
     Ok(())
 }
 
-/// On every arc the tail's price is at most the length + the head's price.
+/// On every arc that is not down the tail's price is at most the length + the head's price.
 fn check_prices(table: &Table, filled: &Filled) -> Result<(), String> {
-    for (position, (tail, head, length)) in table.arcs().into_iter().enumerate() {
+    for (position, (tail, head, length)) in present_arcs(table) {
         let (tail_price, head_price) = (filled.prices[tail as usize], filled.prices[head as usize]);
         demand(tail_price <= length as u64 + head_price, || format!("price rule broken on arc {position}"))?;
     }
@@ -106,6 +113,7 @@ fn check_walk(table: &Table, filled: &Filled, node: usize) -> Result<(), String>
         }
         let arc = filled.tree[at] as usize;
         demand(table.heads.get(arc) == Some(&(at as u16)), || format!("no tree arc into {at}"))?;
+        demand(table.lengths[arc] != DOWN, || format!("arc {arc} of a returned walk is down"))?;
         let (tail, length) = (table.tails[arc] as usize, table.lengths[arc] as u64);
         let tight = filled.prices[tail] == length + filled.prices[at];
         demand(tight, || format!("prices unequal on arc {arc} of a returned walk"))?;

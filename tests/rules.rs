@@ -3,7 +3,7 @@
 pub use crate::abi::*;
 
 pub const LONGEST_INPUT: usize = 65_536;
-pub const LONGEST_ARC: u32 = u32::MAX;
+pub const LONGEST_ARC: u32 = u32::MAX - 1;
 
 /// A link table, faulty or not.
 #[derive(Clone, Debug, Default, PartialEq)]

@@ -86,6 +86,15 @@ pub fn lengths(random: &mut Random, count: usize) -> Vec<u32> {
     (0..count).map(|_| length()).collect()
 }
 
+/// Takes arcs down, so many in a hundred.
+pub fn take_down(random: &mut Random, table: &mut Table, share: usize) {
+    for length in &mut table.lengths {
+        if random.below(100) < share {
+            *length = DOWN;
+        }
+    }
+}
+
 pub fn wanted(random: &mut Random, n: usize, origin: u16) -> Vec<u16> {
     let all = 0..n as u16;
     match random.below(8) {
@@ -104,7 +113,7 @@ pub fn wanted(random: &mut Random, n: usize, origin: u16) -> Vec<u16> {
 }
 
 /// A table of the shape without a fault: some arcs doubled, loops added, arcs and nodes in another
-/// order, and sometimes the last node left out of the shape.
+/// order, sometimes some arcs down, and sometimes the last node left out of the shape.
 pub fn table(random: &mut Random, shape: Shape, n: usize) -> Table {
     let connected = if n > 1 && random.one_in(8) { n - 1 } else { n };
     let mut ends = ends(random, shape, connected);
@@ -127,5 +136,8 @@ pub fn table(random: &mut Random, shape: Shape, n: usize) -> Table {
     let wanted = wanted(random, n, origin);
     let named = ends.iter().map(|&(tail, head)| (names[tail], names[head]));
     let arcs: Vec<Arc> = named.zip(lengths).map(|((tail, head), length)| (tail, head, length)).collect();
-    Table::new(n as u32, origin, &arcs, &wanted)
+    let mut table = Table::new(n as u32, origin, &arcs, &wanted);
+    let share = random.pick(&[0, 0, 0, 10, 50]);
+    take_down(random, &mut table, share);
+    table
 }

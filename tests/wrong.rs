@@ -22,13 +22,16 @@ pub fn noticed(fault: Wrong, seed: u64) -> Result<&'static str, String> {
     Err("no case notices it".to_string())
 }
 
-/// The faults that break a promise about distances, links, prices, "no route" or the horizon.
-pub const AGAINST_PROMISES: [Wrong; 5] = [
+/// The faults that break a promise about distances, links, prices, "no route", the horizon or links that are down.
+pub const AGAINST_PROMISES: [Wrong; 8] = [
     Wrong::TieByFirstMet,
     Wrong::HorizonFromRawPrice,
     Wrong::RawPrices,
     Wrong::PathShortenedAtOrigin,
     Wrong::PlaceIsNode,
+    Wrong::DownLinksUsed,
+    Wrong::DownLinksUnmarked,
+    Wrong::DownLinksClosedUp,
 ];
 
 pub fn noticed_by_optimality(fault: Wrong, random: &mut Random) -> Tried {

@@ -27,7 +27,7 @@ fn near(random: &mut Random, last: u16) -> u16 {
 fn any_length(random: &mut Random, last: u32) -> u32 {
     match random.below(4) {
         0 | 1 => last,
-        2 => random.pick(&[0, 1, LONGEST_ARC]),
+        2 => random.pick(&[0, 1, LONGEST_ARC, DOWN]),
         _ => random.number() as u32,
     }
 }

@@ -33,6 +33,11 @@ fn planner_rows(entries: &dyn Entries, _: &mut Random) -> Tried {
         (Table::new(2, 0, &[(0, 1, 0)], &[]), None, (7, 0)),
         (Table::new(2, 0, &[(0, 2, 0)], &[]), None, (6, 0)),
         (Table::new(2, 0, &[(0, 1, 0), (0, 2, 1)], &[]), None, (7, 0)),
+        (Table::new(2, 0, &[(0, 2, DOWN)], &[]), None, (6, 0)),
+        (Table::new(2, 0, &[(0, 1, 1), (2, 1, DOWN)], &[1]), None, (6, 1)),
+        (Table::new(2, 0, &[(2, 1, DOWN), (0, 1, 0)], &[1]), None, (6, 0)),
+        (Table::new(2, 0, &[(0, 1, DOWN), (0, 1, 0)], &[1]), None, (7, 1)),
+        (Table::new(2, 0, &[(0, 1, DOWN)], &[0, 1]), None, (8, 1)),
         (Table::new(2, 0, &[], &[1]), None, (8, 0)),
         (Table::new(3, 0, &[(0, 1, 1)], &[1, 0, 2, 2]), None, (8, 2)),
     ];
@@ -107,7 +112,7 @@ fn damage(random: &mut Random, table: &mut Table, sizes: &mut Sizes) {
         let no_node = random.pick(&[table.n as u16, NO_ARC]);
         let index = random.below(table.wanted.len().max(1));
         let position = random.below(m.max(1));
-        match random.below(11) {
+        match random.below(12) {
             0 => table.n = random.pick(&[0, 1, 1_025, 65_535, 65_536, 65_537, u32::MAX]),
             1 => drop(table.tails.pop()),
             2 => drop(table.heads.pop()),
@@ -119,6 +124,7 @@ fn damage(random: &mut Random, table: &mut Table, sizes: &mut Sizes) {
             8 if m > 0 => table.tails[position] = no_node,
             9 if m > 0 => table.heads[position] = no_node,
             10 if m > 0 => table.lengths[position] = 0,
+            11 if m > 0 => (table.tails[position], table.lengths[position]) = (no_node, DOWN),
             _ => {}
         }
     }

@@ -1,12 +1,13 @@
 //! Plans of random tables, against the model and against the optimality check.
 
 use super::*;
-use crate::compare;
+use crate::compare::{self, plan_filled};
 use crate::shapes::{self, Shape, SHAPES};
 use std::thread;
 
 pub const GROUPS: &[Group] = &[
     Group { name: "plans: all tables of two and three nodes with few arcs", run: all_small },
+    Group { name: "plans: links down, and the table without them", run: without_down },
     Group { name: "plans: random tables of 1 to 12 nodes", run: small },
     Group { name: "plans: random tables of up to 80 nodes", run: medium },
     Group { name: "plans: random tables of up to 1,024 nodes", run: large },
@@ -15,14 +16,15 @@ pub const GROUPS: &[Group] = &[
     Group { name: "plans: two threads at once", run: two_threads },
 ];
 
-/// Every table of n nodes with that many arcs of lengths 1 and 2, for some wanted lists.
+/// Every table of n nodes with that many arcs, of lengths 1 and 2 or down, for some wanted lists.
 fn every_table(entries: &dyn Entries, n: usize, m: usize) -> Tried {
-    let choices = n * n * 2;
+    let lengths = [1, 2, DOWN];
+    let choices = n * n * lengths.len();
     let tables = choices.pow(m as u32);
     let wanted: [&[u16]; 4] = [&[], &[1], &[n as u16 - 1], &[1, 0, n as u16 - 1]];
     for number in 0..tables {
         let choice = |position: u32| number / choices.pow(position) % choices;
-        let arc = |choice: usize| ((choice / 2 / n) as u16, (choice / 2 % n) as u16, 1 + choice as u32 % 2);
+        let arc = |choice: usize| ((choice / 3 / n) as u16, (choice / 3 % n) as u16, lengths[choice % 3]);
         let arcs: Vec<Arc> = (0..m as u32).map(|position| arc(choice(position))).collect();
         wanted.iter().try_for_each(|wanted| compare::plan(entries, &Table::new(n as u32, 0, &arcs, wanted)))?;
     }
@@ -37,6 +39,39 @@ fn all_small(entries: &dyn Entries, _: &mut Random) -> Tried {
         }
     }
     Ok(tried)
+}
+
+/// A plan is that of the table without its down arcs, whose positions are told as they stand in the table.
+fn alike_without_down(entries: &dyn Entries, table: &Table) -> Result<(), String> {
+    let places: Vec<usize> = (0..table.tails.len()).filter(|&place| table.lengths[place] != DOWN).collect();
+    let all = table.arcs();
+    let arcs: Vec<Arc> = places.iter().map(|&place| all[place]).collect();
+    let other = Table::new(table.n, table.origin, &arcs, &table.wanted);
+    let ((answer, filled), (expected, closed_up)) = (plan_filled(entries, table), plan_filled(entries, &other));
+    let place = |&arc: &u16| if arc == NO_ARC { NO_ARC } else { places[arc as usize] as u16 };
+    let mut marks = vec![1; table.tails.len()];
+    places.iter().zip(&closed_up.marks).for_each(|(&place, &mark)| marks[place] = mark);
+    let alike = answer == expected
+        && filled.distances == closed_up.distances
+        && filled.prices == closed_up.prices
+        && filled.tree == closed_up.tree.iter().map(place).collect::<Vec<u16>>()
+        && filled.marks == marks;
+    if alike { Ok(()) } else { Err(format!("not the plan of the table without its down arcs: {table:?}")) }
+}
+
+fn without_down(entries: &dyn Entries, random: &mut Random) -> Tried {
+    let (rounds, shares) = (3_000, [0, 10, 50, 100]);
+    for _ in 0..rounds {
+        let shape = random.pick(&SHAPES);
+        let n = random.from(1, 30);
+        let mut table = shapes::table(random, shape, n);
+        for share in shares {
+            shapes::take_down(random, &mut table, share);
+            compare::plan(entries, &table)?;
+            alike_without_down(entries, &table)?;
+        }
+    }
+    Ok(rounds * shares.len())
 }
 
 fn random_tables(entries: &dyn Entries, random: &mut Random, count: usize, most_nodes: usize) -> Tried {

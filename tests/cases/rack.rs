@@ -31,6 +31,13 @@ fn rack() -> Vec<Row> {
     let row = |table, counts, horizon| Row { table, refusal: (0, 0), counts, horizon, prices: &[], tree: &[], marks: &[] };
     let (sum, each) = (Counts::Sum, Counts::Each);
     let one_arc = |length| Table::new(2, 0, &[(0, 1, length)], &[1]);
+    let down = |position: usize, wanted: &[u16]| {
+        let mut table = example(4, wanted);
+        table.lengths[position] = DOWN;
+        table
+    };
+    let all_down = Table { lengths: vec![DOWN; 5], ..example(4, &[0]) };
+    let parallel = Table::new(2, 0, &[(0, 1, DOWN), (0, 1, 4)], &[1]);
     let exchanged = Table::new(4, 0, &[(0, 1, 2), (1, 2, 3), (0, 2, 5), (2, 3, 1), (1, 3, 9)], &[3]);
     let printed = Row { prices: &[6, 4, 1, 0], tree: &[NO_ARC, 0, 1, 3], ..row(example(4, &[3]), each(5, 4, 0), 6) };
     vec![
@@ -42,9 +49,14 @@ fn rack() -> Vec<Row> {
         row(Table::new(1, 0, &[], &[0]), sum(0), 0),
         Row { marks: &[1], ..row(Table::new(1, 0, &[(0, 0, 1)], &[0]), sum(0), 0) },
         Row { tree: &[NO_ARC, 0], ..row(Table::new(2, 0, &[(0, 1, 4), (0, 1, 4)], &[1]), sum(2), 4) },
-        row(one_arc(LONGEST_ARC), sum(2), LONGEST_ARC as u64),
+        Row { marks: &[3], ..row(one_arc(LONGEST_ARC), sum(2), LONGEST_ARC as u64) },
+        Row { refusal: (8, 0), prices: &[0, 0], tree: &[NO_ARC, NO_ARC], marks: &[1], ..row(one_arc(DOWN), sum(0), 0) },
         Row { refusal: (7, 0), ..row(one_arc(0), sum(0), 0) },
         Row { tree: &[NO_ARC, 0, 1, 3], ..row(exchanged, Counts::NotSaid, 6) },
+        Row { tree: &[NO_ARC, 0, 2, 3], marks: &[3, 1, 3, 3, 1], ..row(down(1, &[3]), each(6, 6, 0), 6) },
+        Row { marks: &[3, 2, 1, 1, 2], ..row(down(3, &[1]), sum(2), 2) },
+        Row { marks: &[1, 1, 1, 1, 1], ..row(all_down, sum(0), 0) },
+        Row { tree: &[NO_ARC, 1], marks: &[1, 3], ..row(parallel, sum(2), 4) },
     ]
 }
 

@@ -1,4 +1,4 @@
-//! The rules of 01 as a plain program. It shares no code with the product.
+//! The rules of 01 and 02 as a plain program. It shares no code with the product.
 
 mod auction;
 mod link_file;
@@ -40,9 +40,14 @@ pub enum Wrong {
     NoMarksAfterNoRoute,
     MarksBeforePaths,
     MarkCountsExchanged,
+    DownLinksUsed,
+    DownByOneLess,
+    DownLinksUnmarked,
+    DownLinksClosedUp,
+    DownLinksUntested,
 }
 
-pub const ALL_WRONG: [Wrong; 29] = [
+pub const ALL_WRONG: [Wrong; 34] = [
     Wrong::TieByFirstMet,
     Wrong::HorizonFromRawPrice,
     Wrong::RawPrices,
@@ -72,6 +77,11 @@ pub const ALL_WRONG: [Wrong; 29] = [
     Wrong::NoMarksAfterNoRoute,
     Wrong::MarksBeforePaths,
     Wrong::MarkCountsExchanged,
+    Wrong::DownLinksUsed,
+    Wrong::DownByOneLess,
+    Wrong::DownLinksUnmarked,
+    Wrong::DownLinksClosedUp,
+    Wrong::DownLinksUntested,
 ];
 
 /// The rules, or with a fault.

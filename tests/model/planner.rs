@@ -9,9 +9,20 @@ impl Model {
         if let Err(Refusal { number, place }) = self.test_table(table, &out) {
             return Planned { number, place, ..Planned::default() };
         }
-        let mut auction = Auction::new(self, table);
+        let (present, places) = self.without_down(table);
+        let mut auction = Auction::new(self, &present);
         auction.run();
-        self.hand_over(table, &auction, out)
+        self.hand_over(&present, &places, &auction, out)
+    }
+
+    /// The table without its down arcs, and the places of the others in the whole one.
+    fn without_down(&self, table: &Table) -> (Table, Vec<usize>) {
+        let down = if self.has(Wrong::DownByOneLess) { DOWN - 1 } else { DOWN };
+        let present = |&p: &usize| table.lengths[p] != down || self.has(Wrong::DownLinksUsed);
+        let places: Vec<usize> = (0..table.tails.len()).filter(present).collect();
+        let all = table.arcs();
+        let arcs: Vec<Arc> = places.iter().map(|&place| all[place]).collect();
+        (Table::new(table.n, table.origin, &arcs, &table.wanted), places)
     }
 
     /// The grounds 1 to 7 in order.
@@ -41,7 +52,8 @@ impl Model {
     }
 
     fn test_arcs(&self, table: &Table, n: usize) -> Result<(), Refusal> {
-        let bad_end = |p: usize| table.tails[p] as usize >= n || table.heads[p] as usize >= n;
+        let untested = |p: usize| self.has(Wrong::DownLinksUntested) && table.lengths[p] == DOWN;
+        let bad_end = |p: usize| (table.tails[p] as usize >= n || table.heads[p] as usize >= n) && !untested(p);
         let zero = |p: usize| table.lengths[p] == 0;
         let m = table.tails.len();
         if self.has(Wrong::EndsOfAllArcsFirst) {
@@ -63,7 +75,8 @@ impl Model {
         Ok(())
     }
 
-    fn hand_over(&self, table: &Table, auction: &Auction, out: PlanBuffers) -> Planned {
+    /// What the run on the table without its down arcs hands over, its arcs told by their places in the whole table.
+    fn hand_over(&self, table: &Table, places: &[usize], auction: &Auction, out: PlanBuffers) -> Planned {
         let reached = |node: &usize| auction.reached[*node];
         let nodes = 0..table.n as usize;
         let mut horizon = nodes.clone().filter(reached).filter_map(|node| auction.bounds[node]).max().unwrap_or(0);
@@ -71,13 +84,14 @@ impl Model {
             horizon = auction.prices[table.origin as usize];
         }
         for node in nodes.clone() {
-            let (distance, price, arc) = self.node_entries(auction, node, horizon);
+            let (distance, price, arc) = self.node_entries(places, auction, node, horizon);
             out.distances[node] = distance;
             out.prices[node] = price;
             out.tree[node] = arc;
         }
-        for position in 0..table.tails.len() {
-            out.marks[position] = self.mark(table, auction, position);
+        out.marks.fill(if self.has(Wrong::DownLinksUnmarked) { 0 } else { 1 });
+        for (position, &place) in places.iter().enumerate() {
+            out.marks[place] = self.mark(table, auction, position);
         }
         let missing = table.wanted.iter().position(|&node| !auction.reached[node as usize]);
         let place_of = |index: usize| if self.has(Wrong::PlaceIsNode) { table.wanted[index] as u32 } else { index as u32 };
@@ -94,13 +108,14 @@ impl Model {
     }
 
     /// A node's distance, price and tree entry.
-    fn node_entries(&self, auction: &Auction, node: usize, horizon: u64) -> (u64, u64, u16) {
+    fn node_entries(&self, places: &[usize], auction: &Auction, node: usize, horizon: u64) -> (u64, u64, u16) {
         if !auction.reached[node] {
             return (NO_DISTANCE, 0, NO_ARC);
         }
         let distance = auction.bounds[node].unwrap();
         let price = if self.has(Wrong::RawPrices) { auction.prices[node] } else { horizon - distance };
-        (distance, price, auction.kept[node].map_or(NO_ARC, |arc| arc as u16))
+        let place = |arc: usize| if self.has(Wrong::DownLinksClosedUp) { arc } else { places[arc] };
+        (distance, price, auction.kept[node].map_or(NO_ARC, |arc| place(arc) as u16))
     }
 
     fn mark(&self, table: &Table, auction: &Auction, position: usize) -> u8 {

@@ -1,5 +1,5 @@
 -- Walks taken apart and put together, and going back over a tree column, for any table and column. Assumes nothing.
-use mathlib.Core.Path.{_≡_, refl, sym, ap, _∙_}
+use mathlib.Core.Path.{_≡_, refl, sym, ap, subst, _∙_}
 use mathlib.Core.Bool.{Bool, true, false, _&&_, _||_, cond}
 use mathlib.Core.List.{List, [], _∷_, _++_, append-assoc}
 use mathlib.Core.Logic.{⊎-elim}
@@ -10,7 +10,8 @@ use lib.ListN.{length, getD, length-append}
 use borrow.Author.Tests.{ltb-true, eqb-true, lt-ltb, eq-eqb, ne-eqb}
 use Rattle.table.specs.Table.{Table, arc-count, tail-at, head-at, length-at, leads, is-walk, walk-length, no-arc}
 use Rattle.auction.specs.HandOver.{back-from, returned}
-use Rattle.table.proofs.Basics.{same-or, true-or, both-true, true-both}
+use Rattle.table.proofs.Basics.{same-or, true-or, both-true, true-both, either-second}
+use Rattle.auction.proofs.Good.{Good}
 
 -- a walk's first arc
 pub record First (t : Table) (u i : ℕ) (is : List ℕ) (v : ℕ) : Type 0 where
@@ -24,6 +25,16 @@ first t u i is v e =
     let p = both-true (ltb i (arc-count t) && eqb (tail-at t i) u) (leads t (head-at t i) is v) e in
     let q = both-true (ltb i (arc-count t)) (eqb (tail-at t i) u) (p .0) in
     record { listed = ltb-true i (arc-count t) (q .0); leaves = eqb-true (tail-at t i) u (q .1); rest = p .1 }
+
+-- a walk ends at a node of the table
+pub end-low : (t : Table) → Good t → (is : List ℕ) (u v : ℕ) → u < t .n → leads t u is v ≡ true → v < t .n
+unfolding leads
+end-low t g [] u v low e = subst (λ (a : ℕ). a < t .n) (eqb-true u v e) low
+end-low t g (i ∷ is) u v low e = let f = first t u i is v e in end-low t g is (head-at t i) v (g .head-in i (f .listed)) (f .rest)
+
+pub walk-end : (t : Table) → Good t → (is : List ℕ) (v : ℕ) → is-walk t is v ≡ true → v < t .n
+unfolding is-walk
+walk-end t g is v e = end-low t g is (t .origin) v (g .origin-in) e
 
 module _ (t : Table) where
   -- a walk and one more arc
@@ -49,14 +60,14 @@ module _ (t : Table) where
 
 module _ (t : Table) (ts : List ℕ) where
   -- going back ends at a node, or takes the arc of its entry and goes on from the tail
-  abbrev ends : ℕ → Bool
+  abbrev pub ends : ℕ → Bool
   ends v = eqb v (t .origin) || eqb (getD ts v no-arc) no-arc
 
-  stays : (k v : ℕ) (is : List ℕ) → ends v ≡ true → back-from (suc k) t ts v is ≡ is
+  pub stays : (k v : ℕ) (is : List ℕ) → ends v ≡ true → back-from (suc k) t ts v is ≡ is
   unfolding back-from
   stays k v is e = rw e
 
-  goes : (k v : ℕ) (is : List ℕ) → ends v ≡ false → back-from (suc k) t ts v is ≡ back-from k t ts (tail-at t (getD ts v no-arc)) (getD ts v no-arc ∷ is)
+  pub goes : (k v : ℕ) (is : List ℕ) → ends v ≡ false → back-from (suc k) t ts v is ≡ back-from k t ts (tail-at t (getD ts v no-arc)) (getD ts v no-arc ∷ is)
   unfolding back-from
   goes k v is e = rw e
 
@@ -64,6 +75,11 @@ module _ (t : Table) (ts : List ℕ) where
   unfolding back-from
   at-origin zero v is e = refl
   at-origin (suc k) v is e = rw (eq-eqb v (t .origin) e)
+
+  pub without-entry : (k v : ℕ) (is : List ℕ) → getD ts v no-arc ≡ no-arc → back-from k t ts v is ≡ is
+  unfolding back-from
+  without-entry zero v is e = refl
+  without-entry (suc k) v is e = stays k v is (either-second (eqb v (t .origin)) (eqb (getD ts v no-arc) no-arc) (eq-eqb (getD ts v no-arc) no-arc e))
 
   pub one-back : (k v : ℕ) (is : List ℕ) → (v ≡ t .origin → ⊥) → (getD ts v no-arc ≡ no-arc → ⊥) →
       back-from (suc k) t ts v is ≡ back-from k t ts (tail-at t (getD ts v no-arc)) (getD ts v no-arc ∷ is)
@@ -85,7 +101,7 @@ module _ (t : Table) (ts : List ℕ) where
       ∙ ap (λ (p : List ℕ). p ++ is) (sym (goes k v [] h ∙ back-before k u (i ∷ []))))
       (true-or (ends v))
 
-  back-longer : (k v : ℕ) (is : List ℕ) → length is ≤ length (back-from k t ts v is)
+  pub back-longer : (k v : ℕ) (is : List ℕ) → length is ≤ length (back-from k t ts v is)
   back-longer k v is = omega (arith, ap length (back-before k v is), length-append (back-from k t ts v []) is)
 
   -- a count that is enough for the arcs found is enough

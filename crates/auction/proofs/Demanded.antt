@@ -7,10 +7,10 @@ use mathlib.Core.Option.{none, some}
 use Prim.Native.Nat.{ℕ, zero, suc, _≤_, _<_}
 use native.Mathlib.Omega.{arith}
 use lib.ListN.{getD}
-use Rattle.table.specs.Table.{Table, is-table, tail-at, walk-length, no-distance}
+use Rattle.table.specs.Table.{Table, is-table, arc-count, present-at, tail-at, walk-length, no-distance}
 use Rattle.table.specs.Refusals.{refusal, no-refusal}
 use Rattle.auction.specs.Auction.{State, auction, next, after, then-next, was-reached, distance, iterations}
-use Rattle.auction.specs.HandOver.{Answer, handed-over, distances, first-missing, route-refusal}
+use Rattle.auction.specs.HandOver.{Answer, handed-over, distances, mark, marks, first-missing, route-refusal}
 use Rattle.auction.specs.Plan.{routes-of}
 use Rattle.auction.specs.Promises.{Has-walk, No-walk, last-state, route, price, link, Shortest, Shown, Walk-shortest, Walk-given, Prices-fit, Prices-show, Route-to-all, No-route, First-without-walk, Few-iterations, Fewer-iterations, Ends-by-itself, Iterations-counted, Attains, Earliest-link, Marks-tallied}
 use Rattle.auction.specs.Demands.{distance-of, price-of, link-of, walk-of, Given, Demands, Demands-met, Same-counts, Counts-pinned, hollow, Hollow-fails}
@@ -19,8 +19,9 @@ use Rattle.auction.proofs.Sums.{column, past-column}
 use Rattle.auction.proofs.Good.{Good, good}
 use Rattle.auction.proofs.Steps.Effects.{status-in, reached-status, status-reached}
 use Rattle.auction.proofs.Invariant.Sound.{Sound}
-use Rattle.auction.proofs.Walks.{kept-link, tree-origin}
-use Rattle.auction.proofs.Tally.{distance-entry, not-no-distance, reached-all}
+use Rattle.auction.proofs.Walks.{kept-link, tree-origin, tree-unreached}
+use Rattle.auction.proofs.Tally.{distance-entry, not-no-distance, reached-all, absent-mark, absent-unkept}
+use Rattle.auction.proofs.Nowhere.{in-no-walk}
 use Rattle.auction.proofs.Promised.{walk-shortest, walk-given, prices-fit, prices-show, route-to-all, no-route, few-iterations, fewer-iterations, ends-by-itself, iterations-counted, earliest-link, marks-tallied, invariant}
 
 module _ (t : Table) (ws : List ℕ) (e : is-table t ws ≡ true) where
@@ -71,8 +72,22 @@ module _ (t : Table) (ws : List ℕ) (e : is-table t ws ≡ true) where
   unfolding routes-of handed-over route-refusal refusal last-state
   number-eight r = (rw r, rw r)
 
+  -- an absent arc is no node's link
+  no-absent-link : (i : ℕ) → i < arc-count t → present-at t i ≡ false → (v : ℕ) → link-of a v ≡ i → ⊥
+  unfolding link-of routes-of handed-over last-state
+  no-absent-link i h p v q =
+      ⊎-elim
+      (λ (r : was-reached x v ≡ true).
+      ⊎-elim (λ (o : v ≡ t .origin). omega (arith, q, ap (link-of a) o, tree-origin t g x dep sound, h, g .few-arcs))
+      (λ (o : v ≡ t .origin → ⊥).
+      let l = kept-link t g x dep sound v r o in
+      absent-unkept t g x dep sound i v p (l .kept ∙ ap some (sym (l .entry) ∙ q)))
+      (same-or v (t .origin)))
+      (λ (r : was-reached x v ≡ false). omega (arith, q, tree-unreached t g x dep sound v r, h, g .few-arcs))
+      (true-or (was-reached x v))
+
   demands : Demands t ws a
-  unfolding routes-of handed-over last-state price-of link-of walk-of iterations Walk-shortest Walk-given Prices-fit Prices-show Route-to-all No-route Few-iterations Fewer-iterations Ends-by-itself Iterations-counted Earliest-link Marks-tallied route price link
+  unfolding routes-of handed-over last-state price-of link-of walk-of iterations Walk-shortest Walk-given Prices-fit Prices-show Route-to-all No-route Few-iterations Fewer-iterations Ends-by-itself Iterations-counted Earliest-link Marks-tallied route price link marks
   demands =
       let shortest : (v : ℕ) → Given a v → Shortest t ws v = λ v h. walk-shortest t ws v e (given-reached v h) in
       let shown : (v : ℕ) → Given a v → Shown t ws v = λ v h. prices-show t ws v e (given-reached v h) in
@@ -91,7 +106,7 @@ module _ (t : Table) (ws : List ℕ) (e : is-table t ws ≡ true) where
             let l = kept-link t g x dep sound v (given-reached v h) d in
             subst (λ (i : ℕ). Given a (tail-at t i)) (sym (l .entry)) (reached-given (tail-at t (l .position)) (status-reached x (tail-at t (l .position)) (l .arc .from-reached)));
         no-link = tree-origin t g x dep sound;
-        prices-fit = λ i h. prices-fit t ws i e h;
+        prices-fit = λ i h p. prices-fit t ws i e h p;
         prices-equal = λ v h. shown v h .equal;
         prices-show = λ v h. shown v h .difference;
         numbers =
@@ -108,6 +123,9 @@ module _ (t : Table) (ws : List ℕ) (e : is-table t ws ≡ true) where
             (true-or (auction t ws .routed));
         marks-all = marks-tallied t ws e .all;
         marks-tree = marks-tallied t ws e .tree;
+        absent-mark = λ i h p. column (arc-count t) i (mark t x) 0 h ∙ absent-mark t x i p;
+        absent-walk = λ i h p v q. in-no-walk t g i p (walk-of t a v) v (shortest v q .walk);
+        absent-link = λ i h p v. no-absent-link i h p v;
         reached-all = reached-all t g x dep sound;
         counts = refl;
         last = x;

@@ -21,8 +21,8 @@ pub record Good (t : Table) : Type 0 where
   pub few-nodes : t .n ≤ 1024
   pub origin-in : t .origin < t .n
   pub few-arcs : arc-count t ≤ 6000
-  -- every arc leads from a node to a node,
-  pub tail-in : (i : ℕ) → i < arc-count t → tail-at t i < t .n
+  -- every arc, also an absent one, lies between nodes,
+  pub end-in : (i : ℕ) → i < arc-count t → arc-at t i .tail < t .n
   pub head-in : (i : ℕ) → i < arc-count t → head-at t i < t .n
   -- and its length is at least 1 and at most the greatest
   pub positive : (i : ℕ) → i < arc-count t → 1 ≤ length-at t i
@@ -60,16 +60,16 @@ arc-facts n a e =
     }
 
 -- `is-table` taken apart
-record Parts (t : Table) (ws : List ℕ) : Type 0 where
-  some-node : 1 ≤ t .n
-  few-nodes : t .n ≤ most-nodes
-  origin-in : t .origin < t .n
-  few-arcs : arc-count t ≤ most-arcs
-  arcs : arcs-good (t .n) (t .arcs) ≡ true
-  few-wanted : length ws ≤ most-wanted
-  wanted : nodes-below (t .n) ws ≡ true
+pub record Parts (t : Table) (ws : List ℕ) : Type 0 where
+  pub some-node : 1 ≤ t .n
+  pub few-nodes : t .n ≤ most-nodes
+  pub origin-in : t .origin < t .n
+  pub few-arcs : arc-count t ≤ most-arcs
+  pub arcs : arcs-good (t .n) (t .arcs) ≡ true
+  pub few-wanted : length ws ≤ most-wanted
+  pub wanted : nodes-below (t .n) ws ≡ true
 
-parts : (t : Table) (ws : List ℕ) → is-table t ws ≡ true → Parts t ws
+pub parts : (t : Table) (ws : List ℕ) → is-table t ws ≡ true → Parts t ws
 unfolding is-table
 parts t ws e =
     let p =
@@ -101,7 +101,7 @@ good t ws e =
       few-nodes = p .few-nodes;
       origin-in = p .origin-in;
       few-arcs = p .few-arcs;
-      tail-in = λ i h. at i h .tail-in;
+      end-in = λ i h. at i h .tail-in;
       head-in = λ i h. at i h .head-in;
       positive = λ i h. at i h .positive;
       not-long = λ i h. at i h .not-long;

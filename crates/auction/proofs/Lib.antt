@@ -6,12 +6,16 @@ pub mod Sums
 pub mod Steps
 pub mod Invariant
 pub mod Run
--- what a sound state says of walks and of marks, and the promises
+-- what a sound state says of walks, of marks and of absent arcs, and the promises
 pub mod Walks
 pub mod Tally
+pub mod Nowhere
 pub mod Promised
 pub mod Demanded
 pub mod Made
 pub mod Stability
+-- the table without its absent arcs: the same auction, the same plan
+pub mod Without
+pub mod Absent
 -- the test rack
 pub mod Answers

@@ -162,7 +162,7 @@ walk-given t ws k walk e h w =
 
 pub prices-fit : Prices-fit
 unfolding Prices-fit price
-prices-fit t ws i e h = prices-fit-at t (g t ws e) (last t ws e) (invariant t ws e .depth) (sound t ws e) i h
+prices-fit t ws i e h p = prices-fit-at t (g t ws e) (last t ws e) (invariant t ws e .depth) (sound t ws e) i h
 
 all-equal : (t : Table) (ps is : List ℕ) → All (λ i. getD ps (tail-at t i) 0 ≡ length-at t i + getD ps (head-at t i) 0) is → equal-along t ps is ≡ true
 unfolding All equal-along

@@ -6,13 +6,14 @@ use mathlib.Core.Logic.{⊎-elim}
 use mathlib.Core.Option.{none, some}
 use Prim.Native.Nat.{ℕ, suc, _+_, _<_}
 use native.Mathlib.Omega.{arith}
-use Rattle.table.specs.Table.{Table, arc-count, tail-at, head-at, no-distance}
+use Rattle.table.specs.Table.{Table, arc-count, present-at, tail-at, head-at, no-distance}
 use Rattle.auction.specs.Auction.{State, was-reached, distance, kept-at, is-kept, status-at}
 use Rattle.auction.specs.HandOver.{how-many, mark-number, mark, marks, distances, reached-count}
 use Rattle.table.proofs.Basics.{same-or, true-or, refuted, and-false, option-or, some-none, some-same}
+use Rattle.table.proofs.Present.{absent-tail}
 use Rattle.auction.proofs.Sums.{total, total-same, total-add, total-const, total-only, total-one, total-exchange, how-many-total, only-at, only-same, only-other}
 use Rattle.auction.proofs.Good.{Good}
-use Rattle.auction.proofs.Steps.Effects.{estimate, reached-status, unreached-status}
+use Rattle.auction.proofs.Steps.Effects.{estimate, status-in, reached-status, unreached-status}
 use Rattle.auction.proofs.Steps.Bids.{kept-test, test-kept}
 use Rattle.auction.proofs.Invariant.Sound.{Nodes, Sound, one-if-reached, reached-one, unreached-none, reached-total}
 
@@ -50,9 +51,24 @@ module _ (t : Table) (x : State) where
   unfolding marks marked
   marks-total a = how-many-total (arc-count t) a (mark t x)
 
+  -- the mark of a present arc, and of an absent one
+  present-mark : (i : ℕ) → present-at t i ≡ true →
+      mark t x i ≡ mark-number (was-reached x (head-at t i)) (was-reached x (tail-at t i)) (is-kept x i (kept-at x (head-at t i)))
+  unfolding mark
+  present-mark i p = rw p
+
+  pub absent-mark : (i : ℕ) → present-at t i ≡ false → mark t x i ≡ 1
+  unfolding mark
+  absent-mark i p = rw p
+
   one-mark : (i : ℕ) → marked 0 i + marked 1 i + marked 2 i + marked 3 i ≡ 1
-  unfolding mark marked
-  one-mark i = one-of-four (was-reached x (head-at t i)) (was-reached x (tail-at t i)) (is-kept x i (kept-at x (head-at t i)))
+  unfolding marked only-at
+  one-mark i =
+      ⊎-elim
+      (λ (p : present-at t i ≡ true).
+      rw (present-mark i p) (one-of-four (was-reached x (head-at t i)) (was-reached x (tail-at t i)) (is-kept x i (kept-at x (head-at t i)))))
+      (λ (p : present-at t i ≡ false). rw (absent-mark i p))
+      (true-or (present-at t i))
 
   -- ALL ARCS have one of the four marks
   pub marks-all : how-many 0 (marks t x) + how-many 1 (marks t x) + how-many 2 (marks t x) + how-many 3 (marks t x) ≡ arc-count t
@@ -82,10 +98,20 @@ module _ (t : Table) (g : Good t) (x : State) (dep : ℕ → ℕ) (s : Sound t x
       let k = refuted (is-kept x i (kept-at x v)) (λ q. h (kept-test x i (kept-at x v) q)) in
       ap (λ (b : Bool). cond b 1 0) (and-false (was-reached x v) (is-kept x i (kept-at x v)) k)
 
-  -- FOR ONE ARC: only its head can keep it, and does just where the mark is 3
+  -- FOR ONE ARC: an absent arc is not kept, since a kept one leaves a node,
+  pub absent-unkept : (i v : ℕ) → present-at t i ≡ false → kept-at x v ≡ some i → ⊥
+  absent-unkept i v p k =
+      omega (arith, absent-tail t i p, status-in (tail-at t i) (nodes .sizes) (nodes .kept v i k .from-reached), g .few-nodes)
+
+  -- and only its head can keep an arc, and does just where the mark is 3
   at-head : (i : ℕ) → tree-arc i (head-at t i) ≡ marked t x 3 i
-  unfolding tree-arc marked mark
-  at-head i = three-if-kept (was-reached x (head-at t i)) (was-reached x (tail-at t i)) (is-kept x i (kept-at x (head-at t i)))
+  unfolding tree-arc marked only-at
+  at-head i =
+      ⊎-elim
+      (λ (p : present-at t i ≡ true).
+      rw (present-mark t x i p) (three-if-kept (was-reached x (head-at t i)) (was-reached x (tail-at t i)) (is-kept x i (kept-at x (head-at t i)))))
+      (λ (p : present-at t i ≡ false). not-kept i (head-at t i) (absent-unkept i (head-at t i) p) ∙ sym (ap (only-at 3 1) (absent-mark t x i p)))
+      (true-or (present-at t i))
 
   one-head : (i v : ℕ) → tree-arc i v ≡ only-at (head-at t i) (marked t x 3 i) v
   one-head i v =

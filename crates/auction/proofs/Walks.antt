@@ -180,6 +180,13 @@ module _ (t : Table) (g : Good t) (x : State) (dep : ℕ → ℕ) (s : Sound t x
       let here : f (t .origin) ≡ no-arc = rw (origin-reached, nodes .origin-kept) in
       column (t .n) (t .origin) f no-arc (g .origin-in) ∙ here
 
+  pub tree-unreached : (v : ℕ) → was-reached x v ≡ false → getD (tree t x) v no-arc ≡ no-arc
+  unfolding tree
+  tree-unreached v r =
+      let f : ℕ → ℕ = λ u. cond (was-reached x u) (arc-or-none (kept-at x u)) no-arc in
+      let here : f v ≡ no-arc = rw r in
+      ⊎-elim (λ (h : v < t .n). column (t .n) v f no-arc h ∙ here) (λ (h : t .n ≤ v). past-column (t .n) v f no-arc h) (below-or v (t .n))
+
   pub record Kept-link (v : ℕ) : Type 0 where
     pub position : ℕ
     pub kept : kept-at x v ≡ some position

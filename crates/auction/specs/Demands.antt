@@ -7,7 +7,7 @@ use mathlib.Core.Logic.{_⊎_}
 use mathlib.Core.Option.{none, some}
 use Prim.Native.Nat.{ℕ, suc, _+_, _*_, _-_, _/_, _≤_, _<_}
 use lib.ListN.{length, getD}
-use Rattle.table.specs.Table.{Table, is-table, is-walk, walk-length, arc-count, tail-at, head-at, length-at, no-arc, no-distance}
+use Rattle.table.specs.Table.{Table, is-table, is-walk, walk-length, arc-count, present-at, tail-at, head-at, length-at, no-arc, no-distance}
 use Rattle.auction.specs.Auction.{State, next, after, all-reached, most-iterations}
 use Rattle.auction.specs.HandOver.{Answer, answer, returned, how-many}
 use Rattle.auction.specs.Plan.{routes-of}
@@ -44,8 +44,8 @@ pub record Demands (t : Table) (ws : List ℕ) (a : Answer) : Type 0 where
   pub earliest : (v : ℕ) → Given a v → (v ≡ t .origin → ⊥) → (i : ℕ) → Attains t v (distance-of a v) i → link-of a v ≤ i
   pub near-end : (v : ℕ) → Given a v → (v ≡ t .origin → ⊥) → Given a (tail-at t (link-of a v))
   pub no-link : link-of a (t .origin) ≡ no-arc
-  -- The prices show it: on every link the near end's price is at most the link's length plus the far end's price,
-  pub prices-fit : (i : ℕ) → i < arc-count t → price-of a (tail-at t i) ≤ length-at t i + price-of a (head-at t i)
+  -- The prices show it: on every link that is present the near end's price is at most the link's length plus the far end's price,
+  pub prices-fit : (i : ℕ) → i < arc-count t → present-at t i ≡ true → price-of a (tail-at t i) ≤ length-at t i + price-of a (head-at t i)
   -- equal along the walks returned, and the origin's price less the node's is the walk's length.
   pub prices-equal : (v : ℕ) → Given a v → equal-along t (a .prices) (walk-of t a v) ≡ true
   pub prices-show : (v : ℕ) → Given a v → price-of a (t .origin) ≡ walk-length t (walk-of t a v) + price-of a v
@@ -56,6 +56,10 @@ pub record Demands (t : Table) (ws : List ℕ) (a : Answer) : Type 0 where
   -- Each link has one of the marks 0 to 3, and one has mark 3 for each node reached but the origin.
   pub marks-all : how-many 0 (a .marks) + how-many 1 (a .marks) + how-many 2 (a .marks) + how-many 3 (a .marks) ≡ arc-count t
   pub marks-tree : suc (how-many 3 (a .marks)) ≡ a .reached
+  -- A link that is absent has mark 1; it is on no walk returned and is no node's link.
+  pub absent-mark : (i : ℕ) → i < arc-count t → present-at t i ≡ false → getD (a .marks) i 0 ≡ 1
+  pub absent-walk : (i : ℕ) → i < arc-count t → present-at t i ≡ false → (v : ℕ) → Given a v → how-many i (walk-of t a v) ≡ 0
+  pub absent-link : (i : ℕ) → i < arc-count t → present-at t i ≡ false → (v : ℕ) → link-of a v ≡ i → ⊥
   -- The nodes reached and those without a distance are all nodes.
   pub reached-all : a .reached + how-many no-distance (a .distances) ≡ t .n
   -- Iterations, contractions, extensions and deletions are those of the auction: after just so many of its steps it is in a state with just these

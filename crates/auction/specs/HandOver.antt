@@ -5,7 +5,7 @@ use mathlib.Core.Option.{Option, none, some}
 use Prim.Native.Nat.{ℕ, zero, suc, _+_, _-_, max}
 use lib.Dec.{eqb}
 use lib.ListN.{getD}
-use Rattle.table.specs.Table.{Table, arc-count, tail-at, head-at, no-arc, no-distance}
+use Rattle.table.specs.Table.{Table, arc-count, present-at, tail-at, head-at, no-arc, no-distance}
 use Rattle.table.specs.declared.Refusal.{Refusal}
 use Rattle.table.specs.Refusals.{refusal, no-refusal}
 use Rattle.auction.specs.Auction.{State, Ended, was-reached, distance, kept-at, is-kept, iterations}
@@ -50,7 +50,7 @@ unfoldable pub tree : Table → State → List ℕ
 tree t x = entries (t .n) 0 (λ v. cond (was-reached x v) (arc-or-none (kept-at x v)) no-arc)
 
 -- 3 tree arc of a reached node; 1 any other arc into a reached node, or out of one and not kept; 2 kept into an unreached node; 0 both ends
--- unreached
+-- unreached. An absent arc has mark 1 from the start.
 unfoldable pub mark-number : (head-reached tail-reached kept : Bool) → ℕ
 mark-number true from true = 3
 mark-number true from false = 1
@@ -59,7 +59,8 @@ mark-number false true false = 1
 mark-number false false kept = 0
 
 unfoldable pub mark : Table → State → (position : ℕ) → ℕ
-mark t x i = mark-number (was-reached x (head-at t i)) (was-reached x (tail-at t i)) (is-kept x i (kept-at x (head-at t i)))
+mark t x i =
+    cond (present-at t i) (mark-number (was-reached x (head-at t i)) (was-reached x (tail-at t i)) (is-kept x i (kept-at x (head-at t i)))) 1
 
 unfoldable pub marks : Table → State → List ℕ
 marks t x = entries (arc-count t) 0 (λ i. mark t x i)

@@ -10,7 +10,7 @@ use mathlib.Core.Option.{none, some}
 use Prim.Native.Nat.{ℕ, suc, _+_, _*_, _-_, _/_, _^_, _≤_, _<_}
 use lib.Dec.{eqb}
 use lib.ListN.{length, getD}
-use Rattle.table.specs.Table.{Table, table-of, is-table, is-walk, walk-length, arc-count, tail-at, head-at, length-at, longest, no-arc, no-distance, Below}
+use Rattle.table.specs.Table.{Table, table-of, is-table, is-walk, walk-length, arc-count, present-at, tail-at, head-at, length-at, longest, no-arc, no-distance, Below}
 use Rattle.table.specs.Refusals.{Room, no-refusal, rooms-fit, table-refusal}
 use Rattle.auction.specs.Auction.{State, Bid, auction, run, start, next, after, best, terminal, all-reached, was-reached, distance, bound-at, price-at, iterations, most-iterations}
 use Rattle.auction.specs.HandOver.{how-many, reached-count, prices, tree, marks, returned, first-missing}
@@ -48,10 +48,10 @@ Walk-given =
     (t : Table) (ws : List ℕ) (k : ℕ) (walk : List ℕ) → is-table t ws ≡ true → k < length ws → is-walk t walk (getD ws k 0) ≡ true →
     was-reached (last-state t ws) (getD ws k 0) ≡ true
 
--- The prices show it. On every link the near end's price is at most the link's length plus the far end's price,
+-- The prices show it. On every link that is present the near end's price is at most the link's length plus the far end's price,
 unfoldable pub Prices-fit : Type 0
 Prices-fit =
-    (t : Table) (ws : List ℕ) (i : ℕ) → is-table t ws ≡ true → i < arc-count t →
+    (t : Table) (ws : List ℕ) (i : ℕ) → is-table t ws ≡ true → i < arc-count t → present-at t i ≡ true →
     price t ws (tail-at t i) ≤ length-at t i + price t ws (head-at t i)
 
 -- equal along the walks returned, and the origin's price less a node's price is the walk's length.
@@ -118,7 +118,7 @@ Iterations-counted = (t : Table) (ws : List ℕ) → is-table t ws ≡ true → 
 
 -- THE SECOND DEMAND
 
--- An arc into v ATTAINS a distance where some walk to its tail and the arc together are that long.
+-- An arc into v ATTAINS a distance where some walk to its tail and the arc together are that long. So an absent arc attains none: it leaves no node.
 pub record Attains (t : Table) (v d i : ℕ) : Type 0 where
   pub listed : i < arc-count t
   pub into : head-at t i ≡ v
@@ -192,7 +192,7 @@ Table-is-unrefused =
     rooms-fit rooms ≡ true → is-table (table-of n o tails heads lengths) wanted ≡ true →
     table-refusal n o tails heads lengths wanted rooms ≡ no-refusal
 
--- The greatest length is the greatest number of 32 bits: a table's lengths are numbers of 32 bits other than 0, and 2³² is none.
+-- The greatest number that stands as a length is the greatest of 32 bits: a table's lengths are numbers of 32 bits other than 0, and 2³² is none.
 unfoldable pub Longest-of-32-bits : Type 0
 Longest-of-32-bits = longest + 1 ≡ 2 ^ 32
 

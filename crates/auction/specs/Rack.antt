@@ -4,7 +4,7 @@ use mathlib.Core.Path.{_≡_}
 use mathlib.Core.List.{List, [], _∷_, map}
 use Prim.Native.Nat.{ℕ, _<_}
 use lib.ListN.{length, replicate, take}
-use Rattle.table.specs.Table.{most-wanted, no-arc, no-distance}
+use Rattle.table.specs.Table.{most-wanted, down, no-arc, no-distance}
 use Rattle.table.specs.declared.Refusal.{Refusal}
 use Rattle.table.specs.Refusals.{refusal, no-refusal, wanted-refusal}
 use Rattle.auction.specs.Auction.{most-iterations}
@@ -153,10 +153,26 @@ rack =
     ∷ row 1 0 (one 0) (one 0) (one 1) (one 0) (found (extent 1 0) (steps 0 0 0 0) (one 0) (one 0) (one no-arc) (one 1)) 0
     -- two equal arcs: the first is kept
     ∷ row 2 0 (two 0 0) (two 1 1) (two 4 4) (one 1) (found (extent 2 4) (steps 2 1 1 0) (two 0 4) (two 4 0) (two no-arc 0) (two 3 1)) 7
-    -- the greatest length, and length 0
-    ∷ row 2 0 (one 0) (one 1) (one 4294967295) (one 1)
-    (found (extent 2 4294967295) (steps 2 1 1 0) (two 0 4294967295) (two 4294967295 0) (two no-arc 0) (one 3)) 7
+    -- the greatest length in use; one more, which is down, so that there is no route; and length 0
+    ∷ row 2 0 (one 0) (one 1) (one 4294967294) (one 1)
+    (found (extent 2 4294967294) (steps 2 1 1 0) (two 0 4294967294) (two 4294967294 0) (two no-arc 0) (one 3)) 7
+    ∷ row 2 0 (one 0) (one 1) (one down) (one 1)
+    (no-route-at 0 (extent 1 0) (steps 0 0 0 0) (two 0 no-distance) (two 0 0) (two no-arc no-arc) (one 1)) 7
     ∷ row 2 0 (one 0) (one 1) (one 0) (one 1) (refused-by 7 0) 7
+    -- T with arc 1 down: node 2 hangs on arc 2, and the auction is that of the other four arcs
+    ∷ row 4 0 (five 0 0 1 2 1) (five 1 2 2 3 3) (five 2 down 3 1 9) (one 3)
+    (found (extent 4 6) (steps 12 6 6 0) (four 0 2 5 6) (four 6 4 1 0) (four no-arc 0 2 3) (five 3 1 3 3 1)) 49
+    -- T with arc 3 down, both its ends unreached: mark 1; and every arc down, before any iteration
+    ∷ row 4 0 (five 0 0 1 2 1) (five 1 2 2 3 3) (five 2 5 3 down 9) (one 1)
+    (found (extent 2 2) (steps 2 1 1 0) (four 0 2 no-distance no-distance) (four 2 0 0 0) (four no-arc 0 no-arc no-arc) (five 3 2 1 1 2)) 49
+    ∷ row 4 0 (five 0 0 1 2 1) (five 1 2 2 3 3) (five down down down down down) (one 0)
+    (found (extent 1 0) (steps 0 0 0 0) (four 0 no-distance no-distance no-distance) (four 0 0 0 0) (four no-arc no-arc no-arc no-arc) (five 1 1 1 1 1)) 49
+    -- of two parallel arcs the first is down: the second is kept, and its position is 1
+    ∷ row 2 0 (two 0 0) (two 1 1) (two down 4) (one 1) (found (extent 2 4) (steps 2 1 1 0) (two 0 4) (two 4 0) (two no-arc 1) (two 1 3)) 7
+    -- an arc that is down has to have good ends all the same: 6 at its position, before a fault of a later arc
+    ∷ row 2 0 (one 0) (one 2) (one down) (one 1) (refused-by 6 0) 7
+    ∷ row 2 0 (two 2 0) (two 1 1) (two down 0) (one 1) (refused-by 6 0) 7
+    ∷ row 2 0 (two 0 0) (two 1 1) (two down 0) (one 1) (refused-by 7 1) 7
     -- T with arcs 1 and 2 exchanged: node 2 hangs on arc 1, from node 1, though arc 2, from node 0, was met first
     ∷ row 4 0 (five 0 1 0 2 1) (five 1 2 2 3 3) (five 2 3 5 1 9) (one 3)
     (found (extent 4 6) (steps 12 6 6 0) (four 0 2 5 6) (four 6 4 1 0) (four no-arc 0 1 3) (five 3 3 1 3 1)) 49

@@ -7,7 +7,7 @@ use mathlib.Core.Bool.{true}
 use mathlib.Core.List.{List, [], _∷_, _++_}
 use Prim.Native.Nat.{ℕ, _+_, _≤_, _<_}
 use lib.ListN.{length, getD}
-use Rattle.table.specs.Table.{Arc, Table, table, is-table, is-walk, walk-length, arc-count, tail-at, head-at, length-at}
+use Rattle.table.specs.Table.{Arc, Table, table, is-table, is-walk, walk-length, arc-count, arc-at, present, head-at, length-at}
 use Rattle.auction.specs.HandOver.{Answer}
 use Rattle.auction.specs.Plan.{routes-of}
 use Rattle.auction.specs.Demands.{distance-of, link-of, walk-of, Given}
@@ -25,17 +25,17 @@ Same-choice =
     (t : Table) (ws ws′ : List ℕ) (v : ℕ) → is-table t ws ≡ true → is-table t ws′ ≡ true →
     Given (routes-of t ws) v → Given (routes-of t ws′) v → Same-route t (routes-of t ws) t (routes-of t ws′) v
 
--- the second table is the first after some of its links have become longer, as where a hot port reports it
+-- the second table is the first after some of its links have become longer, as where a hot port reports it, or have gone down
 pub record Lengthened (t t′ : Table) : Type 0 where
   pub nodes : t′ .n ≡ t .n
   pub origin : t′ .origin ≡ t .origin
   pub arcs : arc-count t′ ≡ arc-count t
-  pub tails : (i : ℕ) → i < arc-count t → tail-at t′ i ≡ tail-at t i
+  pub tails : (i : ℕ) → i < arc-count t → arc-at t′ i .tail ≡ arc-at t i .tail
   pub heads : (i : ℕ) → i < arc-count t → head-at t′ i ≡ head-at t i
   pub longer : (i : ℕ) → i < arc-count t → length-at t i ≤ length-at t′ i
 
--- A ROUTE STAYS WHILE NOTHING SHORTER EXISTS. Some links have become longer, none shorter, and the walk returned to a node is still as long as it was.
--- Then the node's distance, link and walk are the same, whatever the other links did and whatever else is wanted.
+-- A ROUTE STAYS WHILE NOTHING SHORTER EXISTS. Some links have become longer or gone down, none shorter, and the walk returned to a node is still as
+-- long as it was. Then the node's distance, link and walk are the same, whatever the other links did and whatever else is wanted.
 unfoldable pub Route-stays : Type 0
 Route-stays =
     (t t′ : Table) (ws ws′ : List ℕ) (v : ℕ) → is-table t ws ≡ true → is-table t′ ws′ ≡ true → Lengthened t t′ →
@@ -55,10 +55,11 @@ Wanted-route-stays =
 unfoldable pub with-link : Table → Arc → Table
 with-link t a = table (t .n) (t .origin) (t .arcs ++ (a ∷ []))
 
--- the link is no short cut: where a walk leads to its near end, some walk leads to its far end that is no longer than the first and the link together
+-- the link is no short cut: it is absent, or where a walk leads to its near end, some walk leads to its far end that is no longer than the first and the
+-- link together
 unfoldable pub No-short-cut : Table → Arc → Type 0
 No-short-cut t a =
-    (walk : List ℕ) → is-walk t walk (a .tail) ≡ true →
+    present a ≡ true → (walk : List ℕ) → is-walk t walk (a .tail) ≡ true →
     (other : List ℕ) × (is-walk t other (a .head) ≡ true) × (walk-length t other ≤ walk-length t walk + a .arc-length)
 
 -- A LINK ADDED AT THE END. Where it is no short cut, every node that is given a walk with it and without it keeps its distance, its link and its walk.

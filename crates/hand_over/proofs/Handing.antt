@@ -7,20 +7,21 @@ use Prim.Native.Nat.{ℕ, _-_, _≤_, _<_}
 use native.Mathlib.Omega.{arith}
 use lib.Dec.{ltb, eqb}
 use lib.ListN.{length, getD}
-use borrow.Author.Tests.{ltb-true, lt-ltb, le-ltb, ne-eqb}
-use Rattle.table.specs.Table.{Table, no-arc, no-distance}
+use borrow.Author.Tests.{ltb-true, lt-ltb, le-ltb, eq-eqb, ne-eqb}
+use Rattle.table.specs.Table.{Table, arc-count, down, no-arc, no-distance}
 use Rattle.table.specs.declared.Refusal.{Refusal}
 use Rattle.table.specs.Refusals.{refusal, no-refusal}
 use Rattle.auction.specs.Auction.{State, Ended, ended, auction, iterations, was-reached, distance, kept-at, is-kept}
 use Rattle.auction.specs.HandOver.{answer, handed-over, route-refusal, entries, greatest, sum, horizon, reached-count, distances, prices, tree, marks, mark, arc-or-none}
 use Rattle.table.proofs.Basics.{same-or, true-or}
+use Rattle.table.proofs.Present.{present-tail, down-absent, up-present}
 use Rattle.auction.proofs.Sums.{greatest-bound}
 use Rattle.steps.specs.declared.state.Progress.{Progress}
 use Rattle.steps.specs.Seen.{seen, arc-of}
 use Rattle.steps.specs.Steps.{Ran}
 use Rattle.steps.proofs.Arrays.{seen-status, seen-distance, seen-kept, some-arc, no-kept}
 use Rattle.auction.specs.Plan.{routes-of}
-use Rattle.hand_over.specs.ReadOff.{Known, Arc-ends, Ends-held, None-farther, mark-entry}
+use Rattle.hand_over.specs.ReadOff.{Known, Arc-ends, Arcs-held, None-farther, mark-entry}
 use Rattle.hand_over.proofs.Entries.{entries-same}
 
 -- one entry each, as the code makes it
@@ -99,17 +100,24 @@ module _ (p u b k s : List ℕ) (g : Progress) where
       (λ (z : getD k v 0 ≡ no-arc → ⊥). rw (some-arc (getD k v 0) z))
       (same-or (getD k v 0) no-arc))
 
-  pub marks-so : (t : Table) (ts hs : List ℕ) → Arc-ends ts hs k s → length hs < no-arc → Ends-held t ts hs →
-      entries (length hs) 0 (mark-entry ts hs k s) ≡ marks t (seen p u b k s g)
-  unfolding marks mark
-  marks-so t ts hs ends few held =
-      rw (held .count)
-      (entries-same (length hs) 0 _ _
-      (λ i h.
-      let inside : i < length hs = omega arith in
-      let hd = held .head i (omega (arith, held .count)) in
-      let tl = held .tail i (omega (arith, held .count)) in
-      rw (hd, tl, reached-is (getD hs i 0), reached-is (getD ts i 0), kept-so i (getD hs i 0) (omega (arith, ends .head-in i inside, ends .kept-count)) (λ z. omega arith))))
+  module _ (t : Table) (ts hs ls : List ℕ) (ends : Arc-ends ts hs ls k s) (few : length hs < no-arc) (held : Arcs-held t ts hs ls) where
+    -- an absent arc has mark 1, and a present one leaves its tail
+    mark-so : (i : ℕ) → i < length hs → mark-entry ts hs ls k s i ≡ mark t (seen p u b k s g) i
+    unfolding mark
+    mark-so i inside =
+        let listed : i < arc-count t = omega (arith, held .count) in
+        let long = held .arc-length i listed in
+        ⊎-elim (λ (z : getD ls i 0 ≡ down). rw (eq-eqb (getD ls i 0) down z, down-absent t i (long ∙ z)))
+        (λ (z : getD ls i 0 ≡ down → ⊥).
+        let here = up-present t i (λ e. z (sym long ∙ e)) in
+        let hd = held .head i listed in
+        let tl = present-tail t i here ∙ held .tail i listed in
+        rw (ne-eqb (getD ls i 0) down z, here, hd, tl, reached-is (getD hs i 0), reached-is (getD ts i 0), kept-so i (getD hs i 0) (omega (arith, ends .head-in i inside, ends .kept-count)) (λ q. omega arith)))
+        (same-or (getD ls i 0) down)
+
+    pub marks-so : entries (length hs) 0 (mark-entry ts hs ls k s) ≡ marks t (seen p u b k s g)
+    unfolding marks
+    marks-so = rw (held .count) (entries-same (length hs) 0 _ _ (λ i h. mark-so i (omega arith)))
 
 -- no distance is above the horizon
 pub below-horizon : (b s : List ℕ) (h : ℕ) → h ≡ greatest (entries (length s) 0 (distance-entry 0 b s)) →

@@ -1,10 +1,11 @@
 -- What the hand-over reads off the arrays where a run has ended, and what it relies on. Assumes nothing: these are definitions.
 use mathlib.Core.Path.{_≡_}
+use mathlib.Core.Bool.{cond}
 use mathlib.Core.List.{List}
 use Prim.Native.Nat.{ℕ, _≤_, _<_}
 use lib.Dec.{ltb, eqb}
 use lib.ListN.{length, getD}
-use Rattle.table.specs.Table.{Table, arc-count, tail-at, head-at, no-distance, most-nodes, most-arcs}
+use Rattle.table.specs.Table.{Table, arc-count, arc-at, head-at, length-at, down, no-distance, most-nodes, most-arcs}
 use Rattle.auction.specs.Auction.{State}
 use Rattle.auction.specs.HandOver.{Answer, mark-number}
 use Rattle.auction.specs.Plan.{routes-of}
@@ -20,10 +21,11 @@ pub record Known (bound status : List ℕ) : Type 0 where
   -- every reached node has a distance
   pub has-distance : (v : ℕ) → 0 < getD status v 0 → getD bound v 0 ≡ no-distance → ⊥
 
--- the arcs' ends can be looked up
-pub record Arc-ends (tails heads kept status : List ℕ) : Type 0 where
-  -- an arc has a tail and a head, a node a kept arc and a status
+-- the arcs' ends and lengths can be looked up
+pub record Arc-ends (tails heads lengths kept status : List ℕ) : Type 0 where
+  -- an arc has a tail, a head and a length, a node a kept arc and a status
   pub tail-count : length tails ≡ length heads
+  pub length-count : length lengths ≡ length heads
   pub kept-count : length kept ≡ length status
   -- the ends of every arc are nodes
   pub head-in : (i : ℕ) → i < length heads → getD heads i 0 < length status
@@ -40,13 +42,14 @@ pub record Fitting (n m : ℕ) (distances prices tree marks : List ℕ) : Type 0
   pub tree-long : length tree ≡ n
   pub marks-long : length marks ≡ m
 
--- the columns hold the ends of a table's arcs
-pub record Ends-held (t : Table) (tails heads : List ℕ) : Type 0 where
+-- the columns hold a table's arcs
+pub record Arcs-held (t : Table) (tails heads lengths : List ℕ) : Type 0 where
   -- they are as long as the table
   pub count : arc-count t ≡ length heads
-  -- and hold its arcs' heads and tails
+  -- and hold its arcs' heads, tails and lengths
   pub head : (i : ℕ) → i < arc-count t → head-at t i ≡ getD heads i 0
-  pub tail : (i : ℕ) → i < arc-count t → tail-at t i ≡ getD tails i 0
+  pub tail : (i : ℕ) → i < arc-count t → arc-at t i .tail ≡ getD tails i 0
+  pub arc-length : (i : ℕ) → i < arc-count t → length-at t i ≡ getD lengths i 0
 
 -- no node that was reached is farther than the horizon
 abbrev pub None-farther : (horizon : ℕ) → (bound status : List ℕ) → Type 0
@@ -57,13 +60,14 @@ abbrev pub Read-off : {A : Type 0} → (f : Table → State → A) → (bound ke
 Read-off f bound kept status a =
     (t : Table) (path price : List ℕ) (g : Progress) → t .n ≡ length status → a ≡ f t (seen path price bound kept status g)
 
--- the mark of the arc at a position
-abbrev pub mark-entry : (tails heads kept status : List ℕ) → (i : ℕ) → ℕ
-mark-entry tails heads kept status i =
-    mark-number (ltb 0 (getD status (getD heads i 0) 0)) (ltb 0 (getD status (getD tails i 0) 0)) (eqb (getD kept (getD heads i 0) 0) i)
+-- the mark of the arc at a position; an arc whose link is down has mark 1
+abbrev pub mark-entry : (tails heads lengths kept status : List ℕ) → (i : ℕ) → ℕ
+mark-entry tails heads lengths kept status i =
+    cond (eqb (getD lengths i 0) down) 1
+    (mark-number (ltb 0 (getD status (getD heads i 0) 0)) (ltb 0 (getD status (getD tails i 0) 0)) (eqb (getD kept (getD heads i 0) 0) i))
 
 -- THE HAND-OVER: for each table and wanted list whose run has ended with these arrays, the answer is the definition's
-abbrev pub Hands-over : (end : RunEnd) → (wanted : ℕ) → (tails heads bound kept status : List ℕ) → Answer → Type 0
-Hands-over end wanted tails heads bound kept status answer =
-    (t : Table) (ws path price : List ℕ) → t .n ≡ length status → Ends-held t tails heads → length ws ≡ wanted →
+abbrev pub Hands-over : (end : RunEnd) → (wanted : ℕ) → (tails heads lengths bound kept status : List ℕ) → Answer → Type 0
+Hands-over end wanted tails heads lengths bound kept status answer =
+    (t : Table) (ws path price : List ℕ) → t .n ≡ length status → Arcs-held t tails heads lengths → length ws ≡ wanted →
     Ran t ws (end .missing) (seen path price bound kept status (end .progress)) → answer ≡ routes-of t ws

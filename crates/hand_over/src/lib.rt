@@ -13,9 +13,10 @@ ghost use Rattle.steps.specs.declared.state.Progress.{Progress};
 ghost use Rattle.table.specs.Slices.{was, left};
 ghost use Rattle.steps.specs.Seen.{seen, too-many};
 ghost use Rattle.hand_over.specs.Answered.{answered};
-ghost use Rattle.hand_over.specs.ReadOff.{Known, Arc-ends, Fitting, Ends-held, None-farther, Read-off, Hands-over, mark-entry};
+ghost use Rattle.hand_over.specs.ReadOff.{Known, Arc-ends, Fitting, Arcs-held, None-farther, Read-off, Hands-over, mark-entry};
 use steps::state::RunEnd;
 use steps::state::RunState;
+use table::DOWN;
 use table::NO_ARC;
 use table::NO_DISTANCE;
 use table::Refusal;
@@ -164,11 +165,22 @@ fn mark(head: bool, tail: bool, kept: bool) -> u8
 }
 
 // The mark of the arc at a position.
-fn mark_at(i: usize, tails: &[u16], heads: &[u16], kept: &[u16], status: &[u8]) -> u8
-    requires { ⌜ Arc-ends (now tails) (now heads) (now kept) (now status) ⌝ }
+fn mark_at(
+    i: usize,
+    tails: &[u16],
+    heads: &[u16],
+    lengths: &[u32],
+    kept: &[u16],
+    status: &[u8],
+) -> u8
+    requires { ⌜ Arc-ends (now tails) (now heads) (now lengths) (now kept) (now status) ⌝ }
     requires { ⌜ (i < length (now heads)) × (i < no-arc) ⌝ }
-    ensures { λ r. ⌜ r ≡ mark-entry (was tails) (was heads) (was kept) (was status) i ⌝ }
+    ensures { λ r. ⌜ r ≡ mark-entry (was tails) (was heads) (was lengths) (was kept) (was status) i ⌝ }
 {
+    // set aside from the start: the link is down
+    if lengths[i] == DOWN {
+        return 1;
+    }
     let head = wide(heads[i]);
     let tail = wide(tails[i]);
     mark(
@@ -179,16 +191,23 @@ fn mark_at(i: usize, tails: &[u16], heads: &[u16], kept: &[u16], status: &[u8]) 
 }
 
 // The marks.
-fn fill_marks(tails: &[u16], heads: &[u16], kept: &[u16], status: &[u8], out: &mut [u8])
-    requires { ⌜ Arc-ends (now tails) (now heads) (now kept) (now status) ⌝ }
+fn fill_marks(
+    tails: &[u16],
+    heads: &[u16],
+    lengths: &[u32],
+    kept: &[u16],
+    status: &[u8],
+    out: &mut [u8],
+)
+    requires { ⌜ Arc-ends (now tails) (now heads) (now lengths) (now kept) (now status) ⌝ }
     requires { ⌜ (length (now out) ≡ length (now heads)) × (length (now heads) < no-arc) ⌝ }
-    ensures { λ _. ⌜ ((t : Table) (path price bound : List ℕ) (g : Progress) → Ends-held t (was tails) (was heads) →
+    ensures { λ _. ⌜ ((t : Table) (path price bound : List ℕ) (g : Progress) → Arcs-held t (was tails) (was heads) (was lengths) →
         left out ≡ marks t (seen path price bound (was kept) (was status) g)) ⌝ }
 {
     let mut i = out.len();
     while 0 < i {
         i = i - 1;
-        out[i] = mark_at(i, tails, heads, kept, status);
+        out[i] = mark_at(i, tails, heads, lengths, kept, status);
     }
 }
 
@@ -212,6 +231,7 @@ pub fn hand_over(
     wanted: usize,
     tails: &[u16],
     heads: &[u16],
+    lengths: &[u32],
     bound: &[u64],
     kept: &[u16],
     status: &[u8],
@@ -221,10 +241,10 @@ pub fn hand_over(
     marks: &mut [u8],
 ) -> Planned
     requires { ⌜ Known (now bound) (now status) ⌝ }
-    requires { ⌜ Arc-ends (now tails) (now heads) (now kept) (now status) ⌝ }
+    requires { ⌜ Arc-ends (now tails) (now heads) (now lengths) (now kept) (now status) ⌝ }
     requires { ⌜ Fitting (length (now status)) (length (now heads)) (now distances) (now prices) (now tree) (now marks) ⌝ }
     requires { ⌜ (end .missing ≤ most-wanted) × (end .progress .contractions + end .progress .extensions + end .progress .deletions < too-many) ⌝ }
-    ensures { λ r. ⌜ Hands-over end wanted (was tails) (was heads) (was bound) (was kept) (was status)
+    ensures { λ r. ⌜ Hands-over end wanted (was tails) (was heads) (was lengths) (was bound) (was kept) (was status)
         (answered r (left distances) (left prices) (left tree) (left marks)) ⌝ }
 {
     let refusal = route_refusal(end.missing, wanted);
@@ -233,7 +253,7 @@ pub fn hand_over(
     fill_distances(bound, status, distances);
     fill_prices(horizon, bound, status, prices);
     fill_tree(kept, status, tree);
-    fill_marks(tails, heads, kept, status, marks);
+    fill_marks(tails, heads, lengths, kept, status, marks);
     let counts = end.progress;
     Planned {
         number: refusal.number,

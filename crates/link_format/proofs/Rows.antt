@@ -13,6 +13,8 @@ rows =
     record {
       example-read = refl;
       example-written = refl;
+      down-read = refl;
+      down-written = refl;
       empty = refl;
       cut = refl;
       cut-record = refl;

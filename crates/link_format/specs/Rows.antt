@@ -5,7 +5,7 @@ use mathlib.Core.Path.{_≡_}
 use Prim.Native.Nat.{ℕ}
 use lib.ListN.{replicate}
 use Rattle.table.specs.Refusals.{refusal, no-refusal}
-use Rattle.table.specs.Table.{Arc, arc}
+use Rattle.table.specs.Table.{Arc, arc, down}
 use Rattle.link_format.specs.Buffers.{writing}
 use Rattle.link_format.specs.Format.{Content, content, file-bytes}
 use Rattle.link_format.specs.Reading.{got, refused, read-records, read-file}
@@ -24,9 +24,19 @@ example-file =
 abbrev pub example-table : Content
 example-table = content 4 0 (3 ∷ []) (arc 0 1 2 ∷ arc 0 2 5 ∷ arc 1 2 3 ∷ arc 2 3 1 ∷ arc 1 3 9 ∷ [])
 
+-- two arcs whose links are down, all three nodes wanted
+abbrev pub down-file : List ℕ
+down-file = 1 ∷ 3 ∷ 0 ∷ 7 ∷ 0 ∷ 0 ∷ 1 ∷ 0 ∷ 255 ∷ 255 ∷ 255 ∷ 255 ∷ 0 ∷ []
+
+abbrev pub down-table : Content
+down-table = content 3 0 (0 ∷ 1 ∷ 2 ∷ []) (arc 0 1 down ∷ arc 0 2 down ∷ [])
+
 pub record Rows : Type 0 where
   pub example-read : read-file example-file ≡ got example-table 46 []
   pub example-written : file-bytes example-table ≡ example-file
+  -- a link that is down has a length like any other: two such arcs, 0 to 1 and 0 to 2
+  pub down-read : read-file down-file ≡ got down-table 13 []
+  pub down-written : file-bytes down-table ≡ down-file
   -- 9: an empty file; byte 01 alone; a record cut inside its length
   pub empty : read-file [] ≡ refused 9 0
   pub cut : read-file (1 ∷ []) ≡ refused 9 1

@@ -2,11 +2,12 @@
 use mathlib.Core.Path.{_≡_, refl, sym, ap, _∙_}
 use mathlib.Core.Bool.{true}
 use mathlib.Core.List.{List, [], _∷_}
-use Prim.Native.Nat.{ℕ, zero, suc, _<_}
+use Prim.Native.Nat.{ℕ, zero, suc, _≤_, _<_}
 use native.Mathlib.Omega.{arith}
 use lib.ListN.{length, getD}
-use Rattle.table.specs.Table.{Table, Arc, arc, table, table-of, arcs-of, is-table, arc-count, arc-at, tail-at, head-at, is-walk, no-arc}
+use Rattle.table.specs.Table.{Table, Arc, arc, table, table-of, arcs-of, is-table, arc-count, arc-at, tail-at, head-at, is-walk, no-arc, most-nodes}
 use Rattle.auction.specs.HandOver.{returned}
+use Rattle.table.proofs.Present.{leaves-present, present-tail}
 use Rattle.auction.proofs.Good.{good}
 use Rattle.paths.specs.Listing.{Tree, tree-in, path, nodes-of, early-of, listed}
 use Rattle.paths.specs.Promises.{nodes-of-walk, Gives}
@@ -32,20 +33,25 @@ arc-there (t ∷ ts) (a ∷ hs) (l ∷ ls) zero d h = (refl, refl)
 arc-there (t ∷ ts) (a ∷ hs) (l ∷ ls) (suc i) d h = arc-there ts hs ls i d (omega arith)
 
 module _ (n o : ℕ) (ts hs ls column : List ℕ) (e : length ts ≡ length hs) (f : length hs ≡ length ls) (long : length column ≡ n) where
-  columns : Columns (table-of n o ts hs ls) (tree-in ts hs column)
-  unfolding table-of table arc-count tail-at head-at arc-at
-  columns =
+  abbrev t : Table
+  t = table-of n o ts hs ls
+
+  -- an arc that leaves a node leaves its tail
+  leaves-tail : n ≤ most-nodes → (i : ℕ) → tail-at t i < n → arc-at t i .tail ≡ tail-at t i
+  unfolding table-of table
+  leaves-tail few i low = sym (present-tail t i (leaves-present t i few low))
+
+  columns : n ≤ most-nodes → Columns t (tree-in ts hs column)
+  unfolding table-of table arc-count head-at arc-at
+  columns few =
       record {
         nodes = long;
         arcs = sym (arcs-length ts hs ls e f);
-        tails = λ i h. arc-there ts hs ls i (arc no-arc no-arc 0) h .0;
+        tails = λ i h low. arc-there ts hs ls i (arc no-arc no-arc 0) h .0 ∙ leaves-tail few i low;
         heads = λ i h. arc-there ts hs ls i (arc no-arc no-arc 0) h .1;
       }
 
   module _ (ws : List ℕ) (v : ℕ) where
-    abbrev t : Table
-    t = table-of n o ts hs ls
-
     abbrev k : Tree
     k = tree-in ts hs column
 
@@ -54,14 +60,15 @@ module _ (n o : ℕ) (ts hs ls column : List ℕ) (e : length ts ≡ length hs) 
     unfolding table-of table nodes-of-walk nodes-of early-of
     walk-listed table-good low walk few =
         let g = good t ws table-good in
-        let p = path-is-walk t k columns (g .tail-in) v walk few in
+        let c = columns (g .few-nodes) in
+        let p = path-is-walk t k c g v walk few in
         let nodes = nodes-of-walk t (returned t column v) in
         let same : nodes-of (path o v k) ≡ nodes = ap nodes-of p in
         let some-node : 0 < length (nodes-of (path o v k)) = omega (arith, ap length same) in
         let fine =
         unrefused (length column) (length ts) (length hs) o v
         (count-fine (length column) (λ z. omega (arith, long)) (omega (arith, long, g .few-nodes)))
-        (columns-fine (length ts) (length hs) e (omega (arith, columns .arcs, g .few-arcs)))
+        (columns-fine (length ts) (length hs) e (omega (arith, c .arcs, g .few-arcs)))
         (omega (arith, long, g .origin-in)) (omega (arith, long)) in
         record {
           within = omega (arith, at-most-n o v k, ap length same);

@@ -6,6 +6,7 @@ use Rattle.auction.specs.Plan.{routes-of}
 use Rattle.auction.specs.Promises.{last-state, route, Walk-shortest}
 use Rattle.auction.specs.Demands.{Given, walk-of}
 use Rattle.auction.proofs.Good.{good}
+use Rattle.auction.proofs.Back.{walk-end}
 use Rattle.auction.proofs.Made.{made}
 use Rattle.auction.proofs.Sums.{entries-length}
 use Rattle.auction.proofs.Promised.{walk-shortest}
@@ -13,7 +14,6 @@ use Rattle.auction.proofs.Demanded.{given-reached}
 use Rattle.paths.specs.Listing.{tree-in}
 use Rattle.paths.specs.Promises.{Routes-listed, Plans-listed, Gives, nodes-of-walk}
 use Rattle.paths.proofs.Listable.{walk-listed}
-use Rattle.paths.proofs.Returned.{end-low}
 
 -- the walk returned ends at a node and has fewer than n arcs
 pub routes-listed : Routes-listed
@@ -23,7 +23,7 @@ routes-listed n o tails heads lengths wanted v e f table-good given =
     let g = good t wanted table-good in
     let s = walk-shortest t wanted v table-good (given-reached t wanted table-good v given) in
     walk-listed n o tails heads lengths (tree t (last-state t wanted)) e f (entries-length n 0 _) wanted v table-good
-    (end-low t g o (route t wanted v) v (g .origin-in) (s .walk)) (s .walk) (s .short)
+    (walk-end t g (route t wanted v) v (s .walk)) (s .walk) (s .short)
 
 -- an answer 0 or 8 is the auction's
 pub plans-listed : Plans-listed

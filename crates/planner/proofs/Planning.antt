@@ -21,9 +21,9 @@ use Rattle.steps.specs.declared.state.RunState.{RunState}
 use Rattle.steps.specs.Seen.{seen, held, first-of}
 use Rattle.steps.specs.Steps.{Ran}
 use Rattle.steps.proofs.Arrays.{seen-bound, seen-status, no-bound}
-use Rattle.solver.proofs.Columns.{count-so, tail-so, head-so, nodes-so, origin-so}
+use Rattle.solver.proofs.Columns.{count-so, end-so, head-so, length-so, nodes-so, origin-so}
 use Rattle.auction.specs.Plan.{plan-refusal, plan, routes-of, refused-plan}
-use Rattle.hand_over.specs.ReadOff.{Known, Arc-ends, Fitting, Ends-held}
+use Rattle.hand_over.specs.ReadOff.{Known, Arc-ends, Fitting, Arcs-held}
 
 -- AFTER THE RUN
 module _ (t : Table) (ws : List ℕ) (m : ℕ) (p u b k s : List ℕ) (g : Progress) (ran : Ran t ws m (seen p u b k s g)) where
@@ -53,25 +53,27 @@ module _ (n o : ℕ) (ts hs ls ws : List ℕ) (eh : length hs ≡ length ts) (el
   pub place-low : (m : ℕ) → m ≤ length ws → m ≤ most-wanted
   place-low m h = omega (arith, few-wanted (table-of n o ts hs ls) ws ok)
 
-  pub ends-so : (k s : List ℕ) → length k ≡ length s → n ≡ length s → Arc-ends ts hs k s
+  pub ends-so : (k s : List ℕ) → length k ≡ length s → n ≡ length s → Arc-ends ts hs ls k s
   ends-so k s lk e =
       let t = table-of n o ts hs ls in
       let count = count-so n o ts hs ls eh el in
       let nodes = nodes-so n o ts hs ls eh el in
       record {
         tail-count = sym eh;
+        length-count = el ∙ sym eh;
         kept-count = lk;
         head-in = λ i h. omega (arith, good t ws ok .head-in i (omega (arith, count)), head-so n o ts hs ls eh el i (omega arith), nodes);
-        tail-in = λ i h. omega (arith, good t ws ok .tail-in i (omega (arith, count)), tail-so n o ts hs ls eh el i (omega arith), nodes);
+        tail-in = λ i h. omega (arith, good t ws ok .end-in i (omega (arith, count)), end-so n o ts hs ls eh el i (omega arith), nodes);
       }
 
-  pub ends-held : Ends-held (table-of n o ts hs ls) ts hs
-  ends-held =
+  pub arcs-held : Arcs-held (table-of n o ts hs ls) ts hs ls
+  arcs-held =
       let count = count-so n o ts hs ls eh el in
       record {
         count = omega (arith, count);
         head = λ i h. head-so n o ts hs ls eh el i (omega (arith, count));
-        tail = λ i h. tail-so n o ts hs ls eh el i (omega (arith, count));
+        tail = λ i h. end-so n o ts hs ls eh el i (omega (arith, count));
+        arc-length = λ i h. length-so n o ts hs ls eh el i (omega (arith, count));
       }
 
   pub origin-low : o < n

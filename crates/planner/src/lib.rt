@@ -63,6 +63,7 @@ fn run_lent(
         wanted.len(),
         tails,
         heads,
+        lengths,
         bound,
         kept,
         status,

@@ -7,6 +7,7 @@ use Rattle.auction.specs.HandOver.{Answer}
 use Rattle.auction.specs.Demands.{Demands}
 use Rattle.auction.proofs.Promised.{promised}
 use Rattle.auction.proofs.Demanded.{demands-met, counts-pinned, hollow-fails}
+use Rattle.auction.proofs.Absent.{absent}
 use Rattle.auction.proofs.Stability.{stability}
 use Rattle.auction.proofs.Answers.{rack-holds}
 use Rattle.planner.proofs.Promised.{plans-kept, refusals-touch-nothing}
@@ -52,6 +53,13 @@ kept =
       table-is-unrefused = promised .table-is-unrefused;
       longest-of-32-bits = promised .longest-of-32-bits;
       lengths-of-32-bits = promised .lengths-of-32-bits;
+      down-is-all-ones = absent .down-is-all-ones;
+      absent-nowhere = absent .absent-nowhere;
+      absent-closed-up = absent .absent-closed-up;
+      walks-without-absent = absent .walks-without-absent;
+      steps-without-absent = absent .steps-without-absent;
+      auction-without-absent = absent .auction-without-absent;
+      plan-without-absent = absent .plan-without-absent;
       same-choice = stability .same-choice;
       route-stays = stability .route-stays;
       wanted-route-stays = stability .wanted-route-stays;
@@ -100,6 +108,9 @@ demanded t ws a d =
       no-route = d .no-route;
       marks-all = d .marks-all;
       marks-tree = d .marks-tree;
+      absent-mark = d .absent-mark;
+      absent-walk = d .absent-walk;
+      absent-link = d .absent-link;
       reached-all = d .reached-all;
       counts = d .counts;
       last = d .last;

@@ -2,6 +2,7 @@
 -- of this page, and so does one whose proof does (proofs/Kept.antt). Each type has its sentence in plain words where it stands. Assumes nothing.
 use Rattle.auction.specs.Promises.{Walk-shortest, Walk-given, Prices-fit, Prices-show, Route-to-all, No-route, Few-iterations, Fewer-iterations, Ends-by-itself, Iterations-counted, Earliest-link, Marks-tallied, Never-above, Distances-stay, Ascending, Small-distances, Small-sums, Unrefused-is-table, Table-is-unrefused, Longest-of-32-bits, Lengths-of-32-bits}
 use Rattle.auction.specs.Demands.{Demands-met, Counts-pinned, Hollow-fails}
+use Rattle.auction.specs.Absent.{Down-is-all-ones, Absent-nowhere, Absent-closed-up, Walks-without-absent, Steps-without-absent, Auction-without-absent, Plan-without-absent}
 use Rattle.auction.specs.Stability.{Same-choice, Route-stays, Wanted-route-stays, Link-added}
 use Rattle.auction.specs.Rack.{Rack-holds}
 use Rattle.planner.specs.Promise.{Plans-kept, Refusals-touch-nothing}
@@ -48,7 +49,16 @@ pub record Promise : Type 0 where
   pub table-is-unrefused : Table-is-unrefused
   pub longest-of-32-bits : Longest-of-32-bits
   pub lengths-of-32-bits : Lengths-of-32-bits
-  -- WHAT STAYS: a spare chooses as the old unit did; a route stays while nothing shorter exists, also when a link is added at the end
+  -- LINKS THAT ARE DOWN: they are nowhere, and a plan is that of the table without them, step by step and in all that is handed over
+  pub down-is-all-ones : Down-is-all-ones
+  pub absent-nowhere : Absent-nowhere
+  pub absent-closed-up : Absent-closed-up
+  pub walks-without-absent : Walks-without-absent
+  pub steps-without-absent : Steps-without-absent
+  pub auction-without-absent : Auction-without-absent
+  pub plan-without-absent : Plan-without-absent
+  -- WHAT STAYS: a spare chooses as the old unit did; a route stays while nothing shorter exists, also when a link goes down elsewhere or is added at
+  -- the end
   pub same-choice : Same-choice
   pub route-stays : Route-stays
   pub wanted-route-stays : Wanted-route-stays

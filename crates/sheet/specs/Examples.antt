@@ -1,9 +1,9 @@
 -- Files and what is printed of them, from the first byte to the last. The proof stands in proofs/Examples.antt. Assumes nothing.
 use mathlib.Core.Path.{_≡_}
-use mathlib.Core.List.{List, [], _∷_}
+use mathlib.Core.List.{List, [], _∷_, _++_}
 use Prim.Native.Nat.{ℕ, _<_}
-use lib.ListN.{length, drop}
-use Rattle.link_format.specs.Rows.{example-file}
+use lib.ListN.{length, take, drop}
+use Rattle.link_format.specs.Rows.{example-file, down-file}
 use Rattle.sheet.specs.Text.{text}
 use Rattle.sheet.specs.Sheet.{node-line}
 use Rattle.sheet.specs.Printed.{most-input, printed}
@@ -36,6 +36,28 @@ pub record Examples : Type 0 where
       ∷ text "node 3 distance 6 price 0 arc 3\n"
       ∷ text "path 1: 0 1\n"
       ∷ text "marks 0 2 0 3\n"
+      ∷ []
+  -- T with arc 1 down: the path to 3 goes by 1, and the arcs keep their numbers
+  pub down-link :
+      printed (take 17 example-file ++ (255 ∷ 255 ∷ 255 ∷ 255 ∷ drop 21 example-file))
+      ≡ text "reached 4 horizon 6 iterations 12\n"
+      ∷ text "contractions 6 extensions 6 deletions 0\n"
+      ∷ text "node 0 distance 0 price 6 arc -\n"
+      ∷ text "node 1 distance 2 price 4 arc 0\n"
+      ∷ text "node 2 distance 5 price 1 arc 2\n"
+      ∷ text "node 3 distance 6 price 0 arc 3\n"
+      ∷ text "path 3: 0 1 2 3\n"
+      ∷ text "marks 0 2 0 3\n"
+      ∷ []
+  -- two arcs, both down: no route to 1
+  pub all-down :
+      printed down-file
+      ≡ text "refused 8 at 1\n"
+      ∷ text "reached 1 horizon 0 iterations 0\n"
+      ∷ text "contractions 0 extensions 0 deletions 0\n"
+      ∷ text "node 0 distance 0 price 0 arc -\n"
+      ∷ text "path 0: 0\n"
+      ∷ text "marks 0 2 0 0\n"
       ∷ []
   -- T with nothing wanted: the origin's arcs are kept, the others were never looked at
   pub nothing-wanted :

@@ -4,7 +4,7 @@ use mathlib.Core.List.{List, [], _∷_}
 use Prim.Native.Nat.{ℕ, zero, suc, _≤_, _<_}
 use native.Mathlib.Omega.{arith}
 use lib.ListN.{length, getD, take, replicate}
-use Rattle.table.specs.Table.{Arc, arc, table, arcs-of, table-of, arc-count, arc-at, tail-at, head-at, length-at}
+use Rattle.table.specs.Table.{Arc, arc, table, arcs-of, table-of, arc-count, arc-at, head-at, length-at}
 
 arcs-count : (ts hs ls : List ℕ) → length hs ≡ length ts → length ls ≡ length ts → length (arcs-of ts hs ls) ≡ length ts
 unfolding arcs-of
@@ -27,9 +27,9 @@ module _ (n o : ℕ) (ts hs ls : List ℕ) (eh : length hs ≡ length ts) (el : 
   unfolding arc-count table-of table
   count-so = arcs-count ts hs ls eh el
 
-  pub tail-so : (i : ℕ) → i < length ts → tail-at (table-of n o ts hs ls) i ≡ getD ts i 0
-  unfolding tail-at arc-at table-of table arc
-  tail-so i h = ap (λ a. a .tail) (arcs-at ts hs ls _ i eh el h)
+  pub end-so : (i : ℕ) → i < length ts → arc-at (table-of n o ts hs ls) i .tail ≡ getD ts i 0
+  unfolding arc-at table-of table arc
+  end-so i h = ap (λ a. a .tail) (arcs-at ts hs ls _ i eh el h)
 
   pub head-so : (i : ℕ) → i < length ts → head-at (table-of n o ts hs ls) i ≡ getD hs i 0
   unfolding head-at arc-at table-of table arc

@@ -162,7 +162,7 @@ pub fn run(
     let at = wide(origin);
     let mut first: [u16; MOST_NODES] = [NO_ARC; MOST_NODES];
     let mut next: [u16; MOST_ARCS] = [NO_ARC; MOST_ARCS];
-    link_arcs(tails, &mut first[..n], &mut next[..m]);
+    link_arcs(tails, lengths, &mut first[..n], &mut next[..m]);
     run_listed(
         begun,
         at,

@@ -122,8 +122,9 @@ lower-of-bid a false b later = ap (λ o. lower-of o later) (lower-of-none a)
 lower-of-bid none true b later = refl
 lower-of-bid (some a) true b later = ap some (sym (lower-bid-same a b later))
 
--- ALONG A LIST: p is the position of an arc out of v, or no arc
+-- ALONG A LIST: p is the position of an arc out of the node v, or no arc
 pub record On-list (t : Table) (v p : ℕ) : Type 0 where
+  pub node : v < t .n
   pub inside : (p ≡ no-arc → ⊥) → (p < arc-count t) × (tail-at t p ≡ v)
 
 module _ {t : Table} {hs ls first next : List ℕ} (here : Outgoing t (star hs ls first next)) (v : ℕ) where
@@ -131,6 +132,7 @@ module _ {t : Table} {hs ls first next : List ℕ} (here : Outgoing t (star hs l
   on-first h =
       subst (λ (q : ℕ). On-list t v q) (sym (here .linked .first-arc v h))
       (record {
+        node = h;
         inside = λ d.
             let f = found t v (arc-count t) 0 (omega (arith, here .few)) .inside d in
             (omega (arith, f .0), f .1);
@@ -139,7 +141,7 @@ module _ {t : Table} {hs ls first next : List ℕ} (here : Outgoing t (star hs l
   module _ {p : ℕ} (at : On-list t v p) (some-arc : p ≡ no-arc → ⊥) where
     next-is : getD next p 0 ≡ next-out (arc-count t - suc p) (suc p) t v
     next-is =
-        here .linked .next-arc p (at .inside some-arc .0)
+        here .linked .next-arc p (at .inside some-arc .0) (omega (arith, at .inside some-arc .1, at .node))
         ∙ ap (λ w. next-out (arc-count t - suc p) (suc p) t w) (at .inside some-arc .1)
 
     past : suc p + (arc-count t - suc p) ≡ arc-count t
@@ -149,7 +151,7 @@ module _ {t : Table} {hs ls first next : List ℕ} (here : Outgoing t (star hs l
     on-next =
         let f = found t v (arc-count t - suc p) (suc p) (omega (arith, past, here .few)) in
         subst (λ (q : ℕ). On-list t v q × (p < q)) (sym next-is)
-        (record { inside = λ d. (omega (arith, f .inside d .0, past), f .inside d .1) }, omega (arith, f .from))
+        (record { node = at .node; inside = λ d. (omega (arith, f .inside d .0, past), f .inside d .1) }, omega (arith, f .from))
 
     here-left : arc-count t - p ≡ suc (arc-count t - suc p)
     here-left = omega (arith, at .inside some-arc .0)

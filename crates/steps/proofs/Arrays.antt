@@ -8,6 +8,7 @@ use lib.ListN.{length, getD, set, take, replicate, length-set, length-replicate}
 use lib.Seq.{take-set-lt}
 use borrow.Author.Tests.{ne-eqb, eq-eqb}
 use Rattle.table.specs.Table.{Table, no-arc, no-distance}
+use Rattle.table.proofs.Basics.{map-set, map-replicate}
 use Rattle.auction.specs.Auction.{state, bid, price-at, bound-at, kept-at, status-at, distance, or-zero, with-kept, with-status, fresh}
 use Rattle.steps.specs.declared.state.Progress.{Progress}
 use Rattle.steps.specs.Seen.{bound-of, arc-of, bid-of, nodes-of, seen}
@@ -42,11 +43,6 @@ pub getD-map : (f : ℕ → Option ℕ) (l : List ℕ) (i : ℕ) → i < length 
 getD-map f [] i h = absurd (omega arith)
 getD-map f (a ∷ l) zero h = refl
 getD-map f (a ∷ l) (suc i) h = getD-map f l i (omega arith)
-
-pub map-set : (f : ℕ → Option ℕ) (l : List ℕ) (i a : ℕ) → map f (set l i a) ≡ set (map f l) i (f a)
-map-set f [] i a = refl
-map-set f (b ∷ l) zero a = refl
-map-set f (b ∷ l) (suc i) a = ap (λ m. f b ∷ m) (map-set f l i a)
 
 -- what is read
 module _ (p u b k s : List ℕ) (g : Progress) where
@@ -86,10 +82,6 @@ take-replicate : (m n a : ℕ) → n ≤ m → take n (replicate m a) ≡ replic
 take-replicate m zero a h = refl
 take-replicate zero (suc n) a h = absurd (omega arith)
 take-replicate (suc m) (suc n) a h = ap (λ l. a ∷ l) (take-replicate m n a (omega arith))
-
-map-replicate : (f : ℕ → Option ℕ) (n a : ℕ) → map f (replicate n a) ≡ replicate n (f a)
-map-replicate f zero a = refl
-map-replicate f (suc n) a = ap (λ l. f a ∷ l) (map-replicate f n a)
 
 pub stored-long : (m a i b : ℕ) → length (set (replicate m a) i b) ≡ m
 stored-long m a i b = length-set (replicate m a) i b ∙ length-replicate {A = ℕ} m a

@@ -5,7 +5,7 @@ use mathlib.Core.List.{List}
 use Prim.Native.Nat.{ℕ, zero, suc, _-_, _≤_, _<_}
 use lib.Dec.{eqb}
 use lib.ListN.{length, getD}
-use Rattle.table.specs.Table.{Table, arc-count, tail-at, head-at, length-at, no-arc, most-arcs}
+use Rattle.table.specs.Table.{Table, arc-count, tail-at, head-at, length-at, down, no-arc, most-arcs}
 use Rattle.table.specs.Slices.{Slice, was}
 
 -- the first of the `left` positions from `position` on whose arc leaves node v, or no arc
@@ -13,14 +13,16 @@ unfoldable pub next-out : (left position : ℕ) → Table → (v : ℕ) → ℕ
 next-out zero i t v = no-arc
 next-out (suc k) i t v = cond (eqb (tail-at t i) v) i (next-out k (suc i) t v)
 
--- the column holds the tails of the table
-pub record Tails (t : Table) (tails : List ℕ) : Type 0 where
-  -- it is as long as the table
+-- the columns of tails and lengths say which node each arc of the table leaves
+pub record Tails (t : Table) (tails lengths : List ℕ) : Type 0 where
+  -- there are as many tails as arcs
   pub count : length tails ≡ arc-count t
-  -- and each entry is the tail of the arc at that position
-  pub tail : (i : ℕ) → i < arc-count t → getD tails i 0 ≡ tail-at t i
+  -- each entry is the tail of the arc at that position, where its link is not down
+  pub tail : (i : ℕ) → i < arc-count t → (getD lengths i 0 ≡ down → ⊥) → getD tails i 0 ≡ tail-at t i
+  -- and an arc whose link is down leaves no node
+  pub none : (i : ℕ) → i < arc-count t → getD lengths i 0 ≡ down → tail-at t i < t .n → ⊥
 
--- `first` gives for each node, and `next` for each arc, the position of the next arc with the same tail
+-- `first` gives for each node, and `next` for each arc that leaves one, the position of the next arc that leaves the same node
 pub record Linked (t : Table) (first next : List ℕ) : Type 0 where
   -- an entry for each node
   pub first-count : length first ≡ t .n
@@ -29,7 +31,7 @@ pub record Linked (t : Table) (first next : List ℕ) : Type 0 where
   -- a node's first outgoing arc
   pub first-arc : (v : ℕ) → v < t .n → getD first v 0 ≡ next-out (arc-count t) 0 t v
   -- the next arc that leaves the same node
-  pub next-arc : (i : ℕ) → i < arc-count t → getD next i 0 ≡ next-out (arc-count t - suc i) (suc i) t (tail-at t i)
+  pub next-arc : (i : ℕ) → i < arc-count t → tail-at t i < t .n → getD next i 0 ≡ next-out (arc-count t - suc i) (suc i) t (tail-at t i)
 
 -- THE FORWARD STAR, which is all that an iteration sees of a table: the heads and the lengths of the arcs, and the lists of outgoing arcs
 pub record Star : Type 0 where

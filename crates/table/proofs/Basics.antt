@@ -1,13 +1,13 @@
--- Laws that every crate above uses: Bools, options, numbers, and what is inside a list. Assumes nothing.
-use mathlib.Core.Path.{_≡_, refl, sym}
+-- Laws that crates above use: Bools, options, numbers, and lists. Assumes nothing.
+use mathlib.Core.Path.{_≡_, refl, sym, ap}
 use mathlib.Core.Bool.{Bool, true, false, _&&_, _||_, not}
-use mathlib.Core.List.{List, [], _∷_}
+use mathlib.Core.List.{List, [], _∷_, map}
 use mathlib.Core.Logic.{_⊎_, inl, inr, ⊎-elim}
 use mathlib.Core.Option.{Option, none, some}
 use Prim.Native.Nat.{ℕ, zero, suc, _≤_, _<_}
 use native.Mathlib.Omega.{arith}
 use native.Mathlib.Decide.{ℕ-discrete, decLt}
-use lib.ListN.{length, getD}
+use lib.ListN.{length, getD, set, replicate}
 
 pub same-or : (a b : ℕ) → (a ≡ b) ⊎ (a ≡ b → ⊥)
 same-or a b = elim (ℕ-discrete a b) [ yes e ↦ inl e | no h ↦ inr h ]
@@ -99,3 +99,13 @@ pub inside-same : (l : List ℕ) (i a b : ℕ) → i < length l → getD l i a �
 inside-same [] i a b h = absurd (omega arith)
 inside-same (x ∷ l) zero a b h = refl
 inside-same (x ∷ l) (suc i) a b h = inside-same l i a b (omega arith)
+
+-- a function on every element of a list: of one that was put into it, and of many of the same
+pub map-set : {A B : Type 0} (f : A → B) (l : List A) (i : ℕ) (a : A) → map f (set l i a) ≡ set (map f l) i (f a)
+map-set f [] i a = refl
+map-set f (b ∷ l) zero a = refl
+map-set f (b ∷ l) (suc i) a = ap (λ m. f b ∷ m) (map-set f l i a)
+
+pub map-replicate : {A B : Type 0} (f : A → B) (n : ℕ) (a : A) → map f (replicate n a) ≡ replicate n (f a)
+map-replicate f zero a = refl
+map-replicate f (suc n) a = ap (λ l. f a ∷ l) (map-replicate f n a)

@@ -3,13 +3,17 @@
 -- A link is an ARC: it leads from its tail (the near end) to its head (the far end) and has a length. An arc's POSITION is its place in the
 -- table, counted from 0. Parallel arcs and loops are allowed. A WALK is a list of positions, each arc's tail the head of the one before; it
 -- may pass a node or an arc more than once, and the empty walk leads from a node to itself.
-use mathlib.Core.Bool.{Bool, true, _&&_}
+--
+-- An arc is ABSENT where its length says that the link is down, and PRESENT otherwise. An absent arc keeps its position and has to be as good as any
+-- other, but it leaves no node: so it is in no walk, and the auction never sees it.
+use mathlib.Core.Bool.{Bool, true, _&&_, not, cond}
 use mathlib.Core.List.{List, [], _∷_}
 use Prim.Native.Nat.{ℕ, _+_, _<_}
 use lib.Dec.{ltb, leb, eqb}
 use lib.ListN.{length, getD}
 
--- the most nodes, arcs and wanted nodes; the greatest length; what stands for no arc and for no distance
+-- the most nodes, arcs and wanted nodes; the greatest number that stands as a length; the one that says that the link is down, so that the greatest
+-- length in use is one less; what stands for no node, for no arc and for no distance
 abbrev pub most-nodes : ℕ
 most-nodes = 1024
 
@@ -21,6 +25,12 @@ most-wanted = 1024
 
 abbrev pub longest : ℕ
 longest = 4294967295
+
+abbrev pub down : ℕ
+down = 4294967295
+
+abbrev pub no-node : ℕ
+no-node = 65535
 
 abbrev pub no-arc : ℕ
 no-arc = 65535
@@ -55,16 +65,25 @@ arcs-of (t ∷ ts) (h ∷ hs) (l ∷ ls) = arc t h l ∷ arcs-of ts hs ls
 unfoldable pub table-of : (n origin : ℕ) → (tails heads lengths : List ℕ) → Table
 table-of n o ts hs ls = table n o (arcs-of ts hs ls)
 
--- how many arcs there are; the arc at a position, its ends and its length
+-- how many arcs there are; the arc at a position
 unfoldable pub arc-count : Table → ℕ
 arc-count t = length (t .arcs)
 
 unfoldable pub arc-at : Table → (i : ℕ) → Arc
 arc-at t i = getD (t .arcs) i (arc no-arc no-arc 0)
 
-unfoldable pub tail-at : Table → (i : ℕ) → ℕ
-tail-at t i = arc-at t i .tail
+-- an arc is present where its link is not down
+unfoldable pub present : Arc → Bool
+present a = not (eqb (a .arc-length) down)
 
+unfoldable pub present-at : Table → (i : ℕ) → Bool
+present-at t i = present (arc-at t i)
+
+-- the node that it leaves; an absent arc leaves none
+unfoldable pub tail-at : Table → (i : ℕ) → ℕ
+tail-at t i = cond (present-at t i) (arc-at t i .tail) no-node
+
+-- its head and its length
 unfoldable pub head-at : Table → (i : ℕ) → ℕ
 head-at t i = arc-at t i .head
 

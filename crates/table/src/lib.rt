@@ -11,6 +11,9 @@ pub const MOST_ARCS: usize = 6000;
 
 pub const MOST_WANTED: usize = 1024;
 
+// In a length column: the link is down, so that the arc is absent. The greatest length in use is one less.
+pub const DOWN: u32 = 4294967295;
+
 // In a tree column: no arc.
 pub const NO_ARC: u16 = 65535;
 

@@ -16,7 +16,7 @@ use Rattle.hand_over.proofs.hand_over.Tie as tie
 -- the places on the way: where each part of the answer has been made
 module _ (c : tie.After-route-refusal) where
   abbrev start : tie.Start
-  start = c .before .before .before .before .before .before .before .before .before .before
+  start = c .before .before .before .before .before .before .before .before .before .before .before
 
 module _ (c : tie.After-horizon-of) where
   abbrev refused : tie.After-route-refusal
@@ -71,11 +71,11 @@ fill-marks-requires c κs =
     let s = start (refused (measured (with-distances (with-prices (c .before .before .before))))) in
     (s .pre .1 .0, (s .pre .1 .1 .0 .marks-long, omega (arith, s .pre .1 .1 .0 .few-arcs)))
 
-add-t25 : tie.Need-add-t25
-add-t25 c = omega (arith, entry (c .before .before .before .before) .pre .1 .1 .1 .1)
-
 add-t26 : tie.Need-add-t26
-add-t26 c = omega (arith, entry (c .before .before .before .before .before) .pre .1 .1 .1 .1)
+add-t26 c = omega (arith, entry (c .before .before .before .before) .pre .1 .1 .1 .1)
+
+add-t27 : tie.Need-add-t27
+add-t27 c = omega (arith, entry (c .before .before .before .before .before) .pre .1 .1 .1 .1)
 
 -- each buffer keeps its length
 same-length : tie.Need-same-length
@@ -88,7 +88,7 @@ same-length-3 : tie.Need-same-length-3
 same-length-3 c = with-tree (handed c) .fill-tree .kept .1 .1 .0
 
 same-length-4 : tie.Need-same-length-4
-same-length-4 c = handed c .fill-marks .kept .1 .1 .1 .1 .0
+same-length-4 c = handed c .fill-marks .kept .1 .1 .1 .1 .1 .0
 
 returns : tie.Need-returns
 unfolding answered iterations seen state
@@ -122,8 +122,8 @@ hand-over-spec =
     fill-prices-requires
     fill-tree-requires
     fill-marks-requires
-    add-t25
     add-t26
+    add-t27
     same-length
     same-length-2
     same-length-3

@@ -8,7 +8,7 @@ use Rattle.auction.specs.Auction.{iterations, state}
 use Rattle.steps.specs.Seen.{seen}
 use Rattle.solver.proofs.Columns.{nodes-so}
 use Rattle.hand_over.specs.ReadOff.{Fitting}
-use Rattle.planner.proofs.Planning.{known-so, ends-so, ends-held, place-low}
+use Rattle.planner.proofs.Planning.{known-so, ends-so, arcs-held, place-low}
 use Rattle.planner.proofs.run_lent.Statement.{statement}
 use Rattle.planner.proofs.run_lent.Tie as tie
 
@@ -110,16 +110,16 @@ same-length-5 : tie.Need-same-length-5
 same-length-5 c = ended (lent (handed c)) .run .kept .1 .1 .1 .1 .1 .1 .1 .1 .1 .1 .0
 
 same-length-6 : tie.Need-same-length-6
-same-length-6 c = handed c .hand-over .kept .1 .1 .1 .1 .1 .1 .1 .0
+same-length-6 c = handed c .hand-over .kept .1 .1 .1 .1 .1 .1 .1 .1 .0
 
 same-length-7 : tie.Need-same-length-7
-same-length-7 c = handed c .hand-over .kept .1 .1 .1 .1 .1 .1 .1 .1 .0
+same-length-7 c = handed c .hand-over .kept .1 .1 .1 .1 .1 .1 .1 .1 .1 .0
 
 same-length-8 : tie.Need-same-length-8
-same-length-8 c = handed c .hand-over .kept .1 .1 .1 .1 .1 .1 .1 .1 .1 .0
+same-length-8 c = handed c .hand-over .kept .1 .1 .1 .1 .1 .1 .1 .1 .1 .1 .0
 
 same-length-9 : tie.Need-same-length-9
-same-length-9 c = handed c .hand-over .kept .1 .1 .1 .1 .1 .1 .1 .1 .1 .1 .0
+same-length-9 c = handed c .hand-over .kept .1 .1 .1 .1 .1 .1 .1 .1 .1 .1 .1 .0
 
 returns : tie.Need-returns
 returns c =
@@ -129,7 +129,7 @@ returns c =
     let pre = s r .pre in
     h .hand-over .ensures (t r) (a .wanted .now) (path r) (price r)
     (nodes-so (n r) (a .origin) (a .tails .now) (a .heads .now) (a .lengths .now) (pre .0 .0) (pre .0 .1) ∙ sym (statuses r))
-    (ends-held (n r) (a .origin) (a .tails .now) (a .heads .now) (a .lengths .now) (a .wanted .now) (pre .0 .0) (pre .0 .1) (pre .1 .0))
+    (arcs-held (n r) (a .origin) (a .tails .now) (a .heads .now) (a .lengths .now) (a .wanted .now) (pre .0 .0) (pre .0 .1) (pre .1 .0))
     refl (r .run .ensures)
 
 pub run-lent-spec : {M : Type 1} → statement M

@@ -7,8 +7,9 @@ use Prim.Native.Nat.{ℕ, _≤_, _<_}
 use native.Mathlib.Omega.{arith}
 use lib.ListN.{length, getD, take, replicate, length-replicate, length-append}
 use lib.Seq.{getD-set-same, take-at}
-use Rattle.table.specs.Table.{Table, table-of, is-table, most-nodes, most-arcs}
+use Rattle.table.specs.Table.{Table, table-of, is-table, arc-count, length-at, most-nodes, most-arcs}
 use Rattle.auction.specs.Auction.{State, state, bound-at, reach, fresh, start}
+use Rattle.table.proofs.Present.{present-tail, absent-tail, down-absent, up-present}
 use Rattle.auction.proofs.Good.{good}
 use Rattle.steps.specs.declared.state.Progress.{Progress}
 use Rattle.steps.specs.Seen.{seen, greatest-sum}
@@ -16,7 +17,7 @@ use Rattle.steps.specs.Lists.{star, Linked, Tails}
 use Rattle.solver.specs.Runs.{Begun}
 use Rattle.steps.proofs.Arrays.{seen-bound}
 use Rattle.solver.proofs.run.Iterating.{bound-value}
-use Rattle.solver.proofs.Columns.{count-so, tail-so, head-so, length-so, nodes-so, origin-so}
+use Rattle.solver.proofs.Columns.{count-so, end-so, head-so, length-so, nodes-so, origin-so}
 
 fresh-bound : (t : Table) → t .origin < t .n → bound-at (fresh t) (t .origin) ≡ some 0
 unfolding bound-at fresh state
@@ -47,11 +48,16 @@ module _ {t : Table} {ws : List ℕ} {o : ℕ} {hs ls first nexts : List ℕ} wh
 -- the columns of a table that is not refused
 module _ (n o : ℕ) (ts hs ls ws : List ℕ) (eh : length hs ≡ length ts) (el : length ls ≡ length ts)
     (ok : is-table (table-of n o ts hs ls) ws ≡ true) where
-  pub tails-held : Tails (table-of n o ts hs ls) ts
+  pub tails-held : Tails (table-of n o ts hs ls) ts ls
   tails-held =
+      let t = table-of n o ts hs ls in
+      let m = count-so n o ts hs ls eh el in
+      let lengths : (i : ℕ) → i < arc-count t → length-at t i ≡ getD ls i 0 = λ i h. length-so n o ts hs ls eh el i (omega (arith, m)) in
       record {
-        count = sym (count-so n o ts hs ls eh el);
-        tail = λ i h. sym (tail-so n o ts hs ls eh el i (omega (arith, count-so n o ts hs ls eh el)));
+        count = sym m;
+        tail = λ i h up.
+            sym (present-tail t i (up-present t i (λ e. up (sym (lengths i h) ∙ e))) ∙ end-so n o ts hs ls eh el i (omega (arith, m)));
+        none = λ i h e low. omega (arith, absent-tail t i (down-absent t i (lengths i h ∙ e)), good t ws ok .few-nodes);
       }
 
   pub few-tails : length ts ≤ most-arcs
@@ -62,7 +68,7 @@ module _ (n o : ℕ) (ts hs ls ws : List ℕ) (eh : length hs ≡ length ts) (el
 
   pub tails-below : (i : ℕ) → i < length ts → getD ts i 0 < n
   tails-below i h =
-      omega (arith, good _ ws ok .tail-in i (omega (arith, count-so n o ts hs ls eh el)), tail-so n o ts hs ls eh el i h, nodes-so n o ts hs ls eh el)
+      omega (arith, good _ ws ok .end-in i (omega (arith, count-so n o ts hs ls eh el)), end-so n o ts hs ls eh el i h, nodes-so n o ts hs ls eh el)
 
   pub begun-fresh : {first nexts : List ℕ} {x : State} (at : ℕ) → at ≡ o → Linked (table-of n o ts hs ls) first nexts → x ≡ fresh (table-of n o ts hs ls) →
       Begun fresh (table-of n o ts hs ls) ws at (star hs ls first nexts) x

@@ -3,24 +3,24 @@ use Prim.Native.Nat.{_-_, _<_}
 use borrow.Author.Needs.{needs}
 use native.Mathlib.Omega.{arith}
 use lib.ListN.{length}
-use Rattle.solver.proofs.lists.Linking.{Linking, begins, goes-on, ends}
+use Rattle.solver.proofs.lists.Linking.{Linking, begins, goes-on, goes-past, ends}
 use Rattle.solver.proofs.lists.link_arcs.Statement.{statement}
 use Rattle.solver.proofs.lists.link_arcs.Tie as tie
 
 abbrev Inv-loop : tie.InvT-loop
-Inv-loop tails first₀ next₀ p₀ first next p = Linking tails first₀ first next p
+Inv-loop tails lengths first₀ next₀ p₀ first next p = Linking tails lengths first₀ first next p
 
 abbrev μ-loop : tie.MeasureT-loop
-μ-loop tails first₀ next₀ p₀ first next p = p
+μ-loop tails lengths first₀ next₀ p₀ first next p = p
 
 -- THE PLACES on the way, each named from the one after it: at the loop's head; where the arc's tail is read.
 module _ (c : tie.At-loop Inv-loop μ-loop) where
   abbrev start : tie.Start Inv-loop μ-loop
-  start = c .before .before .before .before
+  start = c .before .before .before .before .before
 
 module _ (c : tie.After-wide Inv-loop μ-loop) where
   abbrev within : tie.In-loop Inv-loop μ-loop
-  within = c .before .before
+  within = c .before .before .before .before
 
   abbrev head : tie.At-loop Inv-loop μ-loop
   head = within .before
@@ -31,16 +31,22 @@ module _ (c : tie.After-wide Inv-loop μ-loop) where
       omega (arith, i .low, i .first-long, c .wide .ensures .0, start head .pre .1 .0 (head .loop .p - 1) (omega (arith, i .low)))
 
 loop-holds : tie.Need-loop-holds Inv-loop μ-loop
-loop-holds c = begins (c .before .before .before .pre .0 .0) (c .before .before .before .pre .1 .1)
+loop-holds c = let b = c .before .before .before .before in begins (b .pre .0 .0) (b .pre .1 .1)
 
 sub-p : tie.Need-sub-p Inv-loop μ-loop
 sub-p c = omega arith
+
+mul-if1 : tie.Need-mul-if1 Inv-loop μ-loop
+mul-if1 c = search needs
+
+shared-slice-read-if1 : tie.Need-shared-slice-read-if1 Inv-loop μ-loop
+shared-slice-read-if1 c = let h = c .before .before in omega (arith, h .loop .inv .low, start h .pre .0 .1 .0)
 
 mul-wide : tie.Need-mul-wide Inv-loop μ-loop
 mul-wide c = search needs
 
 shared-slice-read-wide : tie.Need-shared-slice-read-wide Inv-loop μ-loop
-shared-slice-read-wide c = omega (arith, c .before .before .loop .inv .low)
+shared-slice-read-wide c = omega (arith, c .before .before .before .before .loop .inv .low)
 
 wide-requires : tie.Need-wide-requires Inv-loop μ-loop
 wide-requires c κs = search needs
@@ -58,7 +64,7 @@ slice-write-next : tie.Need-slice-write-next Inv-loop μ-loop
 slice-write-next c = let i = head (c .before) .loop .inv in omega (arith, i .low, i .next-long)
 
 narrow-requires : tie.Need-narrow-requires Inv-loop μ-loop
-narrow-requires c κs = let h = head (c .before) in omega (arith, h .loop .inv .low, start h .pre .0 .1)
+narrow-requires c κs = let h = head (c .before) in omega (arith, h .loop .inv .low, start h .pre .0 .1 .1)
 
 mul-first : tie.Need-mul-first Inv-loop μ-loop
 mul-first c = search needs
@@ -72,7 +78,14 @@ loop-less c = omega arith
 loop-again : tie.Need-loop-again Inv-loop μ-loop
 loop-again c =
     let w = c .before .before in
-    goes-on (w .wide .result) (c .narrow .result) (head w .loop .inv) (within w .loop-test .taken) (w .wide .ensures .0) (c .narrow .ensures) (start (head w) .pre .1 .0)
+    goes-on (w .wide .result) (c .narrow .result) (head w .loop .inv) (within w .loop-test .taken) (w .before .before .if1 .taken) (w .wide .ensures .0)
+    (c .narrow .ensures) (start (head w) .pre .1 .0)
+
+loop-less-2 : tie.Need-loop-less-2 Inv-loop μ-loop
+loop-less-2 c = omega arith
+
+loop-again-2 : tie.Need-loop-again-2 Inv-loop μ-loop
+loop-again-2 c = let w = c .before .before in goes-past (w .before .loop .inv) (w .loop-test .taken) (c .if1 .left)
 
 same-length : tie.Need-same-length Inv-loop μ-loop
 same-length c = c .before .loop .inv .first-long
@@ -91,6 +104,8 @@ link-arcs-spec =
     μ-loop
     loop-holds
     sub-p
+    mul-if1
+    shared-slice-read-if1
     mul-wide
     shared-slice-read-wide
     wide-requires
@@ -103,6 +118,8 @@ link-arcs-spec =
     slice-write-first
     loop-less
     loop-again
+    loop-less-2
+    loop-again-2
     same-length
     same-length-2
     returns)

@@ -58,16 +58,16 @@ module _ (c : tie.After-link-arcs) where
   s = start origin
 
   abbrev first : List ℕ
-  first = c .link-arcs .last .1 .0
+  first = c .link-arcs .last .1 .1 .0
 
   abbrev next : List ℕ
-  next = c .link-arcs .last .1 .1 .0
+  next = c .link-arcs .last .1 .1 .1 .0
 
   first-long : length first ≡ n s
-  first-long = c .link-arcs .kept .1 .0 ∙ first-fits s
+  first-long = c .link-arcs .kept .1 .1 .0 ∙ first-fits s
 
   next-long : length next ≡ m s
-  next-long = c .link-arcs .kept .1 .1 .0 ∙ next-fits s
+  next-long = c .link-arcs .kept .1 .1 .1 .0 ∙ next-fits s
 
   abbrev first-lent : List ℕ
   first-lent = take (n s) (first ++ drop (n s) (no-arcs most-nodes))
@@ -120,7 +120,7 @@ link-arcs-requires : tie.Need-link-arcs-requires
 link-arcs-requires c κs =
     let b = start (c .before .before) in
     let a = b .args in (
-      (next-fits b, arcs-fit b),
+      (next-fits b, (b .pre .0 .1, arcs-fit b)),
       (
         λ i h.
             subst (λ (k : ℕ). getD (a .tails .now) i 0 < k) (sym (first-fits b))

@@ -1,0 +1,6 @@
+-- The table without its absent arcs: what it is, its walks, its steps, its run, and what is handed over
+pub mod Places
+pub mod Walks
+pub mod Told
+pub mod Runs
+pub mod Handed
