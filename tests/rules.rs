@@ -3,7 +3,7 @@
 pub use crate::abi::*;
 
 pub const LONGEST_INPUT: usize = 65_536;
-pub const LONGEST_ARC: u32 = u32::MAX - 1;
+pub const LONGEST_ARC: u32 = DOWN - 1;
 
 /// A link table, faulty or not.
 #[derive(Clone, Debug, Default, PartialEq)]
@@ -33,6 +33,14 @@ impl Table {
     /// The arcs of a table whose columns are equally long.
     pub fn arcs(&self) -> Vec<Arc> {
         (0..self.tails.len()).map(|p| (self.tails[p], self.heads[p], self.lengths[p])).collect()
+    }
+
+    /// The table without the arcs of that length, and the positions here of those that are left.
+    pub fn without(&self, length: u32) -> (Table, Vec<usize>) {
+        let places: Vec<usize> = (0..self.lengths.len()).filter(|&place| self.lengths[place] != length).collect();
+        let all = self.arcs();
+        let arcs: Vec<Arc> = places.iter().map(|&place| all[place]).collect();
+        (Table::new(self.n, self.origin, &arcs, &self.wanted), places)
     }
 
     pub fn columns(&self) -> Columns<'_> {

@@ -43,10 +43,7 @@ fn all_small(entries: &dyn Entries, _: &mut Random) -> Tried {
 
 /// A plan is that of the table without its down arcs, whose positions are told as they stand in the table.
 fn alike_without_down(entries: &dyn Entries, table: &Table) -> Result<(), String> {
-    let places: Vec<usize> = (0..table.tails.len()).filter(|&place| table.lengths[place] != DOWN).collect();
-    let all = table.arcs();
-    let arcs: Vec<Arc> = places.iter().map(|&place| all[place]).collect();
-    let other = Table::new(table.n, table.origin, &arcs, &table.wanted);
+    let (other, places) = table.without(DOWN);
     let ((answer, filled), (expected, closed_up)) = (plan_filled(entries, table), plan_filled(entries, &other));
     let place = |&arc: &u16| if arc == NO_ARC { NO_ARC } else { places[arc as usize] as u16 };
     let mut marks = vec![1; table.tails.len()];

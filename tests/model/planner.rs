@@ -9,20 +9,19 @@ impl Model {
         if let Err(Refusal { number, place }) = self.test_table(table, &out) {
             return Planned { number, place, ..Planned::default() };
         }
-        let (present, places) = self.without_down(table);
+        let (present, places) = table.without(self.down());
         let mut auction = Auction::new(self, &present);
         auction.run();
         self.hand_over(&present, &places, &auction, out)
     }
 
-    /// The table without its down arcs, and the places of the others in the whole one.
-    fn without_down(&self, table: &Table) -> (Table, Vec<usize>) {
-        let down = if self.has(Wrong::DownByOneLess) { DOWN - 1 } else { DOWN };
-        let present = |&p: &usize| table.lengths[p] != down || self.has(Wrong::DownLinksUsed);
-        let places: Vec<usize> = (0..table.tails.len()).filter(present).collect();
-        let all = table.arcs();
-        let arcs: Vec<Arc> = places.iter().map(|&place| all[place]).collect();
-        (Table::new(table.n, table.origin, &arcs, &table.wanted), places)
+    /// The length of the arcs that are down; none has length 0.
+    fn down(&self) -> u32 {
+        match self.wrong {
+            Some(Wrong::DownByOneLess) => DOWN - 1,
+            Some(Wrong::DownLinksUsed) => 0,
+            _ => DOWN,
+        }
     }
 
     /// The grounds 1 to 7 in order.

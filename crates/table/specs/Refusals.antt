@@ -46,7 +46,7 @@ wanted-from i n (w ∷ ws) = cond (ltb w n) (wanted-from (suc i) n ws) (refusal 
 unfoldable pub wanted-refusal : (n : ℕ) → List ℕ → Refusal
 wanted-refusal n ws = cond (ltb most-wanted (length ws)) (refusal 5 most-wanted) (wanted-from 0 n ws)
 
--- 6 and 7: an arc's fault, its ends before its length; the first arc with a fault
+-- 6 and 7: an arc's fault, its ends before its length, also where the arc is absent; the first arc with a fault
 unfoldable pub arc-fault : (n : ℕ) → Arc → ℕ
 arc-fault n a = cond (leb n (a .tail) || leb n (a .head)) 6 (cond (eqb (a .arc-length) 0) 7 0)
 
