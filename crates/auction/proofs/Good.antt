@@ -1,5 +1,5 @@
 -- What `is-table` says of a table's numbers, one fact a field; and it holds just where none of the grounds 1 to 7 applies. Assumes nothing.
-use mathlib.Core.Path.{_≡_, refl, ap, subst, _∙_}
+use mathlib.Core.Path.{_≡_, refl, sym, ap, subst, _∙_}
 use mathlib.Core.Bool.{Bool, true, false, _&&_, _||_, not, cond}
 use mathlib.Core.List.{List, [], _∷_}
 use mathlib.Core.Logic.{⊎-elim}
@@ -13,6 +13,7 @@ use Rattle.table.specs.declared.Refusal.{Refusal}
 use Rattle.table.specs.Refusals.{refusal, no-refusal, or-else, table-refusal, count-bad, columns-bad, rooms-fit, wanted-from, wanted-refusal, arc-fault, arcs-from, arcs-refusal}
 use Rattle.auction.specs.Promises.{Longest-of-32-bits, Lengths-of-32-bits, Unrefused-is-table, Table-is-unrefused}
 use Rattle.table.proofs.Basics.{either-false, both-true, true-both, true-or}
+use Rattle.table.proofs.Columns.{arcs-count}
 
 -- A TABLE THAT IS NOT REFUSED
 pub record Good (t : Table) : Type 0 where
@@ -233,19 +234,11 @@ arcs-none i n (a ∷ more) e =
     ap (λ (c : Bool). cond c (arcs-from (suc i) n more) (refusal (arc-fault n a) i)) (eq-eqb (arc-fault n a) 0 (faultless n a (p .0)))
     ∙ arcs-none (suc i) n more (p .1)
 
--- columns of equal length make so many arcs
-arcs-of-count : (ts hs ls : List ℕ) → length ts ≡ length hs → length hs ≡ length ls → length (arcs-of ts hs ls) ≡ length ts
-unfolding arcs-of
-arcs-of-count [] hs ls p q = refl
-arcs-of-count (t ∷ ts) [] ls p q = absurd (omega (arith, p))
-arcs-of-count (t ∷ ts) (h ∷ hs) [] p q = absurd (omega (arith, q))
-arcs-of-count (t ∷ ts) (h ∷ hs) (l ∷ ls) p q = let r = arcs-of-count ts hs ls (omega (arith, p)) (omega (arith, q)) in omega (arith, r)
-
 pub table-is-unrefused : Table-is-unrefused
 unfolding Table-is-unrefused table-refusal table-of table arc-count wanted-refusal count-bad columns-bad arcs-refusal or-else no-refusal refusal
 table-is-unrefused n o ts hs ls ws rooms th hl fit e =
     let p = parts (table-of n o ts hs ls) ws e in
-    let count = arcs-of-count ts hs ls th hl in
+    let count = arcs-count ts hs ls (sym th) (sym (th ∙ hl)) in
     let some-node : n ≡ 0 → ⊥ = λ z. omega (arith, z, p .some-node) in
     rw (
       ne-eqb n 0 some-node,

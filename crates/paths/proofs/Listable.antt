@@ -1,13 +1,14 @@
 -- Listing from the columns of a table: where the walk returned is a walk with fewer than n arcs, its nodes are listed. Assumes nothing.
-use mathlib.Core.Path.{_≡_, refl, sym, ap, _∙_}
+use mathlib.Core.Path.{_≡_, sym, ap, _∙_}
 use mathlib.Core.Bool.{true}
-use mathlib.Core.List.{List, [], _∷_}
-use Prim.Native.Nat.{ℕ, zero, suc, _≤_, _<_}
+use mathlib.Core.List.{List}
+use Prim.Native.Nat.{ℕ, _≤_, _<_}
 use native.Mathlib.Omega.{arith}
-use lib.ListN.{length, getD}
-use Rattle.table.specs.Table.{Table, Arc, arc, table, table-of, arcs-of, is-table, arc-count, arc-at, tail-at, head-at, is-walk, no-arc, most-nodes}
+use lib.ListN.{length}
+use Rattle.table.specs.Table.{Table, table, table-of, is-table, arc-count, arc-at, tail-at, is-walk, most-nodes}
 use Rattle.auction.specs.HandOver.{returned}
 use Rattle.table.proofs.Present.{leaves-present, present-tail}
+use Rattle.table.proofs.Columns.{count-so, end-so, head-so}
 use Rattle.auction.proofs.Good.{good}
 use Rattle.paths.specs.Listing.{Tree, tree-in, path, nodes-of, early-of, listed}
 use Rattle.paths.specs.Promises.{nodes-of-walk, Gives}
@@ -15,26 +16,12 @@ use Rattle.paths.proofs.Early.{count-fine, columns-fine, unrefused}
 use Rattle.paths.proofs.Answers.{at-most-n, without-room, fits}
 use Rattle.paths.proofs.Returned.{Columns, path-is-walk}
 
--- three columns of equal length hold as many arcs, and each arc's ends stand at its position
-arcs-length : (ts hs ls : List ℕ) → length ts ≡ length hs → length hs ≡ length ls → length (arcs-of ts hs ls) ≡ length ts
-unfolding arcs-of
-arcs-length [] hs ls e f = refl
-arcs-length (t ∷ ts) [] ls e f = absurd (omega arith)
-arcs-length (t ∷ ts) (h ∷ hs) [] e f = absurd (omega arith)
-arcs-length (t ∷ ts) (h ∷ hs) (l ∷ ls) e f = ap suc (arcs-length ts hs ls (omega arith) (omega arith))
-
-arc-there : (ts hs ls : List ℕ) (i : ℕ) (d : Arc) → i < length (arcs-of ts hs ls) →
-    (getD ts i 0 ≡ getD (arcs-of ts hs ls) i d .tail) × (getD hs i 0 ≡ getD (arcs-of ts hs ls) i d .head)
-unfolding arcs-of arc
-arc-there [] hs ls i d h = absurd (omega arith)
-arc-there (t ∷ ts) [] ls i d h = absurd (omega arith)
-arc-there (t ∷ ts) (a ∷ hs) [] i d h = absurd (omega arith)
-arc-there (t ∷ ts) (a ∷ hs) (l ∷ ls) zero d h = (refl, refl)
-arc-there (t ∷ ts) (a ∷ hs) (l ∷ ls) (suc i) d h = arc-there ts hs ls i d (omega arith)
-
 module _ (n o : ℕ) (ts hs ls column : List ℕ) (e : length ts ≡ length hs) (f : length hs ≡ length ls) (long : length column ≡ n) where
   abbrev t : Table
   t = table-of n o ts hs ls
+
+  count : arc-count t ≡ length ts
+  count = count-so n o ts hs ls (sym e) (sym (e ∙ f))
 
   -- an arc that leaves a node leaves its tail
   leaves-tail : n ≤ most-nodes → (i : ℕ) → tail-at t i < n → arc-at t i .tail ≡ tail-at t i
@@ -42,13 +29,13 @@ module _ (n o : ℕ) (ts hs ls column : List ℕ) (e : length ts ≡ length hs) 
   leaves-tail few i low = sym (present-tail t i (leaves-present t i few low))
 
   columns : n ≤ most-nodes → Columns t (tree-in ts hs column)
-  unfolding table-of table arc-count head-at arc-at
+  unfolding table-of table
   columns few =
       record {
         nodes = long;
-        arcs = sym (arcs-length ts hs ls e f);
-        tails = λ i h low. arc-there ts hs ls i (arc no-arc no-arc 0) h .0 ∙ leaves-tail few i low;
-        heads = λ i h. arc-there ts hs ls i (arc no-arc no-arc 0) h .1;
+        arcs = sym count;
+        tails = λ i h low. sym (end-so n o ts hs ls (sym e) (sym (e ∙ f)) i (omega (arith, h, count))) ∙ leaves-tail few i low;
+        heads = λ i h. sym (head-so n o ts hs ls (sym e) (sym (e ∙ f)) i (omega (arith, h, count)));
       }
 
   module _ (ws : List ℕ) (v : ℕ) where

@@ -21,7 +21,7 @@ use Rattle.steps.specs.declared.state.RunState.{RunState}
 use Rattle.steps.specs.Seen.{seen, held, first-of}
 use Rattle.steps.specs.Steps.{Ran}
 use Rattle.steps.proofs.Arrays.{seen-bound, seen-status, no-bound}
-use Rattle.solver.proofs.Columns.{count-so, end-so, head-so, length-so, nodes-so, origin-so}
+use Rattle.table.proofs.Columns.{count-so, end-so, head-so, length-so, nodes-so, origin-so}
 use Rattle.auction.specs.Plan.{plan-refusal, plan, routes-of, refused-plan}
 use Rattle.hand_over.specs.ReadOff.{Known, Arc-ends, Fitting, Arcs-held}
 

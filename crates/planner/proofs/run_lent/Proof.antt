@@ -6,7 +6,7 @@ use lib.ListN.{length}
 use Rattle.table.specs.Table.{Table, table-of}
 use Rattle.auction.specs.Auction.{iterations, state}
 use Rattle.steps.specs.Seen.{seen}
-use Rattle.solver.proofs.Columns.{nodes-so}
+use Rattle.table.proofs.Columns.{nodes-so}
 use Rattle.hand_over.specs.ReadOff.{Fitting}
 use Rattle.planner.proofs.Planning.{known-so, ends-so, arcs-held, place-low}
 use Rattle.planner.proofs.run_lent.Statement.{statement}

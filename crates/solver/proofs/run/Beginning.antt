@@ -1,9 +1,9 @@
 -- From the fresh state to the start: the origin has the bound 0, and reaching it is the start. Assumes nothing.
-use mathlib.Core.Path.{_≡_, sym, ap, _∙_}
+use mathlib.Core.Path.{_≡_, refl, sym, ap, _∙_}
 use mathlib.Core.Bool.{true}
 use mathlib.Core.List.{List, _++_}
 use mathlib.Core.Option.{Option, none, some}
-use Prim.Native.Nat.{ℕ, _≤_, _<_}
+use Prim.Native.Nat.{ℕ, zero, suc, _≤_, _<_}
 use native.Mathlib.Omega.{arith}
 use lib.ListN.{length, getD, take, replicate, length-replicate, length-append}
 use lib.Seq.{getD-set-same, take-at}
@@ -17,7 +17,7 @@ use Rattle.steps.specs.Lists.{star, Linked, Tails}
 use Rattle.solver.specs.Runs.{Begun}
 use Rattle.steps.proofs.Arrays.{seen-bound}
 use Rattle.solver.proofs.run.Iterating.{bound-value}
-use Rattle.solver.proofs.Columns.{count-so, end-so, head-so, length-so, nodes-so, origin-so}
+use Rattle.table.proofs.Columns.{count-so, end-so, head-so, length-so, nodes-so, origin-so}
 
 fresh-bound : (t : Table) → t .origin < t .n → bound-at (fresh t) (t .origin) ≡ some 0
 unfolding bound-at fresh state
@@ -100,3 +100,15 @@ prefix-long a b n e = sym (ap length (take-at a b n e) ∙ e)
 
 pub lent-again : (t : Table) (f f′ x x′ : List ℕ) (n m : ℕ) → length f ≡ n → length x ≡ m → Linked t f x → Linked t (take n (f ++ f′)) (take m (x ++ x′))
 lent-again t f f′ x x′ n m ef ex linked = rw (take-at f f′ n ef, take-at x x′ m ex) linked
+
+-- a part of a filled array
+pub filled-long : (m n a : ℕ) → n ≤ m → length (take n (replicate m a)) ≡ n
+filled-long m zero a h = refl
+filled-long zero (suc n) a h = absurd (omega arith)
+filled-long (suc m) (suc n) a h = ap suc (filled-long m n a (omega arith))
+
+pub filled-with : (m n a v : ℕ) → n ≤ m → v < n → getD (take n (replicate m a)) v 0 ≡ a
+filled-with m zero a v h l = absurd (omega arith)
+filled-with zero (suc n) a v h l = absurd (omega arith)
+filled-with (suc m) (suc n) a zero h l = refl
+filled-with (suc m) (suc n) a (suc v) h l = filled-with m n a v (omega arith) (omega arith)

@@ -8,8 +8,8 @@ use Rattle.auction.specs.Auction.{fresh}
 use Rattle.steps.specs.Seen.{arrays, held, Sized}
 use Rattle.steps.specs.Lists.{star}
 use Rattle.solver.specs.Runs.{Begun}
-use Rattle.solver.proofs.Columns.{filled-long, filled-with, nodes-so}
-use Rattle.solver.proofs.run.Beginning.{tails-held, few-tails, few-nodes, tails-below, begun-fresh, prefix-fits, prefix-long, lent-again}
+use Rattle.table.proofs.Columns.{nodes-so}
+use Rattle.solver.proofs.run.Beginning.{tails-held, few-tails, few-nodes, tails-below, begun-fresh, prefix-fits, prefix-long, lent-again, filled-long, filled-with}
 use borrow.Author.Needs.{needs}
 use Rattle.solver.proofs.run.run.Statement.{statement}
 use Rattle.solver.proofs.run.run.Tie as tie

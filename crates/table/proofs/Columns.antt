@@ -1,12 +1,12 @@
--- The table that three columns hold, arc by arc; a part of an array that is filled with one value. Assumes nothing.
+-- The table that three columns of equal length hold, arc by arc. Assumes nothing.
 use mathlib.Core.Path.{_≡_, refl, ap}
 use mathlib.Core.List.{List, [], _∷_}
-use Prim.Native.Nat.{ℕ, zero, suc, _≤_, _<_}
+use Prim.Native.Nat.{ℕ, zero, suc, _<_}
 use native.Mathlib.Omega.{arith}
-use lib.ListN.{length, getD, take, replicate}
+use lib.ListN.{length, getD}
 use Rattle.table.specs.Table.{Arc, arc, table, arcs-of, table-of, arc-count, arc-at, head-at, length-at}
 
-arcs-count : (ts hs ls : List ℕ) → length hs ≡ length ts → length ls ≡ length ts → length (arcs-of ts hs ls) ≡ length ts
+pub arcs-count : (ts hs ls : List ℕ) → length hs ≡ length ts → length ls ≡ length ts → length (arcs-of ts hs ls) ≡ length ts
 unfolding arcs-of
 arcs-count [] hs ls eh el = refl
 arcs-count (t ∷ ts) [] ls eh el = absurd (omega arith)
@@ -46,15 +46,3 @@ module _ (n o : ℕ) (ts hs ls : List ℕ) (eh : length hs ≡ length ts) (el : 
   pub origin-so : table-of n o ts hs ls .origin ≡ o
   unfolding table-of table
   origin-so = refl
-
--- a part of a filled array
-pub filled-long : (m n a : ℕ) → n ≤ m → length (take n (replicate m a)) ≡ n
-filled-long m zero a h = refl
-filled-long zero (suc n) a h = absurd (omega arith)
-filled-long (suc m) (suc n) a h = ap suc (filled-long m n a (omega arith))
-
-pub filled-with : (m n a v : ℕ) → n ≤ m → v < n → getD (take n (replicate m a)) v 0 ≡ a
-filled-with m zero a v h l = absurd (omega arith)
-filled-with zero (suc n) a v h l = absurd (omega arith)
-filled-with (suc m) (suc n) a zero h l = refl
-filled-with (suc m) (suc n) a (suc v) h l = filled-with m n a v (omega arith) (omega arith)
