@@ -50,7 +50,7 @@ unfoldable pub tree : Table → State → List ℕ
 tree t x = entries (t .n) 0 (λ v. cond (was-reached x v) (arc-or-none (kept-at x v)) no-arc)
 
 -- 3 tree arc of a reached node; 1 any other arc into a reached node, or out of one and not kept; 2 kept into an unreached node; 0 both ends
--- unreached. An absent arc has mark 1 from the start.
+-- unreached
 unfoldable pub mark-number : (head-reached tail-reached kept : Bool) → ℕ
 mark-number true from true = 3
 mark-number true from false = 1
@@ -58,6 +58,7 @@ mark-number false true true = 2
 mark-number false true false = 1
 mark-number false false kept = 0
 
+-- the mark of the arc at a position; an absent arc has mark 1 from the start
 unfoldable pub mark : Table → State → (position : ℕ) → ℕ
 mark t x i =
     cond (present-at t i) (mark-number (was-reached x (head-at t i)) (was-reached x (tail-at t i)) (is-kept x i (kept-at x (head-at t i)))) 1

@@ -1,20 +1,19 @@
 -- From the run to the hand-over, and from the refusals to the run. Assumes nothing.
 use mathlib.Core.Path.{_≡_, refl, sym, _∙_}
-use mathlib.Core.Bool.{true, _&&_}
+use mathlib.Core.Bool.{true}
 use mathlib.Core.List.{List}
 use Prim.Native.Nat.{ℕ, _^_, _≤_, _<_}
 use native.Mathlib.Omega.{arith}
-use lib.Dec.{ltb, leb}
 use lib.ListN.{length, getD, take}
 use lib.Seq.{length-take-le}
-use borrow.Author.Tests.{lt-ltb, leb-true, eq-eqb, ne-eqb}
-use Rattle.table.specs.Table.{Table, table, table-of, is-table, arc-count, arcs-good, nodes-below, most-nodes, most-arcs, Below, most-wanted}
+use borrow.Author.Tests.{lt-ltb, eq-eqb, ne-eqb}
+use Rattle.table.specs.Table.{Table, table, table-of, is-table, most-nodes, Below, most-wanted}
 use Rattle.table.specs.declared.Refusal.{Refusal}
 use Rattle.table.specs.Refusals.{refusal}
 use Rattle.auction.specs.Auction.{fresh, was-reached}
 use Rattle.auction.specs.HandOver.{Answer, answer}
-use Rattle.table.proofs.Basics.{both-true, inside}
-use Rattle.auction.proofs.Good.{good}
+use Rattle.table.proofs.Basics.{inside}
+use Rattle.auction.proofs.Good.{good, parts}
 use Rattle.auction.proofs.Made.{unrefused}
 use Rattle.steps.specs.declared.state.Progress.{Progress}
 use Rattle.steps.specs.declared.state.RunState.{RunState}
@@ -39,19 +38,10 @@ module _ (t : Table) (ws : List ℕ) (m : ℕ) (p u b k s : List ℕ) (g : Progr
             ran .bounded v (reached-so v h) (seen-bound p u b k s g v (omega (arith, inside s v h)) ∙ no-bound (getD b v 0) e);
       }
 
-few-wanted : (t : Table) (ws : List ℕ) → is-table t ws ≡ true → length ws ≤ most-wanted
-unfolding is-table
-few-wanted t ws e =
-    let a =
-    both-true ((leb 1 (t .n) && leb (t .n) most-nodes) && (ltb (t .origin) (t .n) && leb (arc-count t) most-arcs))
-    (arcs-good (t .n) (t .arcs) && (leb (length ws) most-wanted && nodes-below (t .n) ws)) e .1 in
-    let b = both-true (arcs-good (t .n) (t .arcs)) (leb (length ws) most-wanted && nodes-below (t .n) ws) a .1 in
-    leb-true (length ws) most-wanted (both-true (leb (length ws) most-wanted) (nodes-below (t .n) ws) b .0)
-
 module _ (n o : ℕ) (ts hs ls ws : List ℕ) (eh : length hs ≡ length ts) (el : length ls ≡ length ts)
     (ok : is-table (table-of n o ts hs ls) ws ≡ true) where
   pub place-low : (m : ℕ) → m ≤ length ws → m ≤ most-wanted
-  place-low m h = omega (arith, few-wanted (table-of n o ts hs ls) ws ok)
+  place-low m h = omega (arith, parts (table-of n o ts hs ls) ws ok .few-wanted)
 
   pub ends-so : (k s : List ℕ) → length k ≡ length s → n ≡ length s → Arc-ends ts hs ls k s
   ends-so k s lk e =

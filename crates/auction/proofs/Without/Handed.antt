@@ -23,7 +23,7 @@ use Rattle.auction.proofs.Sums.{column}
 use Rattle.auction.proofs.Invariant.Counting.{Invariant}
 use Rattle.auction.proofs.Walks.{kept-link, tree-origin, tree-unreached}
 use Rattle.auction.proofs.Promised.{invariant}
-use Rattle.auction.proofs.Without.Places.{spread, same-tail, same-head, same-present, place-there, place-listed, no-place, closed-good}
+use Rattle.auction.proofs.Without.Places.{spread, same-tail, same-head, same-present, place-there, place-listed, place-in, tail-there, no-place, closed-good}
 use Rattle.auction.proofs.Without.Told.{told-kept, told-is-kept}
 use Rattle.auction.proofs.Without.Runs.{placed, auction-without-absent}
 
@@ -101,13 +101,12 @@ module _ (t : Table) where
           without-entry t ts′ (suc k) v is′ (told-entry v ∙ ap (place-of t) z ∙ no-place t few)
           ∙ ap (map (place-of t)) (sym (without-entry s ts (suc k) v is z)))
           (λ (h : i < arc-count s).
-          let there = place-there t i h in
-          let in-table = place-listed t i h in
-          let found : getD ts′ v no-arc ≡ no-arc → ⊥ = λ z. omega (arith, z, told-entry v, there, in-table, few) in
-          let found′ : i ≡ no-arc → ⊥ = λ z. omega (arith, ap (place-of t) z, no-place t few, there, in-table, few) in
+          let in-table = place-in t i h in
+          let found : getD ts′ v no-arc ≡ no-arc → ⊥ = λ z. omega (arith, z, told-entry v, in-table, few) in
+          let found′ : i ≡ no-arc → ⊥ = λ z. omega (arith, ap (place-of t) z, no-place t few, in-table, few) in
           one-back t ts′ k v is′ d found
           ∙ ap (λ (j : ℕ). back-from k t ts′ (tail-at t j) (j ∷ is′)) (told-entry v)
-          ∙ ap (λ (u : ℕ). back-from k t ts′ u (place-of t i ∷ is′)) (ap (tail-at t) there ∙ same-tail t i)
+          ∙ ap (λ (u : ℕ). back-from k t ts′ u (place-of t i ∷ is′)) (tail-there t i h)
           ∙ told-back k (tail-at s i) (i ∷ is)
           ∙ ap (map (place-of t)) (sym (one-back s ts k v is d found′)))
           (listed v))

@@ -198,6 +198,20 @@ module _ (t : Table) where
   unfolding arc-count without-absent table
   place-listed k h = listed-there (t .arcs) k h
 
+  -- so the arc at its place stands in the table, with the same ends and the same length
+  module _ (k : ℕ) (h : k < arc-count s) where
+    pub place-in : place-of t k < arc-count t
+    place-in = subst (λ (i : ℕ). i < arc-count t) (sym (place-there k h)) (place-listed k h)
+
+    pub tail-there : tail-at t (place-of t k) ≡ tail-at s k
+    tail-there = ap (tail-at t) (place-there k h) ∙ same-tail k
+
+    pub head-there : head-at t (place-of t k) ≡ head-at s k
+    head-there = ap (head-at t) (place-there k h) ∙ same-head k
+
+    pub length-there : length-at t (place-of t k) ≡ length-at s k
+    length-there = ap (length-at t) (place-there k h) ∙ same-length k
+
   -- all its arcs are present, and each present arc of the table is one of them
   all-present : (k : ℕ) → k < arc-count s → present-at s k ≡ true
   unfolding present-at arc-at arc-count without-absent table
@@ -233,7 +247,7 @@ absent-closed-up t ws e =
     record {
       good = closed-good t ws e;
       all-present = all-present t;
-      listed = λ k h. subst (λ (i : ℕ). i < arc-count t) (sym (place-there t k h)) (place-listed t k h);
+      listed = place-in t;
       same-arc = λ k h. ap (arc-at t) (place-there t k h) ∙ same-arc t k;
       ascending =
           λ j k h l. omega (arith, place-there t j (omega (arith, h, l)), place-there t k l, rising (t .arcs) j k h);

@@ -1,36 +1,22 @@
 -- The walks of a table are those of the table without its absent arcs, told by places. Assumes nothing.
-use mathlib.Core.Path.{_≡_, refl, sym, ap, subst, _∙_}
+use mathlib.Core.Path.{_≡_, refl, sym, ap, _∙_}
 use mathlib.Core.Bool.{true, _&&_}
 use mathlib.Core.List.{List, [], _∷_, map}
 use Prim.Native.Nat.{ℕ, _<_}
 use native.Mathlib.Omega.{arith}
 use lib.Dec.{ltb, eqb}
 use borrow.Author.Tests.{lt-ltb, eq-eqb}
-use Rattle.table.specs.Table.{Table, table, arc-count, tail-at, head-at, length-at, leads, is-walk, walk-length}
+use Rattle.table.specs.Table.{Table, table, arc-count, tail-at, head-at, leads, is-walk, walk-length}
 use Rattle.auction.specs.Absent.{without-absent, place-of, Walks-without-absent}
 use Rattle.table.proofs.Basics.{true-both}
 use Rattle.table.proofs.Present.{leaves-present}
 use Rattle.auction.proofs.Good.{Good, good}
 use Rattle.auction.proofs.Back.{first}
-use Rattle.auction.proofs.Without.Places.{same-tail, same-head, same-length, place-there, place-listed, every}
+use Rattle.auction.proofs.Without.Places.{place-in, tail-there, head-there, length-there, every}
 
 module _ (t : Table) where
   abbrev s : Table
   s = without-absent t
-
-  -- the arc at the place of one
-  module _ (k : ℕ) (h : k < arc-count s) where
-    place-in : place-of t k < arc-count t
-    place-in = subst (λ (i : ℕ). i < arc-count t) (sym (place-there t k h)) (place-listed t k h)
-
-    tail-there : tail-at t (place-of t k) ≡ tail-at s k
-    tail-there = ap (tail-at t) (place-there t k h) ∙ same-tail t k
-
-    head-there : head-at t (place-of t k) ≡ head-at s k
-    head-there = ap (head-at t) (place-there t k h) ∙ same-head t k
-
-    length-there : length-at t (place-of t k) ≡ length-at s k
-    length-there = ap (length-at t) (place-there t k h) ∙ same-length t k
 
   -- a walk without the absent arcs is one with them, as long
   leads-there : (is : List ℕ) (u v : ℕ) → leads s u is v ≡ true → leads t u (map (place-of t) is) v ≡ true
@@ -40,15 +26,15 @@ module _ (t : Table) where
       let f = first s u k is v e in
       let i = place-of t k in
       true-both (ltb i (arc-count t) && eqb (tail-at t i) u) (leads t (head-at t i) (map (place-of t) is) v)
-      (true-both (ltb i (arc-count t)) (eqb (tail-at t i) u) (lt-ltb i (arc-count t) (place-in k (f .listed)))
-      (eq-eqb (tail-at t i) u (tail-there k (f .listed) ∙ f .leaves)))
-      (ap (λ (w : ℕ). leads t w (map (place-of t) is) v) (head-there k (f .listed)) ∙ leads-there is (head-at s k) v (f .rest))
+      (true-both (ltb i (arc-count t)) (eqb (tail-at t i) u) (lt-ltb i (arc-count t) (place-in t k (f .listed)))
+      (eq-eqb (tail-at t i) u (tail-there t k (f .listed) ∙ f .leaves)))
+      (ap (λ (w : ℕ). leads t w (map (place-of t) is) v) (head-there t k (f .listed)) ∙ leads-there is (head-at s k) v (f .rest))
 
   as-long : (is : List ℕ) (u v : ℕ) → leads s u is v ≡ true → walk-length t (map (place-of t) is) ≡ walk-length s is
   unfolding leads walk-length
   as-long [] u v e = refl
   as-long (k ∷ is) u v e =
-      let f = first s u k is v e in omega (arith, length-there k (f .listed), as-long is (head-at s k) v (f .rest))
+      let f = first s u k is v e in omega (arith, length-there t k (f .listed), as-long is (head-at s k) v (f .rest))
 
   -- and each with them is one without, since its arcs leave nodes
   leads-without : Good t → (is : List ℕ) (u v : ℕ) → u < t .n → leads t u is v ≡ true →
@@ -60,8 +46,8 @@ module _ (t : Table) where
       let q = every t i (f .listed) (leaves-present t i (g .few-nodes) (omega (arith, low, f .leaves))) in
       let k = q .0 in
       let r = leads-without g is (head-at t i) v (g .head-in i (f .listed)) (f .rest) in
-      let leaves = sym (tail-there k (q .1)) ∙ ap (tail-at t) (q .2) ∙ f .leaves in
-      let head = sym (head-there k (q .1)) ∙ ap (head-at t) (q .2) in (
+      let leaves = sym (tail-there t k (q .1)) ∙ ap (tail-at t) (q .2) ∙ f .leaves in
+      let head = sym (head-there t k (q .1)) ∙ ap (head-at t) (q .2) in (
         k ∷ r .0,
         true-both (ltb k (arc-count s) && eqb (tail-at s k) u) (leads s (head-at s k) (r .0) v)
             (true-both (ltb k (arc-count s)) (eqb (tail-at s k) u) (lt-ltb k (arc-count s) (q .1)) (eq-eqb (tail-at s k) u leaves))
