@@ -37,17 +37,20 @@ struct State<'a> {
     deleted: [bool; NODES],
     missing: [bool; NODES],
     missing_count: usize,
+    /// The child of each node's best bid at its last scan; none where it has to scan again.
+    remembered: [u16; NODES],
     path: [u16; NODES],
     depth: usize,
     counts: Counts,
 }
 
-/// How many iterations of each kind a run makes.
+/// How many iterations of each kind a run makes, and how many of them scan.
 #[derive(Clone, Copy, Debug, Default, PartialEq)]
 pub struct Counts {
     pub contractions: u64,
     pub extensions: u64,
     pub deletions: u64,
+    pub scans: u64,
 }
 
 /// Runs the auction and gives its counts; none for a faulty table.
@@ -81,6 +84,7 @@ impl State<'_> {
             deleted: [false; NODES],
             missing: [false; NODES],
             missing_count: 0,
+            remembered: [NONE; NODES],
             path: [0; NODES],
             depth: 1,
             counts: Counts::default(),
@@ -108,6 +112,9 @@ impl State<'_> {
             let bound = self.bound[node] + self.table.lengths[arc as usize] as u64;
             let better = bound < self.bound[head] || bound == self.bound[head] && arc < self.kept[head];
             if better && !self.reached[head] {
+                if self.kept[head] != NONE {
+                    self.remembered[self.table.tails[self.kept[head] as usize] as usize] = NONE;
+                }
                 self.bound[head] = bound;
                 self.kept[head] = arc;
             }
@@ -135,27 +142,45 @@ impl State<'_> {
     /// One iteration; false where the run stops instead.
     fn step(&mut self) -> bool {
         let node = self.path[self.depth - 1] as usize;
+        if self.remembered[node] != NONE {
+            self.extend(self.remembered[node]);
+            return true;
+        }
         let (value, child) = self.best(node);
+        if child == NONE && self.depth == 1 {
+            return false;
+        }
+        self.counts.scans += 1;
+        self.remembered[node] = child;
         if child == NONE {
-            if self.depth == 1 {
-                return false;
-            }
             self.deleted[node] = true;
-            self.depth -= 1;
             self.counts.deletions += 1;
+            self.shorten();
         } else if self.price[node] < value {
             self.price[node] = value;
-            self.depth = (self.depth - 1).max(1);
             self.counts.contractions += 1;
+            self.shorten();
         } else {
-            self.path[self.depth] = child;
-            self.depth += 1;
-            self.counts.extensions += 1;
-            if !self.reached[child as usize] {
-                self.reach(child as usize);
-            }
+            self.extend(child);
         }
         true
+    }
+
+    fn extend(&mut self, child: u16) {
+        self.path[self.depth] = child;
+        self.depth += 1;
+        self.counts.extensions += 1;
+        if !self.reached[child as usize] {
+            self.reach(child as usize);
+        }
+    }
+
+    /// The terminal node leaves the path, unless it is the origin; the node before it has to scan again.
+    fn shorten(&mut self) {
+        if self.depth > 1 {
+            self.depth -= 1;
+            self.remembered[self.path[self.depth - 1] as usize] = NONE;
+        }
     }
 
     fn hand_over(&self, out: &mut Plan) {

@@ -16,6 +16,7 @@ extern "C" {
     fn boost_free(made: *mut c_void);
 
     fn thread_time() -> u64;
+    fn plan_before() -> Option<abi::PlanRoutes>;
     pub fn stack_used(work: extern "C" fn(*mut c_void), argument: *mut c_void) -> usize;
 }
 
@@ -28,9 +29,22 @@ fn columns(table: &Table) -> Columns<'_> {
     Columns { tails: &table.tails, heads: &table.heads, lengths: &table.lengths }
 }
 
+fn buffers(out: &mut Plan) -> PlanBuffers<'_> {
+    let Plan { distances, prices, tree, marks } = out;
+    PlanBuffers { distances, prices, tree, marks }
+}
+
 pub fn plan(table: &Table, wanted: &[u16], out: &mut Plan) -> Planned {
-    let Plan { distances, prices, tree, marks, .. } = out;
-    abi::plan_routes(table.n as u32, 0, columns(table), wanted, PlanBuffers { distances, prices, tree, marks })
+    abi::plan_routes(table.n as u32, 0, columns(table), wanted, buffers(out))
+}
+
+/// The library before, if one was given: an older one fills only the fields of its answer that it has.
+pub fn before() -> Option<abi::PlanRoutes> {
+    unsafe { plan_before() }
+}
+
+pub fn plan_by(function: abi::PlanRoutes, table: &Table, wanted: &[u16], out: &mut Plan) -> Planned {
+    abi::plan_routes_by(function, table.n as u32, 0, columns(table), wanted, buffers(out))
 }
 
 pub fn list(table: &Table, node: u16, tree: &[u16], output: &mut [u16]) -> Listed {

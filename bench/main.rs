@@ -1,6 +1,8 @@
 //! Measures the library beside its peers and writes a page and a plot.
 //!
-//!     kestrelore-bench PAGE PLOT DATE COMPILERS
+//!     kestrelore-bench PAGE PLOT DATE COMPILERS [BEFORE]
+//!
+//! BEFORE says what the library before is, where one is linked.
 
 #[path = "../tests/abi.rs"]
 mod abi;
@@ -58,10 +60,11 @@ fn curves() -> Vec<Curve> {
 
 fn main() -> std::io::Result<()> {
     let words: Vec<String> = std::env::args().collect();
-    let (page, plot, date, compilers) = match &words[..] {
-        [_, page, plot, date, compilers] => (page, plot, date, compilers),
+    let (page, plot, date, compilers, before) = match &words[..] {
+        [_, page, plot, date, compilers] => (page, plot, date, compilers, None),
+        [_, page, plot, date, compilers, before] => (page, plot, date, compilers, Some(before.clone())),
         _ => {
-            eprintln!("usage: kestrelore-bench PAGE PLOT DATE COMPILERS");
+            eprintln!("usage: kestrelore-bench PAGE PLOT DATE COMPILERS [BEFORE]");
             std::process::exit(2);
         }
     };
@@ -70,6 +73,7 @@ fn main() -> std::io::Result<()> {
         processor: processor(),
         cores: std::thread::available_parallelism()?.get(),
         compilers: compilers.clone(),
+        before,
     };
     let rows = rows();
     let stack = measure::stack(&tables::sparse(1_024));

@@ -1,6 +1,6 @@
-//! Times of the five planners on one table, and the stack that the library's calls need.
+//! Times of the planners on one table, and the stack that the library's calls need.
 
-use crate::abi::{self, ReadBuffers, LONGEST_FILE, MOST_ARCS, MOST_WANTED};
+use crate::abi::{self, Planned, ReadBuffers, LONGEST_FILE, MOST_ARCS, MOST_WANTED};
 use crate::auction::{self, Counts, Plan};
 use crate::dijkstra;
 use crate::library::{self, nanoseconds, Peer};
@@ -8,10 +8,13 @@ use crate::tables::Table;
 use std::ffi::c_void;
 use std::mem::ManuallyDrop;
 
-/// Nanoseconds of one call of each, and the auction's iterations.
+/// Nanoseconds of one call of each, and the auction's iterations and scans.
 pub struct Times {
     pub iterations: u64,
+    pub scans: u64,
     pub library: f64,
+    /// The library before, if one was given.
+    pub before: Option<f64>,
     pub auction: f64,
     pub heap: f64,
     pub lemon: f64,
@@ -35,9 +38,9 @@ fn median(mut times: Vec<f64>) -> f64 {
 }
 
 /// Nanoseconds for each call: the median of the repetitions, which take turns.
-fn medians<const K: usize>(mut calls: [&mut dyn FnMut(); K]) -> [f64; K] {
+fn medians(calls: &mut [&mut dyn FnMut()]) -> Vec<f64> {
     let rounds: Vec<u64> = calls.iter_mut().map(|call| rounds_of(&mut **call)).collect();
-    let mut times: [Vec<f64>; K] = std::array::from_fn(|_| Vec::new());
+    let mut times: Vec<Vec<f64>> = calls.iter().map(|_| Vec::new()).collect();
     for _ in 0..REPETITIONS {
         for (index, call) in calls.iter_mut().enumerate() {
             let start = nanoseconds();
@@ -45,7 +48,7 @@ fn medians<const K: usize>(mut calls: [&mut dyn FnMut(); K]) -> [f64; K] {
             times[index].push((nanoseconds() - start) as f64 / rounds[index] as f64);
         }
     }
-    times.map(median)
+    times.into_iter().map(median).collect()
 }
 
 /// How many calls fill a repetition; the call also warms up.
@@ -56,23 +59,33 @@ fn rounds_of(call: &mut dyn FnMut()) -> u64 {
     (REPETITION / (nanoseconds() - start).max(1)).clamp(1, 10_000)
 }
 
-/// Measures one table for all nodes (no target) or one node wanted, after checking that all five agree.
+/// Measures one table for all nodes (no target) or one node wanted, after checking that all agree.
 pub fn times(table: &Table, target: Option<u16>) -> Times {
     let wanted: Vec<u16> = target.map_or((0..table.n as u16).collect(), |node| vec![node]);
-    let (mut plan, mut other) = (Plan::new(table), Plan::new(table));
+    let (mut plan, mut other, mut third) = (Plan::new(table), Plan::new(table), Plan::new(table));
     let (lemon, boost) = (Peer::lemon(table), Peer::boost(table));
-    let iterations = check(table, &wanted, target, (&lemon, &boost));
-    let [library, auction, heap, lemon, boost] = medians([
-        &mut || finish(library::plan(table, &wanted, &mut plan)),
-        &mut || finish(auction::plan(table, &wanted, &mut other)),
-        &mut || finish(dijkstra::distances(table, target)),
-        &mut || lemon.run(target),
-        &mut || boost.run(target),
-    ]);
-    Times { iterations, library, auction, heap, lemon, boost }
+    let Planned { iterations, scans, .. } = check(table, &wanted, target, (&lemon, &boost));
+    let mut by_library = || finish(library::plan(table, &wanted, &mut plan));
+    let mut by_auction = || finish(auction::plan(table, &wanted, &mut other));
+    let mut by_heap = || finish(dijkstra::distances(table, target));
+    let (mut by_lemon, mut by_boost) = (|| lemon.run(target), || boost.run(target));
+    let mut calls: Vec<&mut dyn FnMut()> =
+        vec![&mut by_library, &mut by_auction, &mut by_heap, &mut by_lemon, &mut by_boost];
+    let before = library::before();
+    let mut by_before = || {
+        if let Some(function) = before {
+            finish(library::plan_by(function, table, &wanted, &mut third))
+        }
+    };
+    if before.is_some() {
+        calls.push(&mut by_before);
+    }
+    let times = medians(&mut calls);
+    let (library, auction, heap, lemon, boost) = (times[0], times[1], times[2], times[3], times[4]);
+    Times { iterations, scans, library, before: times.get(5).copied(), auction, heap, lemon, boost }
 }
 
-fn check(table: &Table, wanted: &[u16], target: Option<u16>, peers: (&Peer, &Peer)) -> u64 {
+fn check(table: &Table, wanted: &[u16], target: Option<u16>, peers: (&Peer, &Peer)) -> Planned {
     let (mut plan, mut other) = (Plan::new(table), Plan::new(table));
     let answer = library::plan(table, wanted, &mut plan);
     assert_eq!(answer.number, 0, "every wanted node has a walk");
@@ -80,10 +93,17 @@ fn check(table: &Table, wanted: &[u16], target: Option<u16>, peers: (&Peer, &Pee
         contractions: answer.contractions,
         extensions: answer.extensions,
         deletions: answer.deletions,
+        scans: answer.scans,
     };
     assert_eq!(Some(counts), auction::plan(table, wanted, &mut other));
     assert!(plan.distances == other.distances && plan.prices == other.prices);
     assert!(plan.tree == other.tree && plan.marks == other.marks);
+    if let Some(function) = library::before() {
+        let former = library::plan_by(function, table, wanted, &mut other);
+        assert_eq!((former.number, former.iterations), (answer.number, answer.iterations));
+        assert!(plan.distances == other.distances && plan.prices == other.prices);
+        assert!(plan.tree == other.tree && plan.marks == other.marks);
+    }
     let heap = dijkstra::distances(table, target);
     peers.0.run(target);
     peers.1.run(target);
@@ -93,7 +113,7 @@ fn check(table: &Table, wanted: &[u16], target: Option<u16>, peers: (&Peer, &Pee
         assert_eq!(distance, peers.0.distance(node));
         assert_eq!(distance, peers.1.distance(node));
     }
-    answer.iterations
+    answer
 }
 
 /// The node in the middle when all are ordered by distance.

@@ -17,12 +17,20 @@ pub struct Machine {
     pub processor: String,
     pub cores: usize,
     pub compilers: String,
+    /// What the library before is, where one was given.
+    pub before: Option<String>,
 }
 
-const HEAD: &str = "\
-| table | wanted | n | m | iterations | library, µs | ns an iteration | to the Rust auction | to a heap Dijkstra | to LEMON | to Boost |
-|---|---|--:|--:|--:|--:|--:|--:|--:|--:|--:|
-";
+const HEAD: [&str; 12] = [
+    "table", "wanted", "n", "m", "iterations", "scans", "library, µs", "ns an iteration",
+    "to the Rust auction", "to a heap Dijkstra", "to LEMON", "to Boost",
+];
+
+/// The table's head, with a column for the library before where one was given.
+fn head(before: bool) -> String {
+    let titles: Vec<&str> = HEAD.into_iter().chain(before.then_some("to the library before")).collect();
+    format!("| {} |\n|---|---|{}\n", titles.join(" | "), "--:|".repeat(titles.len() - 2))
+}
 
 pub fn line(row: &Row) -> String {
     let Row { name, wanted, n, m, times } = row;
@@ -30,10 +38,11 @@ pub fn line(row: &Row) -> String {
         0 => "-".to_string(),
         iterations => format!("{:.1}", times.library / iterations as f64),
     };
-    let ratios = [times.auction, times.heap, times.lemon, times.boost].map(|other| ratio(times.library / other));
-    let iterations = times.iterations;
+    let others = [times.auction, times.heap, times.lemon, times.boost].into_iter().chain(times.before);
+    let ratios: Vec<String> = others.map(|other| ratio(times.library / other)).collect();
+    let (iterations, scans) = (times.iterations, times.scans);
     let time = times.library / 1e3;
-    format!("| {name} | {wanted} | {n} | {m} | {iterations} | {time:.1} | {each} | {} |", ratios.join(" | "))
+    format!("| {name} | {wanted} | {n} | {m} | {iterations} | {scans} | {time:.1} | {each} | {} |", ratios.join(" | "))
 }
 
 /// Two figures after the point for small ratios, none for large ones.
@@ -52,27 +61,30 @@ fn names(rows: &[Row], holds: impl Fn(&Times) -> bool) -> String {
 }
 
 pub fn page(machine: &Machine, rows: &[Row], stack: &Stack, plot: &str) -> String {
-    let Machine { date, processor, cores, compilers } = machine;
+    let Machine { date, processor, cores, compilers, before } = machine;
     let mut page = String::new();
     let mut add = |text: &str| page.write_str(text).expect("a string takes every text");
     add("# Performance\n\n");
     add(&format!("`bench/run` measures and writes this page. Measured {date} on {processor}, {cores} cores; {compilers}.\n\n"));
     add("Five planners work on the same tables in one process, by turns: the library through its C interface; ");
-    add("the same auction in ordinary Rust (linked out-arc lists, arrays, nothing allocated while it runs); ");
+    add("the same auction in ordinary Rust (linked out-arc lists, arrays, remembered children, nothing allocated while it runs); ");
     add("Dijkstra's algorithm in Rust with the standard library's binary heap; LEMON's `Dijkstra` on a `SmartDigraph`; ");
     add("Boost's `dijkstra_shortest_paths` on an `adjacency_list`. Each time is processor time, the median of fifteen repetitions. ");
     add("The library, the Rust auction and the Rust Dijkstra start from the columns each time. ");
     add("LEMON and Boost get their graph made before the clock starts, which favours them. ");
-    add("The wanted nodes' distances of all five, and the three counts and the buffers of the two auctions, ");
+    add("The wanted nodes' distances of all five, and the four counts and the buffers of the two auctions, ");
     add("are compared before the clock starts.\n\n");
     add("A ratio is the library's time divided by the other's: above 1 the library takes longer. ");
     add("\"One\" is the node in the middle when all are ordered by distance.\n\n");
-    add(HEAD);
+    if let Some(what) = before {
+        add(&format!("The library before is {what}; it is linked into the same process, and its iterations and buffers are compared too.\n\n"));
+    }
+    add(&head(before.is_some()));
     rows.iter().for_each(|row| add(&(line(row) + "\n")));
     add("\n## Where Dijkstra's algorithm is faster\n\n");
     add("The library promises to run the auction and reports its counts, so its iterations are not free to choose. ");
     add("Where paths are long the auction walks them up and down again for each node that it reaches; ");
-    add("where a node has many children it looks at all of them in each of its iterations. A heap does neither.\n\n");
+    add("where a node has many children it looks at all of them in each iteration that scans. A heap does neither.\n\n");
     add(&format!("- A heap Dijkstra in Rust is faster on: {}.\n", names(rows, |t| t.heap < t.library)));
     add(&format!("- The library is faster than it on: {}.\n", names(rows, |t| t.heap >= t.library)));
     add(&format!("- LEMON, its graph ready, is faster on: {}.\n", names(rows, |t| t.lemon < t.library)));

@@ -48,3 +48,18 @@ size_t stack_used(void (*work)(void *), void *argument)
     if (pthread_join(thread, NULL) != 0) return 0;
     return measured.used;
 }
+
+/* The planning function of the library that is measured as the one before, where there is one. */
+#ifdef BEFORE
+extern void before_plan_routes(void);
+
+void (*plan_before(void))(void)
+{
+    return before_plan_routes;
+}
+#else
+void (*plan_before(void))(void)
+{
+    return NULL;
+}
+#endif

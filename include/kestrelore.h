@@ -15,7 +15,7 @@
  *
  * Calls share nothing: there is no global state, no allocation and no call out of the library but
  * to memcpy and memset, so two threads may call at once. Stack needed, measured on x86-64
- * (docs/PERFORMANCE.md): planning 44,088 bytes, each other call less than 512.
+ * (docs/PERFORMANCE.md): planning 46,136 bytes, each other call less than 512.
  *
  * Every answer starts with a number and a place: kestrelore_refusal lists them. docs/RULES.md has
  * the rules of planning, the file format with an example byte by byte, and the order of the tests.
@@ -30,7 +30,7 @@
 extern "C" {
 #endif
 
-#define KESTRELORE_VERSION "0.1.0"
+#define KESTRELORE_VERSION "0.2.0"
 
 /* The most nodes, arcs and wanted nodes of a table, and the bytes of the longest link file. */
 #define KESTRELORE_MOST_NODES 1024
@@ -89,6 +89,9 @@ typedef struct kestrelore_planned {
     uint64_t contractions;
     uint64_t extensions;
     uint64_t deletions;
+    uint64_t scans;        /* iterations that are the first at their node, or before which the
+                              node's children or the price of its remembered child, the best at
+                              its last scan, have changed since that scan (docs/RULES.md) */
 } kestrelore_planned;
 
 /* What listing a path answers. */

@@ -30,6 +30,7 @@ pub struct Planned {
     pub contractions: u64,
     pub extensions: u64,
     pub deletions: u64,
+    pub scans: u64,
 }
 
 #[repr(C)]
@@ -58,6 +59,19 @@ pub struct Written {
     pub place: u32,
     pub length: u32,
 }
+
+/// The planning function, of this library or of another one.
+pub type PlanRoutes = unsafe extern "C" fn(
+    n: u32, origin: u16,
+    tails: *const u16, tails_count: usize,
+    heads: *const u16, heads_count: usize,
+    lengths: *const u32, lengths_count: usize,
+    wanted: *const u16, wanted_count: usize,
+    distances: *mut u64, distances_count: usize,
+    prices: *mut u64, prices_count: usize,
+    tree: *mut u16, tree_count: usize,
+    marks: *mut u8, marks_count: usize,
+) -> Planned;
 
 extern "C" {
     fn kestrelore_plan_routes(
@@ -123,8 +137,12 @@ pub struct ReadBuffers<'a> {
 // Each call lends whole slices, by their own pointers and lengths, for the time of the call.
 
 pub fn plan_routes(n: u32, origin: u16, columns: Columns, wanted: &[u16], out: PlanBuffers) -> Planned {
+    plan_routes_by(kestrelore_plan_routes, n, origin, columns, wanted, out)
+}
+
+pub fn plan_routes_by(function: PlanRoutes, n: u32, origin: u16, columns: Columns, wanted: &[u16], out: PlanBuffers) -> Planned {
     unsafe {
-        kestrelore_plan_routes(
+        function(
             n, origin,
             columns.tails.as_ptr(), columns.tails.len(),
             columns.heads.as_ptr(), columns.heads.len(),
@@ -192,7 +210,7 @@ macro_rules! struct_lines {
 pub fn layout() -> Result<String, std::fmt::Error> {
     let mut text = String::new();
     struct_lines!(text, "kestrelore_planned", Planned,
-        number place reached horizon iterations contractions extensions deletions);
+        number place reached horizon iterations contractions extensions deletions scans);
     struct_lines!(text, "kestrelore_listed", Listed, number place count);
     struct_lines!(text, "kestrelore_table_read", TableRead, number place n origin arcs wanted);
     struct_lines!(text, "kestrelore_written", Written, number place length);

@@ -17,6 +17,7 @@ int main(void)
     FIELD(kestrelore_planned, contractions);
     FIELD(kestrelore_planned, extensions);
     FIELD(kestrelore_planned, deletions);
+    FIELD(kestrelore_planned, scans);
     STRUCT(kestrelore_listed);
     FIELD(kestrelore_listed, number);
     FIELD(kestrelore_listed, place);

@@ -57,6 +57,8 @@ fn check_answer(table: &Table, plan: &Planned, filled: &Filled, least: &[Option<
     demand((plan.number, plan.place) == expected, || format!("number and place must be {expected:?}"))?;
     let counted = plan.contractions + plan.extensions + plan.deletions;
     demand(plan.iterations == counted, || "the counts do not add up".to_string())?;
+    let scans = plan.contractions + plan.deletions..=plan.iterations;
+    demand(scans.contains(&plan.scans), || format!("{} scans, not among {scans:?}", plan.scans))?;
     let most = 2 * (n * n * n - n) / 3 + 3 * (n - 1);
     demand(plan.iterations <= most, || format!("more than {most} iterations"))?;
     let reached: Vec<u64> = filled.distances.iter().copied().filter(|&d| d != NO_DISTANCE).collect();

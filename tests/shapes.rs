@@ -9,6 +9,7 @@ pub enum Shape {
     Dense,
     Star,
     TwoHubs,
+    Stealing,
     Chain,
     ChainWithBranches,
     Ring,
@@ -18,11 +19,12 @@ pub enum Shape {
     TwoParts,
 }
 
-pub const SHAPES: [Shape; 11] = [
+pub const SHAPES: [Shape; 12] = [
     Shape::Scattered,
     Shape::Dense,
     Shape::Star,
     Shape::TwoHubs,
+    Shape::Stealing,
     Shape::Chain,
     Shape::ChainWithBranches,
     Shape::Ring,
@@ -40,6 +42,7 @@ pub fn ends(random: &mut Random, shape: Shape, n: usize) -> Vec<(usize, usize)> 
         Shape::Dense => (0..n * n).map(|pair| (pair / n, pair % n)).filter(|pair| pair.0 != pair.1).collect(),
         Shape::Star => (1..n).flat_map(|node| [(0, node), (node, 0)]).collect(),
         Shape::TwoHubs => (2..n).flat_map(|node| [(0, node), (node, 1), (1, node)]).collect(),
+        Shape::Stealing => stealing(n),
         Shape::Chain => (1..n).map(|node| (node - 1, node)).collect(),
         Shape::ChainWithBranches => chain_with_branches(n),
         Shape::Ring => (0..n).flat_map(|node| [(node, (node + 1) % n), ((node + 1) % n, node)]).collect(),
@@ -48,6 +51,13 @@ pub fn ends(random: &mut Random, shape: Shape, n: usize) -> Vec<(usize, usize)> 
         Shape::Parallel => (0..random.from(1, 12)).map(|_| (random.below(n.min(3)), random.below(n.min(3)))).collect(),
         Shape::TwoParts => (0..random.from(0, 6 * n)).map(|_| pair_within_part(random, n)).collect(),
     }
+}
+
+/// Node 0 leads to a few nodes, and each of them to all others: these hang on one after another of the few.
+fn stealing(n: usize) -> Vec<(usize, usize)> {
+    let few = (n / 3).clamp(1, 5);
+    let first = (1..n.min(few + 1)).map(|node| (0, node));
+    first.chain((few + 1..n).flat_map(|node| (1..=few).map(move |near| (near, node)))).collect()
 }
 
 /// A chain of the lower half; from each of its nodes an arc to one of the upper half.

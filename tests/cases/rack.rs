@@ -9,11 +9,12 @@ pub const GROUPS: &[Group] = &[
     Group { name: "the printed example, byte for byte", run: printed_example },
 ];
 
-/// What 01 says of a table; empty lists are not said.
+/// What 01 says of a table, and how many scans 02's rule gives; empty lists are not said.
 struct Row {
     table: Table,
     refusal: (u32, u32),
     counts: Counts,
+    scans: u64,
     horizon: u64,
     prices: &'static [u64],
     tree: &'static [u16],
@@ -28,7 +29,7 @@ enum Counts {
 }
 
 fn rack() -> Vec<Row> {
-    let row = |table, counts, horizon| Row { table, refusal: (0, 0), counts, horizon, prices: &[], tree: &[], marks: &[] };
+    let row = |table, counts, scans, horizon| Row { table, refusal: (0, 0), counts, scans, horizon, prices: &[], tree: &[], marks: &[] };
     let (sum, each) = (Counts::Sum, Counts::Each);
     let one_arc = |length| Table::new(2, 0, &[(0, 1, length)], &[1]);
     let down = |position: usize, wanted: &[u16]| {
@@ -39,24 +40,29 @@ fn rack() -> Vec<Row> {
     let all_down = Table { lengths: vec![DOWN; 5], ..example(4, &[0]) };
     let parallel = Table::new(2, 0, &[(0, 1, DOWN), (0, 1, 4)], &[1]);
     let exchanged = Table::new(4, 0, &[(0, 1, 2), (1, 2, 3), (0, 2, 5), (2, 3, 1), (1, 3, 9)], &[3]);
-    let printed = Row { prices: &[6, 4, 1, 0], tree: &[NO_ARC, 0, 1, 3], ..row(example(4, &[3]), each(5, 4, 0), 6) };
+    let equal = |wanted: &[u16]| Table::new(3, 0, &[(0, 1, 2), (0, 2, 2)], wanted);
+    let stolen = Table::new(5, 0, &[(0, 1, 1), (0, 2, 1), (1, 3, 1), (1, 4, 2), (2, 4, 1)], &[4]);
+    let printed = Row { prices: &[6, 4, 1, 0], tree: &[NO_ARC, 0, 1, 3], ..row(example(4, &[3]), each(5, 4, 0), 5, 6) };
     vec![
         Row { marks: &[3, 3, 1, 3, 1], ..printed },
-        Row { prices: &[2, 0, 0, 0], marks: &[3, 2, 1, 0, 2], ..row(example(4, &[1]), sum(2), 2) },
-        Row { refusal: (8, 0), ..row(example(5, &[4]), each(6, 5, 3), 6) },
-        Row { marks: &[2, 2, 0, 0, 0], ..row(example(4, &[]), sum(0), 0) },
-        Row { marks: &[2, 2, 0, 0, 0], ..row(example(4, &[0]), sum(0), 0) },
-        row(Table::new(1, 0, &[], &[0]), sum(0), 0),
-        Row { marks: &[1], ..row(Table::new(1, 0, &[(0, 0, 1)], &[0]), sum(0), 0) },
-        Row { tree: &[NO_ARC, 0], ..row(Table::new(2, 0, &[(0, 1, 4), (0, 1, 4)], &[1]), sum(2), 4) },
-        Row { marks: &[3], ..row(one_arc(LONGEST_ARC), sum(2), LONGEST_ARC as u64) },
-        Row { refusal: (8, 0), prices: &[0, 0], tree: &[NO_ARC, NO_ARC], marks: &[1], ..row(one_arc(DOWN), sum(0), 0) },
-        Row { refusal: (7, 0), ..row(one_arc(0), sum(0), 0) },
-        Row { tree: &[NO_ARC, 0, 1, 3], ..row(exchanged, Counts::NotSaid, 6) },
-        Row { tree: &[NO_ARC, 0, 2, 3], marks: &[3, 1, 3, 3, 1], ..row(down(1, &[3]), each(6, 6, 0), 6) },
-        Row { marks: &[3, 2, 1, 1, 2], ..row(down(3, &[1]), sum(2), 2) },
-        Row { marks: &[1, 1, 1, 1, 1], ..row(all_down, sum(0), 0) },
-        Row { tree: &[NO_ARC, 1], marks: &[1, 3], ..row(parallel, sum(2), 4) },
+        Row { prices: &[2, 0, 0, 0], marks: &[3, 2, 1, 0, 2], ..row(example(4, &[1]), sum(2), 1, 2) },
+        Row { refusal: (8, 0), ..row(example(5, &[4]), each(6, 5, 3), 9, 6) },
+        Row { marks: &[2, 2, 0, 0, 0], ..row(example(4, &[]), sum(0), 0, 0) },
+        Row { marks: &[2, 2, 0, 0, 0], ..row(example(4, &[0]), sum(0), 0, 0) },
+        row(Table::new(1, 0, &[], &[0]), sum(0), 0, 0),
+        Row { marks: &[1], ..row(Table::new(1, 0, &[(0, 0, 1)], &[0]), sum(0), 0, 0) },
+        Row { tree: &[NO_ARC, 0], ..row(Table::new(2, 0, &[(0, 1, 4), (0, 1, 4)], &[1]), sum(2), 1, 4) },
+        Row { marks: &[3], ..row(one_arc(LONGEST_ARC), sum(2), 1, LONGEST_ARC as u64) },
+        Row { refusal: (8, 0), prices: &[0, 0], tree: &[NO_ARC, NO_ARC], marks: &[1], ..row(one_arc(DOWN), sum(0), 0, 0) },
+        Row { refusal: (7, 0), ..row(one_arc(0), sum(0), 0, 0) },
+        Row { tree: &[NO_ARC, 0, 1, 3], ..row(exchanged, Counts::NotSaid, 6, 6) },
+        Row { tree: &[NO_ARC, 0, 2, 3], marks: &[3, 1, 3, 3, 1], ..row(down(1, &[3]), each(6, 6, 0), 6, 6) },
+        Row { marks: &[3, 2, 1, 1, 2], ..row(down(3, &[1]), sum(2), 1, 2) },
+        Row { marks: &[1, 1, 1, 1, 1], ..row(all_down, sum(0), 0, 0) },
+        Row { tree: &[NO_ARC, 1], marks: &[1, 3], ..row(parallel, sum(2), 1, 4) },
+        row(equal(&[1]), each(1, 1, 0), 1, 2),
+        row(equal(&[1, 2]), each(1, 2, 1), 3, 2),
+        Row { tree: &[NO_ARC, 0, 1, 2, 4], ..row(stolen, each(4, 6, 2), 9, 2) },
     ]
 }
 
@@ -72,12 +78,13 @@ fn rows(entries: &dyn Entries, _: &mut Random) -> Tried {
         };
         let holds = (plan.number, plan.place) == row.refusal
             && counted
+            && plan.scans == row.scans
             && plan.horizon == row.horizon
             && (row.prices.is_empty() || filled.prices == row.prices)
             && (row.tree.is_empty() || filled.tree == row.tree)
             && (row.marks.is_empty() || filled.marks == row.marks);
         if !holds {
-            return Err(format!("not 01's figures: {plan:?} of {:?}", row.table));
+            return Err(format!("not the rack's figures: {plan:?} of {:?}", row.table));
         }
     }
     Ok(rows.len())

@@ -5,6 +5,14 @@ use crate::rules::*;
 
 const WRONG_CAP: u64 = 1_000_000;
 
+/// What a node remembers of its last scan.
+struct Scan {
+    /// The arcs to its children.
+    children: Vec<usize>,
+    /// The remembered child, which is the best, and its price.
+    best: Option<(usize, u64)>,
+}
+
 pub struct Auction<'a> {
     table: &'a Table,
     model: &'a Model,
@@ -12,6 +20,8 @@ pub struct Auction<'a> {
     outgoing: Vec<Vec<usize>>,
     path: Vec<usize>,
     deleted: Vec<bool>,
+    /// For each node its last scan; none before the first.
+    last_scans: Vec<Option<Scan>>,
     /// Every wanted node has been reached.
     stopped: bool,
     pub prices: Vec<u64>,
@@ -21,6 +31,7 @@ pub struct Auction<'a> {
     pub contractions: u64,
     pub extensions: u64,
     pub deletions: u64,
+    pub scans: u64,
 }
 
 impl<'a> Auction<'a> {
@@ -39,6 +50,7 @@ impl<'a> Auction<'a> {
             outgoing,
             path: vec![origin],
             deleted: vec![false; n],
+            last_scans: (0..n).map(|_| None).collect(),
             stopped: false,
             prices: vec![0; n],
             bounds,
@@ -47,6 +59,7 @@ impl<'a> Auction<'a> {
             contractions: 0,
             extensions: 0,
             deletions: 0,
+            scans: 0,
         }
     }
 
@@ -125,8 +138,13 @@ impl<'a> Auction<'a> {
             None => return false,
         };
         let at_origin = self.path.len() == 1;
-        match self.best_child(node) {
-            None if at_origin => return false,
+        let best = self.best_child(node);
+        if best.is_none() && at_origin {
+            self.scans += self.model.has(Wrong::StopScans) as u64;
+            return false;
+        }
+        self.look(node, best.map(|(_, arc)| self.head(arc)));
+        match best {
             None => {
                 self.deleted[node] = true;
                 self.path.pop();
@@ -145,6 +163,33 @@ impl<'a> Auction<'a> {
             }
         }
         true
+    }
+
+    /// Scans the children of a node at its first iteration, and where one of them or the price of the remembered child has changed since its
+    /// last scan; the best child is then remembered.
+    fn look(&mut self, node: usize, best: Option<usize>) {
+        let children: Vec<usize> = self.arcs_to_children(node).collect();
+        let scans = match &self.last_scans[node] {
+            None => !self.model.has(Wrong::FirstScanForgotten),
+            Some(last) => self.changed(last, &children),
+        };
+        if scans {
+            self.scans += 1;
+        }
+        if scans || self.last_scans[node].is_none() {
+            self.last_scans[node] = Some(Scan { children, best: best.map(|child| (child, self.prices[child])) });
+        }
+    }
+
+    fn changed(&self, last: &Scan, children: &[usize]) -> bool {
+        let lost = |child: usize| !children.iter().any(|&arc| self.head(arc) == child);
+        let other_children = if self.model.has(Wrong::OtherLostChildrenUnseen) {
+            last.best.map_or(true, |(child, _)| lost(child))
+        } else {
+            last.children != children
+        };
+        let other_price = last.best.map_or(false, |(child, price)| self.prices[child] != price);
+        other_children || other_price && !self.model.has(Wrong::ChildsPriceUnseen)
     }
 
     fn extend(&mut self, child: usize) {

@@ -45,9 +45,15 @@ pub enum Wrong {
     DownLinksUnmarked,
     DownLinksClosedUp,
     DownLinksUntested,
+    StopScans,
+    FirstScanForgotten,
+    OtherLostChildrenUnseen,
+    ChildsPriceUnseen,
+    ScansByKind,
+    EachIterationScans,
 }
 
-pub const ALL_WRONG: [Wrong; 34] = [
+pub const ALL_WRONG: [Wrong; 40] = [
     Wrong::TieByFirstMet,
     Wrong::HorizonFromRawPrice,
     Wrong::RawPrices,
@@ -82,6 +88,12 @@ pub const ALL_WRONG: [Wrong; 34] = [
     Wrong::DownLinksUnmarked,
     Wrong::DownLinksClosedUp,
     Wrong::DownLinksUntested,
+    Wrong::StopScans,
+    Wrong::FirstScanForgotten,
+    Wrong::OtherLostChildrenUnseen,
+    Wrong::ChildsPriceUnseen,
+    Wrong::ScansByKind,
+    Wrong::EachIterationScans,
 ];
 
 /// The rules, or with a fault.

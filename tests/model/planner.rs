@@ -103,6 +103,11 @@ impl Model {
             contractions: auction.contractions,
             extensions: auction.extensions,
             deletions: auction.deletions,
+            scans: match self.wrong {
+                Some(Wrong::ScansByKind) => auction.contractions + auction.deletions,
+                Some(Wrong::EachIterationScans) => auction.iterations(),
+                _ => auction.scans,
+            },
         }
     }
 

@@ -5,6 +5,7 @@ use Rattle.auction.proofs.Nowhere.{absent-nowhere}
 use Rattle.auction.proofs.Without.Places.{absent-closed-up}
 use Rattle.auction.proofs.Without.Walks.{walks-without-absent}
 use Rattle.auction.proofs.Without.Runs.{steps-without-absent, auction-without-absent}
+use Rattle.auction.proofs.Without.Scans.{scans-without-absent}
 use Rattle.auction.proofs.Without.Handed.{plan-without-absent}
 
 down-is-all-ones : Down-is-all-ones
@@ -20,5 +21,6 @@ absent =
       walks-without-absent = walks-without-absent;
       steps-without-absent = steps-without-absent;
       auction-without-absent = auction-without-absent;
+      scans-without-absent = scans-without-absent;
       plan-without-absent = plan-without-absent;
     }

@@ -11,6 +11,7 @@ use Rattle.table.specs.Table.{Table, is-table, arc-count, present-at, tail-at, 
 use Rattle.table.specs.Refusals.{refusal, no-refusal}
 use Rattle.auction.specs.Auction.{State, auction, next, after, then-next, was-reached, distance, iterations}
 use Rattle.auction.specs.HandOver.{Answer, handed-over, distances, mark, marks, first-missing, route-refusal}
+use Rattle.auction.specs.Scans.{scans}
 use Rattle.auction.specs.Plan.{routes-of}
 use Rattle.auction.specs.Promises.{Has-walk, No-walk, last-state, route, price, link, Shortest, Shown, Walk-shortest, Walk-given, Prices-fit, Prices-show, Route-to-all, No-route, First-without-walk, Few-iterations, Fewer-iterations, Ends-by-itself, Iterations-counted, Attains, Earliest-link, Marks-tallied}
 use Rattle.auction.specs.Demands.{distance-of, price-of, link-of, walk-of, Given, Demands, Demands-met, Same-counts, Counts-pinned, hollow, Hollow-fails}
@@ -19,6 +20,7 @@ use Rattle.auction.proofs.Sums.{column, past-column}
 use Rattle.auction.proofs.Good.{Good, good}
 use Rattle.auction.proofs.Steps.Effects.{status-in, reached-status, status-reached}
 use Rattle.auction.proofs.Invariant.Sound.{Sound}
+use Rattle.auction.proofs.Remembering.{scans-within}
 use Rattle.auction.proofs.Walks.{kept-link, tree-origin, tree-unreached}
 use Rattle.auction.proofs.Tally.{distance-entry, not-no-distance, reached-all, absent-mark, absent-unkept}
 use Rattle.auction.proofs.Nowhere.{in-no-walk}
@@ -92,6 +94,7 @@ module _ (t : Table) (ws : List ℕ) (e : is-table t ws ≡ true) where
       let shortest : (v : ℕ) → Given a v → Shortest t ws v = λ v h. walk-shortest t ws v e (given-reached v h) in
       let shown : (v : ℕ) → Given a v → Shown t ws v = λ v h. prices-show t ws v e (given-reached v h) in
       let at : (v : ℕ) → Given a v → distance x v ≡ distance-of a v = λ v h. sym (reached-entry v (given-reached v h)) in
+      let within = scans-within t g (iterations x) x (iterations-counted t ws e .steps) in
       record {
         given = λ k walk h w. reached-given (getD ws k 0) (walk-given t ws k walk e h w);
         walk = λ v h. shortest v h .walk;
@@ -144,6 +147,9 @@ module _ (t : Table) (ws : List ℕ) (e : is-table t ws ≡ true) where
         not-before = iterations-counted t ws e .not-before;
         few = few-iterations t ws e;
         fewer = fewer-iterations t ws e;
+        scanned = refl;
+        scans-least = within .0;
+        scans-most = within .1;
       }
 
 pub demands-met : Demands-met
@@ -195,6 +201,7 @@ module _ {t : Table} {ws : List ℕ} where
         contractions = sym (da .counted .0) ∙ by (λ x. x .contractions) ∙ db .counted .0;
         extensions = sym (da .counted .1) ∙ by (λ x. x .extensions) ∙ db .counted .1;
         deletions = sym (da .counted .2) ∙ by (λ x. x .deletions) ∙ db .counted .2;
+        scans = da .scanned ∙ ap (λ (k : ℕ). scans k t) same ∙ sym (db .scanned);
       }
 
 pub counts-pinned : Counts-pinned

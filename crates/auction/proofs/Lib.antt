@@ -6,6 +6,9 @@ pub mod Sums
 pub mod Steps
 pub mod Invariant
 pub mod Run
+-- when a node scans, and what it remembers from its last scan
+pub mod Scanning
+pub mod Remembering
 -- what a sound state says of walks, of marks and of absent arcs, and the promises
 pub mod Walks
 pub mod Tally

@@ -21,6 +21,7 @@ use Rattle.auction.proofs.Invariant.Sound.{Sound, reached-low}
 use Rattle.auction.proofs.Invariant.Counting.{Invariant, few, fewer}
 use Rattle.auction.proofs.Invariant.Terminal as at-terminal
 use Rattle.auction.proofs.Run.{Finish, finish, passed, stepped}
+use Rattle.auction.proofs.Remembering.{remembered-child, scans-between}
 use Rattle.auction.proofs.Walks.{All, prices-fit-at, prices-equal, origin-price, no-shorter, kept-link, returned-walk, returned-short, returned-long, returned-links, earliest, walk-reached}
 use Rattle.auction.proofs.Tally.{marks-all, marks-tree}
 
@@ -326,6 +327,8 @@ promised =
       ascending = ascending;
       small-distances = small-distances;
       small-sums = small-sums;
+      scans-between = scans-between;
+      remembered-child = remembered-child;
       unrefused-is-table = unrefused-is-table;
       table-is-unrefused = table-is-unrefused;
       longest-of-32-bits = longest-of-32-bits;

@@ -6,15 +6,14 @@ use mathlib.Core.Logic.{_⊎_, inl, inr, ⊎-elim}
 use mathlib.Core.Option.{Option, none, some}
 use Prim.Native.Nat.{ℕ, zero, suc, _+_, _*_, _-_, _≤_, _<_}
 use native.Mathlib.Omega.{arith}
-use lib.Dec.{ltb, eqb}
 use lib.ListN.{length, getD}
-use borrow.Author.Tests.{ltb-true, ltb-false, eqb-false}
-use Rattle.table.specs.Table.{Table, arc-count, head-at, is-table, longest}
-use Rattle.auction.specs.Auction.{State, Bid, price-at, kept-at, distance, terminal, best, deletion, contraction, extension, iteration, next, go-on, run, ended, all-reached, start, auction, after, then-next, iterations, most-iterations}
+use Rattle.table.specs.Table.{Table, arc-count, is-table, longest}
+use Rattle.auction.specs.Auction.{State, Bid, price-at, kept-at, distance, terminal, best, next, go-on, run, ended, all-reached, start, auction, after, then-next, iterations, most-iterations}
 use Rattle.table.proofs.Basics.{same-or, true-or, option-or, some-none, some-same}
 use Rattle.auction.proofs.Good.{Good, good}
 use Rattle.auction.proofs.Steps.Effects.{estimate, status-in}
 use Rattle.auction.proofs.Steps.Bids.{best-bid}
+use Rattle.auction.proofs.Steps.Kinds.{Kind, deletes, contracts, extends, kind}
 use Rattle.auction.proofs.Invariant.Sound.{Nodes, Chain, chain-status}
 use Rattle.auction.proofs.Invariant.Counting.{Invariant, Stepped, path-short, few}
 use Rattle.auction.proofs.Invariant.Terminal.{never-above}
@@ -25,49 +24,38 @@ use Rattle.auction.proofs.Invariant.Starting.{started, started-iteratio
 
 -- ONE ITERATION keeps the invariant
 module _ (t : Table) (g : Good t) (x : State) (i : Invariant t x) where
-  by-bid : (o : Option Bid) → best t (terminal x) x ≡ o → (y : State) → iteration o t (terminal x) x ≡ some y → Stepped t x y
-  unfolding iteration
-  by-bid none none-there y e =
-      ⊎-elim
-      (λ (h : eqb (terminal x) (t .origin) ≡ true).
-      absurd (some-none e (ap (λ (c : Bool). cond c none (some (deletion (terminal x) x))) h)))
-      (λ (h : eqb (terminal x) (t .origin) ≡ false).
-      let same = some-same refl (sym (ap (λ (c : Bool). cond c none (some (deletion (terminal x) x))) h) ∙ e) in
+  by-kind : {y : State} → Kind t x y → Stepped t x y
+  by-kind (deletes none-there inner same) =
+      subst (λ (z : State). Stepped t x z) same (by-deletion t g x (i .depth) (i .sound) (i .counts) none-there inner)
+  by-kind (contracts b there less same) =
       subst (λ (z : State). Stepped t x z) same
-      (by-deletion t g x (i .depth) (i .sound) (i .counts) none-there (eqb-false (terminal x) (t .origin) h)))
-      (true-or (eqb (terminal x) (t .origin)))
-  by-bid (some b) there y e =
-      let best-there = best-bid t (terminal x) x b there in
-      let lower = contraction t (terminal x) (b .value) x in
-      let longer = extension t (head-at t (b .by-arc)) x in
-      ⊎-elim
-      (λ (h : ltb (price-at x (terminal x)) (b .value) ≡ true).
-      let same : lower ≡ y = some-same refl (sym (ap (λ (c : Bool). some (cond c lower longer)) h) ∙ e) in
+      (by-contraction t g x (i .depth) (i .sound) (i .counts) b (best-bid t (terminal x) x b there) less)
+  by-kind (extends b there equal same) =
       subst (λ (z : State). Stepped t x z) same
-      (by-contraction t g x (i .depth) (i .sound) (i .counts) b best-there (ltb-true (price-at x (terminal x)) (b .value) h)))
-      (λ (h : ltb (price-at x (terminal x)) (b .value) ≡ false).
-      let same : longer ≡ y = some-same refl (sym (ap (λ (c : Bool). some (cond c lower longer)) h) ∙ e) in
-      subst (λ (z : State). Stepped t x z) same
-      (by-extension t g x (i .depth) (i .sound) (i .counts) b best-there (ltb-false (price-at x (terminal x)) (b .value) h)))
-      (true-or (ltb (price-at x (terminal x)) (b .value)))
+      (by-extension t g x (i .depth) (i .sound) (i .counts) b (best-bid t (terminal x) x b there) equal)
 
   pub stepped : (y : State) → next t x ≡ some y → Stepped t x y
-  unfolding next
-  stepped y e = by-bid (best t (terminal x) x) refl y e
+  stepped y e = by-kind (kind t x y e)
+
+-- the state before
+pub preceded : (t : Table) (k : ℕ) (y : State) → after (suc k) t ≡ some y → (x : State) × (after k t ≡ some x) × (next t x ≡ some y)
+unfolding after then-next
+preceded t k y e =
+    ⊎-elim (λ (n : after k t ≡ none). absurd (some-none e (ap (then-next t) n)))
+    (λ (x : (x : State) × (after k t ≡ some x)). (x .0, x .1, sym (ap (then-next t) (x .1)) ∙ e))
+    (option-or (after k t))
 
 -- every state that a run passes
 pub passed : (t : Table) → Good t → (k : ℕ) (x : State) → after k t ≡ some x → Invariant t x × (iterations x ≡ k)
-unfolding after then-next
+unfolding after
 passed t g zero x e =
     let same : start t ≡ x = some-same refl e in
     (subst (λ (y : State). Invariant t y) same (started t g), ap iterations (sym same) ∙ started-iterations t g)
 passed t g (suc k) x e =
-    ⊎-elim (λ (n : after k t ≡ none). absurd (some-none e (ap (then-next t) n)))
-    (λ (w : (w : State) × (after k t ≡ some w)).
+    let w = preceded t k x e in
     let before = passed t g k (w .0) (w .1) in
-    let s = stepped t g (w .0) (before .0) x (sym (ap (then-next t) (w .1)) ∙ e) in
-    (s .invariant, s .counted ∙ ap suc (before .1)))
-    (option-or (after k t))
+    let s = stepped t g (w .0) (before .0) x (w .2) in
+    (s .invariant, s .counted ∙ ap suc (before .1))
 
 -- WHAT THE CODE HAS TO KNOW of a state's numbers
 pub record Within (t : Table) (x : State) : Type 0 where

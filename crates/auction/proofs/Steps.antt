@@ -1,4 +1,6 @@
--- What the parts of a step do, taken out of the definitions: each change of the state, what an arc offers, the best bid
+-- What the parts of a step do, taken out of the definitions: each change of the state, what an arc offers, the best bid, and which
+-- iteration it is
 pub mod Effects
 pub mod Offers
 pub mod Bids
+pub mod Kinds

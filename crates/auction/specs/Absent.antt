@@ -8,6 +8,7 @@ use Prim.Native.Nat.{ℕ, suc, _+_, _^_, _<_}
 use lib.ListN.{getD}
 use Rattle.table.specs.Table.{Arc, Table, table, is-table, is-walk, walk-length, arc-count, arc-at, present, present-at, down, no-arc}
 use Rattle.auction.specs.Auction.{State, state, Ended, ended, auction, after, kept-at}
+use Rattle.auction.specs.Scans.{scans}
 use Rattle.auction.specs.HandOver.{Answer, mark, how-many}
 use Rattle.auction.specs.Plan.{routes-of}
 use Rattle.auction.specs.Demands.{walk-of}
@@ -94,6 +95,10 @@ unfoldable pub Auction-without-absent : Type 0
 Auction-without-absent =
     (t : Table) (ws : List ℕ) → is-table t ws ≡ true → auction t ws ≡ told-end (place-of t) (auction (without-absent t) ws)
 
+-- The scans of the first k iterations are as many.
+unfoldable pub Scans-without-absent : Type 0
+Scans-without-absent = (t : Table) (k : ℕ) → is-table t [] ≡ true → scans k t ≡ scans k (without-absent t)
+
 -- AND SO IS ALL THAT IS HANDED OVER: the number, also "no route", and its place, the counts, the distances and the prices are the same, the links and
 -- the walks go over the same arcs, and each present arc has the same mark.
 pub record As-without (t : Table) (a b : Answer) : Type 0 where
@@ -105,6 +110,7 @@ pub record As-without (t : Table) (a b : Answer) : Type 0 where
   pub contractions : a .contractions ≡ b .contractions
   pub extensions : a .extensions ≡ b .extensions
   pub deletions : a .deletions ≡ b .deletions
+  pub scans : a .scans ≡ b .scans
   pub distances : a .distances ≡ b .distances
   pub prices : a .prices ≡ b .prices
   pub links : a .tree ≡ map (place-of t) (b .tree)
@@ -123,4 +129,5 @@ pub record Absent : Type 0 where
   pub walks-without-absent : Walks-without-absent
   pub steps-without-absent : Steps-without-absent
   pub auction-without-absent : Auction-without-absent
+  pub scans-without-absent : Scans-without-absent
   pub plan-without-absent : Plan-without-absent

@@ -10,6 +10,7 @@ use lib.ListN.{length, getD}
 use Rattle.table.specs.Table.{Table, is-table, is-walk, walk-length, arc-count, present-at, tail-at, head-at, length-at, no-arc, no-distance}
 use Rattle.auction.specs.Auction.{State, next, after, all-reached, most-iterations}
 use Rattle.auction.specs.HandOver.{Answer, answer, returned, how-many}
+use Rattle.auction.specs.Scans.{scans}
 use Rattle.auction.specs.Plan.{routes-of}
 use Rattle.auction.specs.Promises.{Attains, Has-walk, First-without-walk, equal-along}
 
@@ -75,6 +76,10 @@ pub record Demands (t : Table) (ws : List ℕ) (a : Answer) : Type 0 where
   -- The iterations are at most 2(n³ − n)/3 + 3(n − 1), and even at most (n³ − n)/3 + 3(n − 1).
   pub few : a .iterations ≤ most-iterations (t .n)
   pub fewer : a .iterations ≤ (t .n * t .n * t .n - t .n) / 3 + 3 * (t .n - 1)
+  -- The scans are those of just these iterations, by the definition; each contraction and each deletion is one, and no iteration is more than one.
+  pub scanned : a .scans ≡ scans (a .iterations) t
+  pub scans-least : a .contractions + a .deletions ≤ a .scans
+  pub scans-most : a .scans ≤ a .iterations
 
 -- The promise: all of that, of every table that is not refused as faulty and every wanted list.
 unfoldable pub Demands-met : Type 0
@@ -87,14 +92,15 @@ pub record Same-counts (a b : Answer) : Type 0 where
   pub contractions : a .contractions ≡ b .contractions
   pub extensions : a .extensions ≡ b .extensions
   pub deletions : a .deletions ≡ b .deletions
+  pub scans : a .scans ≡ b .scans
 
 unfoldable pub Counts-pinned : Type 0
 Counts-pinned = (t : Table) (ws : List ℕ) (a b : Answer) → Demands t ws a → Demands t ws b → Same-counts a b
 
--- So a hollow answer, the true one with all four counts 0, does not meet them, unless the auction makes no iteration.
+-- So a hollow answer, the true one with all five counts 0, does not meet them, unless the auction makes no iteration.
 unfoldable pub hollow : Answer → Answer
 hollow a =
-    answer (a .number) (a .place) (a .reached) (a .horizon) 0 0 0 0 (a .distances) (a .prices) (a .tree) (a .marks)
+    answer (a .number) (a .place) (a .reached) (a .horizon) 0 0 0 0 0 (a .distances) (a .prices) (a .tree) (a .marks)
 
 unfoldable pub Hollow-fails : Type 0
 Hollow-fails =

@@ -9,6 +9,7 @@ use Rattle.table.specs.Table.{Table, arc-count, present-at, tail-at, head-at, n
 use Rattle.table.specs.declared.Refusal.{Refusal}
 use Rattle.table.specs.Refusals.{refusal, no-refusal}
 use Rattle.auction.specs.Auction.{State, Ended, was-reached, distance, kept-at, is-kept, iterations}
+use Rattle.auction.specs.Scans.{scans}
 
 -- f v, f (v + 1) and so on: `left` entries
 unfoldable pub entries : (left v : ℕ) → (ℕ → ℕ) → List ℕ
@@ -84,13 +85,14 @@ pub record Answer : Type 0 where
   pub contractions : ℕ
   pub extensions : ℕ
   pub deletions : ℕ
+  pub scans : ℕ
   pub distances : List ℕ
   pub prices : List ℕ
   pub tree : List ℕ
   pub marks : List ℕ
 
-abbrev pub answer : (number place reached horizon iterations contractions extensions deletions : ℕ) → (distances prices tree marks : List ℕ) → Answer
-answer n p r h i c e d ds ps ts ms =
+abbrev pub answer : (number place reached horizon iterations contractions extensions deletions scans : ℕ) → (distances prices tree marks : List ℕ) → Answer
+answer n p r h i c e d s ds ps ts ms =
     record {
       number = n;
       place = p;
@@ -100,6 +102,7 @@ answer n p r h i c e d ds ps ts ms =
       contractions = c;
       extensions = e;
       deletions = d;
+      scans = s;
       distances = ds;
       prices = ps;
       tree = ts;
@@ -110,8 +113,8 @@ unfoldable pub handed-over : Table → (wanted : List ℕ) → Ended → Answer
 handed-over t ws e =
     let f = route-refusal ws e in
     let x = e .last in
-    answer (f .number) (f .place) (reached-count t x) (horizon t x) (iterations x) (x .contractions) (x .extensions) (x .deletions) (distances t x)
-    (prices t x) (tree t x) (marks t x)
+    answer (f .number) (f .place) (reached-count t x) (horizon t x) (iterations x) (x .contractions) (x .extensions) (x .deletions)
+    (scans (iterations x) t) (distances t x) (prices t x) (tree t x) (marks t x)
 
 -- THE WALK RETURNED to a node: back from the node, from each tree entry's arc to its tail, until the origin, read forwards
 unfoldable pub back-from : (left : ℕ) → Table → (tree : List ℕ) → (v : ℕ) → (walk : List ℕ) → List ℕ

@@ -1,4 +1,5 @@
 pub mod Auction
+pub mod Scans
 pub mod HandOver
 pub mod Plan
 pub mod Promises

@@ -24,7 +24,7 @@ plan-refusal n o ts hs ls ws ds ps tr ms =
 
 -- the answer to a table that is refused
 unfoldable pub refused-plan : Refusal → (distances prices tree marks : List ℕ) → Answer
-refused-plan f = answer (f .number) (f .place) 0 0 0 0 0 0
+refused-plan f = answer (f .number) (f .place) 0 0 0 0 0 0 0
 
 -- the answer to a table that is not
 unfoldable pub routes-of : Table → (wanted : List ℕ) → Answer

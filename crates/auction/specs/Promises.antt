@@ -12,8 +12,9 @@ use lib.Dec.{eqb}
 use lib.ListN.{length, getD}
 use Rattle.table.specs.Table.{Table, table-of, is-table, is-walk, walk-length, arc-count, present-at, tail-at, head-at, length-at, longest, no-arc, no-distance, Below}
 use Rattle.table.specs.Refusals.{Room, no-refusal, rooms-fit, table-refusal}
-use Rattle.auction.specs.Auction.{State, Bid, auction, run, start, next, after, best, terminal, all-reached, was-reached, distance, bound-at, price-at, iterations, most-iterations}
+use Rattle.auction.specs.Auction.{State, Bid, auction, run, start, next, after, best, terminal, all-reached, was-reached, distance, bound-at, price-at, extension, iterations, most-iterations}
 use Rattle.auction.specs.HandOver.{how-many, reached-count, prices, tree, marks, returned, first-missing}
+use Rattle.auction.specs.Scans.{scans-now, history, last-scan, scans}
 
 -- the state in which a run ends, and what is handed over from it: the walk returned to a node, a node's price, its tree entry
 unfoldable pub last-state : Table → (wanted : List ℕ) → State
@@ -177,6 +178,27 @@ Small-sums =
     (t : Table) (k : ℕ) (x : State) (v d : ℕ) → is-table t [] ≡ true → after k t ≡ some x → bound-at x v ≡ some d →
     price-at x v + d ≤ t .n * longest
 
+-- SCANS
+
+-- Each contraction and each deletion scans, and nothing but an iteration does.
+unfoldable pub Scans-between : Type 0
+Scans-between =
+    (t : Table) (k : ℕ) (x : State) → is-table t [] ≡ true → after k t ≡ some x →
+    (x .contractions + x .deletions ≤ scans k t) × (scans k t ≤ k)
+
+-- An iteration that does not scan extends the path by the child that its node remembers from its last scan, in state s: that child's bid is still
+-- the best.
+pub record Goes-by-memory (t : Table) (s x : State) : Type 0 where
+  pub child : Bid
+  pub remembered : best t (terminal x) s ≡ some child
+  pub still-best : best t (terminal x) x ≡ some child
+  pub extends : next t x ≡ some (extension t (head-at t (child .by-arc)) x)
+
+unfoldable pub Remembered-child : Type 0
+Remembered-child =
+    (t : Table) (k : ℕ) (x s : State) → is-table t [] ≡ true → after k t ≡ some x → last-scan t (terminal x) (history k t) ≡ some s →
+    scans-now t (terminal x) (some s) x ≡ false → Goes-by-memory t s x
+
 -- FOR EVERY TABLE NOT REFUSED
 
 -- Where none of the refusals 1 to 7 applies to columns whose lengths are 32 bits each, the table is one that the promises speak of.
@@ -219,6 +241,8 @@ pub record Promises : Type 0 where
   pub ascending : Ascending
   pub small-distances : Small-distances
   pub small-sums : Small-sums
+  pub scans-between : Scans-between
+  pub remembered-child : Remembered-child
   pub unrefused-is-table : Unrefused-is-table
   pub table-is-unrefused : Table-is-unrefused
   pub longest-of-32-bits : Longest-of-32-bits

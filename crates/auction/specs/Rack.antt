@@ -36,29 +36,30 @@ pub record Extent : Type 0 where
 abbrev pub extent : (reached horizon : ℕ) → Extent
 extent r h = record { reached = r; horizon = h }
 
--- the iterations, and of these the contractions, the extensions and the deletions
+-- the iterations, and of these the contractions, the extensions and the deletions, and those that scan
 pub record Steps : Type 0 where
   pub iterations : ℕ
   pub contractions : ℕ
   pub extensions : ℕ
   pub deletions : ℕ
+  pub scans : ℕ
 
-abbrev pub steps : (iterations contractions extensions deletions : ℕ) → Steps
-steps i c e d = record { iterations = i; contractions = c; extensions = e; deletions = d }
+abbrev pub steps : (iterations contractions extensions deletions scans : ℕ) → Steps
+steps i c e d s = record { iterations = i; contractions = c; extensions = e; deletions = d; scans = s }
 
 -- a route to every wanted node
 abbrev pub found : Extent → Steps → (distances prices tree marks : List ℕ) → Buffers → Answer
 found x s ds ps tr ms b =
-    answer 0 0 (x .reached) (x .horizon) (s .iterations) (s .contractions) (s .extensions) (s .deletions) ds ps tr ms
+    answer 0 0 (x .reached) (x .horizon) (s .iterations) (s .contractions) (s .extensions) (s .deletions) (s .scans) ds ps tr ms
 
 -- refusal 8: no route to the wanted node at this index; the counts and the four columns are handed over all the same
 abbrev pub no-route-at : (place : ℕ) → Extent → Steps → (distances prices tree marks : List ℕ) → Buffers → Answer
 no-route-at p x s ds ps tr ms b =
-    answer 8 p (x .reached) (x .horizon) (s .iterations) (s .contractions) (s .extensions) (s .deletions) ds ps tr ms
+    answer 8 p (x .reached) (x .horizon) (s .iterations) (s .contractions) (s .extensions) (s .deletions) (s .scans) ds ps tr ms
 
 -- one of the refusals 1 to 7: every buffer is left as it was lent
 abbrev pub refused-by : (number place : ℕ) → Buffers → Answer
-refused-by n p b = answer n p 0 0 0 0 0 0 (b .distances) (b .prices) (b .tree) (b .marks)
+refused-by n p b = answer n p 0 0 0 0 0 0 0 (b .distances) (b .prices) (b .tree) (b .marks)
 
 -- A ROW: a table by its columns, its wanted list and the buffers lent; the answer it has to give and the bound on its iterations
 pub record Row : Type 0 where
@@ -136,66 +137,69 @@ T n o = row n o (five 0 0 1 2 1) (five 1 2 2 3 3) (five 2 5 3 1 9)
 unfoldable pub rack : List Row
 rack =
     -- T, wanted 3
-    T 4 0 (one 3) (found (extent 4 6) (steps 9 5 4 0) (four 0 2 5 6) (four 6 4 1 0) (four no-arc 0 1 3) (five 3 3 1 3 1)) 49
+    T 4 0 (one 3) (found (extent 4 6) (steps 9 5 4 0 5) (four 0 2 5 6) (four 6 4 1 0) (four no-arc 0 1 3) (five 3 3 1 3 1)) 49
     -- T, wanted 1
     ∷ T 4 0 (one 1)
-    (found (extent 2 2) (steps 2 1 1 0) (four 0 2 no-distance no-distance) (four 2 0 0 0) (four no-arc 0 no-arc no-arc) (five 3 2 1 0 2)) 49
+    (found (extent 2 2) (steps 2 1 1 0 1) (four 0 2 no-distance no-distance) (four 2 0 0 0) (four no-arc 0 no-arc no-arc) (five 3 2 1 0 2)) 49
     -- T with a fifth node, wanted 4: no route; the horizon is 6, though the origin's last auction price is 11
     ∷ T 5 0 (one 4)
-    (no-route-at 0 (extent 4 6) (steps 14 6 5 3) (five 0 2 5 6 no-distance) (five 6 4 1 0 0) (five no-arc 0 1 3 no-arc) (five 3 3 1 3 1)) 92
+    (no-route-at 0 (extent 4 6) (steps 14 6 5 3 9) (five 0 2 5 6 no-distance) (five 6 4 1 0 0) (five no-arc 0 1 3 no-arc) (five 3 3 1 3 1)) 92
     -- T, wanted list empty, and only 0
     ∷ T 4 0 []
-    (found (extent 1 0) (steps 0 0 0 0) (four 0 no-distance no-distance no-distance) (four 0 0 0 0) (four no-arc no-arc no-arc no-arc) (five 2 2 0 0 0)) 49
+    (found (extent 1 0) (steps 0 0 0 0 0) (four 0 no-distance no-distance no-distance) (four 0 0 0 0) (four no-arc no-arc no-arc no-arc) (five 2 2 0 0 0)) 49
     ∷ T 4 0 (one 0)
-    (found (extent 1 0) (steps 0 0 0 0) (four 0 no-distance no-distance no-distance) (four 0 0 0 0) (four no-arc no-arc no-arc no-arc) (five 2 2 0 0 0)) 49
+    (found (extent 1 0) (steps 0 0 0 0 0) (four 0 no-distance no-distance no-distance) (four 0 0 0 0) (four no-arc no-arc no-arc no-arc) (five 2 2 0 0 0)) 49
     -- one node, no arcs; one node, a loop
-    ∷ row 1 0 [] [] [] (one 0) (found (extent 1 0) (steps 0 0 0 0) (one 0) (one 0) (one no-arc) []) 0
-    ∷ row 1 0 (one 0) (one 0) (one 1) (one 0) (found (extent 1 0) (steps 0 0 0 0) (one 0) (one 0) (one no-arc) (one 1)) 0
+    ∷ row 1 0 [] [] [] (one 0) (found (extent 1 0) (steps 0 0 0 0 0) (one 0) (one 0) (one no-arc) []) 0
+    ∷ row 1 0 (one 0) (one 0) (one 1) (one 0) (found (extent 1 0) (steps 0 0 0 0 0) (one 0) (one 0) (one no-arc) (one 1)) 0
     -- two equal arcs: the first is kept
-    ∷ row 2 0 (two 0 0) (two 1 1) (two 4 4) (one 1) (found (extent 2 4) (steps 2 1 1 0) (two 0 4) (two 4 0) (two no-arc 0) (two 3 1)) 7
+    ∷ row 2 0 (two 0 0) (two 1 1) (two 4 4) (one 1) (found (extent 2 4) (steps 2 1 1 0 1) (two 0 4) (two 4 0) (two no-arc 0) (two 3 1)) 7
     -- the greatest length in use; one more, which is down, so that there is no route; and length 0
     ∷ row 2 0 (one 0) (one 1) (one 4294967294) (one 1)
-    (found (extent 2 4294967294) (steps 2 1 1 0) (two 0 4294967294) (two 4294967294 0) (two no-arc 0) (one 3)) 7
+    (found (extent 2 4294967294) (steps 2 1 1 0 1) (two 0 4294967294) (two 4294967294 0) (two no-arc 0) (one 3)) 7
     ∷ row 2 0 (one 0) (one 1) (one down) (one 1)
-    (no-route-at 0 (extent 1 0) (steps 0 0 0 0) (two 0 no-distance) (two 0 0) (two no-arc no-arc) (one 1)) 7
+    (no-route-at 0 (extent 1 0) (steps 0 0 0 0 0) (two 0 no-distance) (two 0 0) (two no-arc no-arc) (one 1)) 7
     ∷ row 2 0 (one 0) (one 1) (one 0) (one 1) (refused-by 7 0) 7
     -- T with arc 1 down: node 2 hangs on arc 2, and the auction is that of the other four arcs
     ∷ row 4 0 (five 0 0 1 2 1) (five 1 2 2 3 3) (five 2 down 3 1 9) (one 3)
-    (found (extent 4 6) (steps 12 6 6 0) (four 0 2 5 6) (four 6 4 1 0) (four no-arc 0 2 3) (five 3 1 3 3 1)) 49
+    (found (extent 4 6) (steps 12 6 6 0 6) (four 0 2 5 6) (four 6 4 1 0) (four no-arc 0 2 3) (five 3 1 3 3 1)) 49
     -- T with arc 3 down, both its ends unreached: mark 1; and every arc down, before any iteration
     ∷ row 4 0 (five 0 0 1 2 1) (five 1 2 2 3 3) (five 2 5 3 down 9) (one 1)
-    (found (extent 2 2) (steps 2 1 1 0) (four 0 2 no-distance no-distance) (four 2 0 0 0) (four no-arc 0 no-arc no-arc) (five 3 2 1 1 2)) 49
+    (found (extent 2 2) (steps 2 1 1 0 1) (four 0 2 no-distance no-distance) (four 2 0 0 0) (four no-arc 0 no-arc no-arc) (five 3 2 1 1 2)) 49
     ∷ row 4 0 (five 0 0 1 2 1) (five 1 2 2 3 3) (five down down down down down) (one 0)
-    (found (extent 1 0) (steps 0 0 0 0) (four 0 no-distance no-distance no-distance) (four 0 0 0 0) (four no-arc no-arc no-arc no-arc) (five 1 1 1 1 1)) 49
+    (found (extent 1 0) (steps 0 0 0 0 0) (four 0 no-distance no-distance no-distance) (four 0 0 0 0) (four no-arc no-arc no-arc no-arc) (five 1 1 1 1 1)) 49
     -- of two parallel arcs the first is down: the second is kept, and its position is 1
-    ∷ row 2 0 (two 0 0) (two 1 1) (two down 4) (one 1) (found (extent 2 4) (steps 2 1 1 0) (two 0 4) (two 4 0) (two no-arc 1) (two 1 3)) 7
+    ∷ row 2 0 (two 0 0) (two 1 1) (two down 4) (one 1) (found (extent 2 4) (steps 2 1 1 0 1) (two 0 4) (two 4 0) (two no-arc 1) (two 1 3)) 7
     -- an arc that is down has to have good ends all the same: 6 at its position, before a fault of a later arc
     ∷ row 2 0 (one 0) (one 2) (one down) (one 1) (refused-by 6 0) 7
     ∷ row 2 0 (two 2 0) (two 1 1) (two down 0) (one 1) (refused-by 6 0) 7
     ∷ row 2 0 (two 0 0) (two 1 1) (two down 0) (one 1) (refused-by 7 1) 7
     -- T with arcs 1 and 2 exchanged: node 2 hangs on arc 1, from node 1, though arc 2, from node 0, was met first
     ∷ row 4 0 (five 0 1 0 2 1) (five 1 2 2 3 3) (five 2 3 5 1 9) (one 3)
-    (found (extent 4 6) (steps 12 6 6 0) (four 0 2 5 6) (four 6 4 1 0) (four no-arc 0 1 3) (five 3 3 1 3 1)) 49
+    (found (extent 4 6) (steps 12 6 6 0 6) (four 0 2 5 6) (four 6 4 1 0) (four no-arc 0 1 3) (five 3 3 1 3 1)) 49
     -- two equal bids: the path goes by the arc at the lower position, wherever it leads
     ∷ row 3 0 (two 0 0) (two 1 2) (two 2 2) (one 1)
-    (found (extent 2 2) (steps 2 1 1 0) (three 0 2 no-distance) (three 2 0 0) (three no-arc 0 no-arc) (two 3 2)) 22
+    (found (extent 2 2) (steps 2 1 1 0 1) (three 0 2 no-distance) (three 2 0 0) (three no-arc 0 no-arc) (two 3 2)) 22
     ∷ row 3 0 (two 0 0) (two 2 1) (two 2 2) (one 2)
-    (found (extent 2 2) (steps 2 1 1 0) (three 0 no-distance 2) (three 2 0 0) (three no-arc no-arc 0) (two 3 2)) 22
+    (found (extent 2 2) (steps 2 1 1 0 1) (three 0 no-distance 2) (three 2 0 0) (three no-arc no-arc 0) (two 3 2)) 22
     ∷ row 3 0 (two 0 0) (two 1 2) (two 2 2) (two 1 2)
-    (found (extent 3 2) (steps 4 1 2 1) (three 0 2 2) (three 2 0 0) (three no-arc 0 1) (two 3 3)) 22
+    (found (extent 3 2) (steps 4 1 2 1 3) (three 0 2 2) (three 2 0 0) (three no-arc 0 1) (two 3 3)) 22
+    -- a child is lost to another node: the node scans, though the child that it remembers is as it was
+    ∷ row 5 0 (five 0 0 1 1 2) (five 1 2 3 4 4) (five 1 1 1 2 1) (one 4)
+    (found (extent 5 2) (steps 12 4 6 2 9) (five 0 1 1 2 2) (five 2 1 1 0 0) (five no-arc 0 1 2 4) (five 3 3 3 1 3)) 92
     -- another origin than 0: it stays on the path at its contraction
-    ∷ row 2 1 (one 1) (one 0) (one 4) (one 0) (found (extent 2 4) (steps 2 1 1 0) (two 4 0) (two 0 4) (two 0 no-arc) (one 3)) 7
+    ∷ row 2 1 (one 1) (one 0) (one 4) (one 0) (found (extent 2 4) (steps 2 1 1 0 1) (two 4 0) (two 0 4) (two 0 no-arc) (one 3)) 7
     ∷ T 4 2 (one 3)
-    (found (extent 2 1) (steps 2 1 1 0) (four no-distance no-distance 0 1) (four 0 0 1 0) (four no-arc no-arc no-arc 3) (five 0 1 1 3 1)) 49
+    (found (extent 2 1) (steps 2 1 1 0 1) (four no-distance no-distance 0 1) (four 0 0 1 0) (four no-arc no-arc no-arc 3) (five 0 1 1 3 1)) 49
     -- an arc from an unreached node to a reached one has mark 1, however short it is
     ∷ row 3 0 (two 0 2) (two 1 1) (two 4 1) (one 1)
-    (found (extent 2 4) (steps 2 1 1 0) (three 0 4 no-distance) (three 4 0 0) (three no-arc 0 no-arc) (two 3 1)) 22
+    (found (extent 2 4) (steps 2 1 1 0 1) (three 0 4 no-distance) (three 4 0 0) (three no-arc 0 no-arc) (two 3 1)) 22
     -- a wanted node repeated
-    ∷ T 4 0 (three 3 1 3) (found (extent 4 6) (steps 9 5 4 0) (four 0 2 5 6) (four 6 4 1 0) (four no-arc 0 1 3) (five 3 3 1 3 1)) 49
+    ∷ T 4 0 (three 3 1 3) (found (extent 4 6) (steps 9 5 4 0 5) (four 0 2 5 6) (four 6 4 1 0) (four no-arc 0 1 3) (five 3 3 1 3 1)) 49
     -- no route to the second of three wanted nodes; no route and no arcs
     ∷ T 5 0 (three 0 4 3)
-    (no-route-at 1 (extent 4 6) (steps 14 6 5 3) (five 0 2 5 6 no-distance) (five 6 4 1 0 0) (five no-arc 0 1 3 no-arc) (five 3 3 1 3 1)) 92
-    ∷ row 2 0 [] [] [] (one 1) (no-route-at 0 (extent 1 0) (steps 0 0 0 0) (two 0 no-distance) (two 0 0) (two no-arc no-arc) []) 7
+    (no-route-at 1 (extent 4 6) (steps 14 6 5 3 9) (five 0 2 5 6 no-distance) (five 6 4 1 0 0) (five no-arc 0 1 3 no-arc) (five 3 3 1 3 1)) 92
+    ∷ row 2 0 [] [] [] (one 1) (no-route-at 0 (extent 1 0) (steps 0 0 0 0 0) (two 0 no-distance) (two 0 0) (two no-arc no-arc) []) 7
     -- refusal 1: no node; a node too many
     ∷ row 0 0 [] [] [] [] (refused-by 1 0) 0
     ∷ row 1025 0 [] [] [] [] (refused-by 1 0) 717929472

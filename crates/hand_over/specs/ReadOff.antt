@@ -70,4 +70,4 @@ mark-entry tails heads lengths kept status i =
 abbrev pub Hands-over : (end : RunEnd) → (wanted : ℕ) → (tails heads lengths bound kept status : List ℕ) → Answer → Type 0
 Hands-over end wanted tails heads lengths bound kept status answer =
     (t : Table) (ws path price : List ℕ) → t .n ≡ length status → Arcs-held t tails heads lengths → length ws ≡ wanted →
-    Ran t ws (end .missing) (seen path price bound kept status (end .progress)) → answer ≡ routes-of t ws
+    Ran t ws (end .missing) (end .scans) (seen path price bound kept status (end .progress)) → answer ≡ routes-of t ws

@@ -33,6 +33,7 @@ pub struct Planned {
     pub contractions: u64,
     pub extensions: u64,
     pub deletions: u64,
+    pub scans: u64,
 }
 
 // A reached node's distance, or another number.
@@ -264,5 +265,6 @@ pub fn hand_over(
         contractions: counts.contractions,
         extensions: counts.extensions,
         deletions: counts.deletions,
+        scans: end.scans,
     }
 }

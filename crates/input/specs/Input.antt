@@ -32,7 +32,7 @@ pub record Buffers-roomy (distances prices tree marks : List ℕ) : Type 0 where
 -- the answer to a file that is refused
 unfoldable pub refused-file : (number place : ℕ) → Planned
 refused-file n p =
-    record { number = n; place = p; reached = 0; horizon = 0; iterations = 0; contractions = 0; extensions = 0; deletions = 0 }
+    record { number = n; place = p; reached = 0; horizon = 0; iterations = 0; contractions = 0; extensions = 0; deletions = 0; scans = 0 }
 
 -- what is printed of what was read and planned: the answer, and as much of each column as was filled
 unfoldable pub printing-read : TableRead → Planned → (tails heads wanted distances prices tree marks : List ℕ) → Finished

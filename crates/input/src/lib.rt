@@ -55,6 +55,7 @@ fn refused(number: u32, place: u32) -> Planned
         contractions: 0,
         extensions: 0,
         deletions: 0,
+        scans: 0,
     }
 }
 

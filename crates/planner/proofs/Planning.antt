@@ -25,7 +25,7 @@ use Rattle.auction.specs.Plan.{plan-refusal, plan, routes-of, refused-plan}
 use Rattle.hand_over.specs.ReadOff.{Known, Arc-ends, Fitting, Arcs-held}
 
 -- AFTER THE RUN
-module _ (t : Table) (ws : List ℕ) (m : ℕ) (p u b k s : List ℕ) (g : Progress) (ran : Ran t ws m (seen p u b k s g)) where
+module _ (t : Table) (ws : List ℕ) (m c : ℕ) (p u b k s : List ℕ) (g : Progress) (ran : Ran t ws m c (seen p u b k s g)) where
   reached-so : (v : ℕ) → 0 < getD s v 0 → was-reached (seen p u b k s g) v ≡ true
   unfolding was-reached
   reached-so v h = rw (seen-status p u b k s g v) (lt-ltb 0 (getD s v 0) h)
@@ -88,7 +88,7 @@ part-long l n e h = sym (length-take-le n l (omega arith))
 -- THE REFUSALS
 module _ (n o : ℕ) (ts hs ls ws ds ps tr ms : List ℕ) where
   pub refused : (f : Refusal) → f ≡ plan-refusal n o ts hs ls ws ds ps tr ms → (f .number ≡ 0 → ⊥) →
-      answer (f .number) (f .place) 0 0 0 0 0 0 ds ps tr ms ≡ plan n o ts hs ls ws ds ps tr ms
+      answer (f .number) (f .place) 0 0 0 0 0 0 0 ds ps tr ms ≡ plan n o ts hs ls ws ds ps tr ms
   unfolding plan refused-plan refusal
   refused f e d = rw (← e, ne-eqb (f .number) 0 d)
 

@@ -57,5 +57,6 @@ refusals-touch-nothing n o ts hs ls ws ds ps tr ms ds′ ps′ tr′ ms′ r e n
         ap (λ (a : Answer). a .contractions) so,
         ap (λ (a : Answer). a .extensions) so,
         ap (λ (a : Answer). a .deletions) so,
+        ap (λ (a : Answer). a .scans) so,
       );
     }

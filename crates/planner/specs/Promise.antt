@@ -26,7 +26,7 @@ pub record Untouched (r : Planned) (distances prices tree marks distances′ pri
   pub tree-stays : tree′ ≡ tree
   pub marks-stay : marks′ ≡ marks
   pub zeros :
-      (r .reached ≡ 0) × (r .horizon ≡ 0) × (r .iterations ≡ 0) × (r .contractions ≡ 0) × (r .extensions ≡ 0) × (r .deletions ≡ 0)
+      (r .reached ≡ 0) × (r .horizon ≡ 0) × (r .iterations ≡ 0) × (r .contractions ≡ 0) × (r .extensions ≡ 0) × (r .deletions ≡ 0) × (r .scans ≡ 0)
 
 unfoldable pub Refusals-touch-nothing : Type 0
 Refusals-touch-nothing =

@@ -157,6 +157,7 @@ pub fn plan_routes(
             contractions: 0,
             extensions: 0,
             deletions: 0,
+            scans: 0,
         };
     }
     plan_table(

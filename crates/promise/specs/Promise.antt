@@ -1,8 +1,8 @@
 -- THE WHOLE PROMISE OF THE PRODUCT, on one page: a field for each promise of every crate, by its type. A promise that goes missing anywhere fails the check
 -- of this page, and so does one whose proof does (proofs/Kept.antt). Each type has its sentence in plain words where it stands. Assumes nothing.
-use Rattle.auction.specs.Promises.{Walk-shortest, Walk-given, Prices-fit, Prices-show, Route-to-all, No-route, Few-iterations, Fewer-iterations, Ends-by-itself, Iterations-counted, Earliest-link, Marks-tallied, Never-above, Distances-stay, Ascending, Small-distances, Small-sums, Unrefused-is-table, Table-is-unrefused, Longest-of-32-bits, Lengths-of-32-bits}
+use Rattle.auction.specs.Promises.{Walk-shortest, Walk-given, Prices-fit, Prices-show, Route-to-all, No-route, Few-iterations, Fewer-iterations, Ends-by-itself, Iterations-counted, Earliest-link, Marks-tallied, Never-above, Distances-stay, Ascending, Small-distances, Small-sums, Scans-between, Remembered-child, Unrefused-is-table, Table-is-unrefused, Longest-of-32-bits, Lengths-of-32-bits}
 use Rattle.auction.specs.Demands.{Demands-met, Counts-pinned, Hollow-fails}
-use Rattle.auction.specs.Absent.{Down-is-all-ones, Absent-nowhere, Absent-closed-up, Walks-without-absent, Steps-without-absent, Auction-without-absent, Plan-without-absent}
+use Rattle.auction.specs.Absent.{Down-is-all-ones, Absent-nowhere, Absent-closed-up, Walks-without-absent, Steps-without-absent, Auction-without-absent, Scans-without-absent, Plan-without-absent}
 use Rattle.auction.specs.Stability.{Same-choice, Route-stays, Wanted-route-stays, Link-added}
 use Rattle.auction.specs.Rack.{Rack-holds}
 use Rattle.planner.specs.Promise.{Plans-kept, Refusals-touch-nothing}
@@ -44,6 +44,9 @@ pub record Promise : Type 0 where
   pub ascending : Ascending
   pub small-distances : Small-distances
   pub small-sums : Small-sums
+  -- a node goes by the child that it remembers until it scans again, and each contraction and each deletion scans
+  pub remembered-child : Remembered-child
+  pub scans-between : Scans-between
   -- WHAT IS REFUSED: the tables that are not refused are just those of which all this is promised
   pub unrefused-is-table : Unrefused-is-table
   pub table-is-unrefused : Table-is-unrefused
@@ -56,6 +59,7 @@ pub record Promise : Type 0 where
   pub walks-without-absent : Walks-without-absent
   pub steps-without-absent : Steps-without-absent
   pub auction-without-absent : Auction-without-absent
+  pub scans-without-absent : Scans-without-absent
   pub plan-without-absent : Plan-without-absent
   -- WHAT STAYS: a spare chooses as the old unit did; a route stays while nothing shorter exists, also when a link goes down elsewhere or is added at
   -- the end

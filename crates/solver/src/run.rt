@@ -10,13 +10,15 @@ ghost use Rattle.table.specs.Slices.{was};
 ghost use Rattle.steps.specs.Seen.{seen, lent, back, held, Sized};
 ghost use Rattle.steps.specs.Lists.{star, lent-star};
 ghost use Rattle.steps.specs.Steps.{Ran};
-ghost use Rattle.solver.specs.Runs.{Begun, Runs, First-from};
+ghost use Rattle.solver.specs.Runs.{Begun, Runs, All-forgotten, First-from};
 use super::lists::link_arcs;
 use steps::bids::least_bid;
 use steps::reaching::reach;
+use steps::state::NO_NODE;
 use steps::state::Progress;
 use steps::state::RunEnd;
 use steps::state::RunState;
+use steps::steps::extend;
 use steps::steps::step;
 use table::MOST_ARCS;
 use table::MOST_NODES;
@@ -39,12 +41,14 @@ fn first_unreached(from: usize, wanted: &[u16], status: &[u8]) -> usize
     w
 }
 
-// The iterations from the start, until every wanted node has been reached or the origin has no child. The loop has no cap: it ends
-// because the auction does, and its measure is the auction's own bound less the iterations made.
+// The iterations from the start, until every wanted node has been reached or the origin has no child. A node that remembers a child
+// goes on to it; one that does not scans its children. The loop has no cap: it ends because the auction does, and its measure is the
+// auction's own bound less the iterations made.
 fn iterate(
     begun: Progress,
     origin: usize,
     wanted: &[u16],
+    tails: &[u16],
     heads: &[u16],
     lengths: &[u32],
     first: &[u16],
@@ -53,45 +57,71 @@ fn iterate(
     price: &mut [u64],
     bound: &mut [u64],
     kept: &mut [u16],
+    remembered: &mut [u16],
     status: &mut [u8],
 ) -> RunEnd
-    requires { ⌜ ((t : Table) × Begun start t (now wanted) origin (star (now heads) (now lengths) (now first) (now next))
+    requires { ⌜ ((t : Table) × Begun start t (now wanted) origin (star (now heads) (now lengths) (now first) (now next)) (now tails)
         (seen (now path) (now price) (now bound) (now kept) (now status) begun)) ⌝ }
     requires { ⌜ (length (now path) ≡ length (now first)) × Sized (length (now first)) (now price) (now bound) (now kept) (now status) ⌝ }
-    ensures { λ r. ⌜ Runs start (was wanted) origin (lent-star heads lengths first next)
-        (lent path price bound kept status begun) (back path price bound kept status (r .progress)) (r .missing) ⌝ }
+    requires { ⌜ All-forgotten (length (now first)) (now remembered) ⌝ }
+    ensures { λ r. ⌜ Runs start (was wanted) origin (lent-star heads lengths first next) (was tails)
+        (lent path price bound kept status begun) (back path price bound kept status (r .progress)) (r .missing) (r .scans) ⌝ }
 {
     let mut g = begun;
+    let mut scans: u64 = 0;
     let mut w = first_unreached(0, wanted, status);
     while w < wanted.len() {
         let depth = g.depth;
         let v = wide(path[depth - 1]);
-        let least = least_bid(v, heads, lengths, first, next, price, kept, status);
-        if least.arc == NO_ARC && v == origin {
-            return RunEnd {
-                missing: w,
-                progress: g,
-            };
+        let child = remembered[v];
+        if child != NO_NODE {
+            g = extend(
+                g,
+                child,
+                tails,
+                heads,
+                lengths,
+                first,
+                next,
+                path,
+                bound,
+                kept,
+                remembered,
+                status,
+            );
+        } else {
+            let least = least_bid(v, heads, lengths, first, next, price, kept, status);
+            if least.arc == NO_ARC && v == origin {
+                return RunEnd {
+                    missing: w,
+                    scans: scans,
+                    progress: g,
+                };
+            }
+            scans = scans + 1;
+            g = step(
+                g,
+                v,
+                least,
+                origin,
+                tails,
+                heads,
+                lengths,
+                first,
+                next,
+                path,
+                price,
+                bound,
+                kept,
+                remembered,
+                status,
+            );
         }
-        g = step(
-            g,
-            v,
-            least,
-            origin,
-            heads,
-            lengths,
-            first,
-            next,
-            path,
-            price,
-            bound,
-            kept,
-            status,
-        );
         w = first_unreached(w, wanted, status);
     }
     RunEnd {
         missing: w,
+        scans: scans,
         progress: g,
     }
 }
@@ -101,6 +131,7 @@ fn run_listed(
     begun: Progress,
     origin: usize,
     wanted: &[u16],
+    tails: &[u16],
     heads: &[u16],
     lengths: &[u32],
     first: &[u16],
@@ -109,19 +140,33 @@ fn run_listed(
     price: &mut [u64],
     bound: &mut [u64],
     kept: &mut [u16],
+    remembered: &mut [u16],
     status: &mut [u8],
 ) -> RunEnd
-    requires { ⌜ ((t : Table) × Begun fresh t (now wanted) origin (star (now heads) (now lengths) (now first) (now next))
+    requires { ⌜ ((t : Table) × Begun fresh t (now wanted) origin (star (now heads) (now lengths) (now first) (now next)) (now tails)
         (seen (now path) (now price) (now bound) (now kept) (now status) begun)) ⌝ }
     requires { ⌜ (length (now path) ≡ length (now first)) × Sized (length (now first)) (now price) (now bound) (now kept) (now status) ⌝ }
-    ensures { λ r. ⌜ Runs fresh (was wanted) origin (lent-star heads lengths first next)
-        (lent path price bound kept status begun) (back path price bound kept status (r .progress)) (r .missing) ⌝ }
+    requires { ⌜ All-forgotten (length (now first)) (now remembered) ⌝ }
+    ensures { λ r. ⌜ Runs fresh (was wanted) origin (lent-star heads lengths first next) (was tails)
+        (lent path price bound kept status begun) (back path price bound kept status (r .progress)) (r .missing) (r .scans) ⌝ }
 {
-    reach(origin, heads, lengths, first, next, bound, kept, status);
+    reach(
+        origin,
+        tails,
+        heads,
+        lengths,
+        first,
+        next,
+        bound,
+        kept,
+        remembered,
+        status,
+    );
     iterate(
         begun,
         origin,
         wanted,
+        tails,
         heads,
         lengths,
         first,
@@ -130,6 +175,7 @@ fn run_listed(
         price,
         bound,
         kept,
+        remembered,
         status,
     )
 }
@@ -154,7 +200,7 @@ pub fn run(
     requires { ⌜ (length (now path) ≡ length (now status)) × Sized (length (now status)) (now price) (now bound) (now kept) (now status) ⌝ }
     requires { ⌜ seen (now path) (now price) (now bound) (now kept) (now status) begun
         ≡ fresh (table-of (length (now status)) origin (now tails) (now heads) (now lengths)) ⌝ }
-    ensures { λ r. ⌜ Ran (table-of (length (was status)) origin (was tails) (was heads) (was lengths)) (was wanted) (r .missing)
+    ensures { λ r. ⌜ Ran (table-of (length (was status)) origin (was tails) (was heads) (was lengths)) (was wanted) (r .missing) (r .scans)
         (held (back path price bound kept status (r .progress))) ⌝ }
 {
     let n = status.len();
@@ -162,11 +208,13 @@ pub fn run(
     let at = wide(origin);
     let mut first: [u16; MOST_NODES] = [NO_ARC; MOST_NODES];
     let mut next: [u16; MOST_ARCS] = [NO_ARC; MOST_ARCS];
+    let mut remembered: [u16; MOST_NODES] = [NO_NODE; MOST_NODES];
     link_arcs(tails, lengths, &mut first[..n], &mut next[..m]);
     run_listed(
         begun,
         at,
         wanted,
+        tails,
         heads,
         lengths,
         &first[..n],
@@ -175,6 +223,7 @@ pub fn run(
         price,
         bound,
         kept,
+        &mut remembered[..n],
         status,
     )
 }

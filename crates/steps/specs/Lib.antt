@@ -1,3 +1,4 @@
 pub mod Seen
 pub mod Lists
+pub mod Memory
 pub mod Steps

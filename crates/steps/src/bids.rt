@@ -54,7 +54,7 @@ fn lower_bid(
     }
 }
 
-// The least bid of a node's children, the lowest position among equals: only the node's own arcs are looked at.
+// A scan: the least bid of a node's children, the lowest position among equals. Only the node's own arcs are looked at.
 pub fn least_bid(
     v: usize,
     heads: &[u16],

@@ -10,6 +10,9 @@ use table::NO_ARC;
 use table::NO_DISTANCE;
 use table::wide;
 
+// In the array of remembered children: none, so that the node has to scan.
+pub const NO_NODE: u16 = 65535;
+
 // How many nodes are on the path, and the three counts.
 pub struct Progress {
     pub depth: usize,
@@ -18,9 +21,11 @@ pub struct Progress {
     pub deletions: u64,
 }
 
-// Where a run has ended: the index of the first wanted node that was not reached, which is their number where all were; the counts.
+// Where a run has ended: the index of the first wanted node that was not reached, which is their number where all were; the scans and
+// the other counts.
 pub struct RunEnd {
     pub missing: usize,
+    pub scans: u64,
     pub progress: Progress,
 }
 

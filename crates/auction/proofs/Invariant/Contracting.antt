@@ -14,7 +14,7 @@ use Rattle.auction.proofs.Sums.{total, total-same, total-trade}
 use Rattle.auction.proofs.Good.{Good}
 use Rattle.auction.proofs.Steps.Effects.{estimate, same-distance, same-estimate, Repriced, repriced, status-in}
 use Rattle.auction.proofs.Steps.Bids.{Child, Best}
-use Rattle.auction.proofs.Invariant.Sound.{Relaxed, Live-arc, Nodes, Chain, Sound, top-status, same-reached}
+use Rattle.auction.proofs.Invariant.Sound.{Relaxed, Live-arc, Nodes, Chain, Sound, terminal-status, same-reached}
 use Rattle.auction.proofs.Invariant.Potential.{slack, slack-low, slack-tight, slack-loose, slack-falls, stages}
 use Rattle.auction.proofs.Invariant.Counting.{Counts, Stepped, one-if-deleted, same-deleted}
 use Rattle.auction.proofs.Invariant.Terminal.{shorter, pop, alone, bid-estimate, child-depth}
@@ -35,8 +35,7 @@ module _ (t : Table) (g : Good t) (x : State) (dep : ℕ → ℕ) (s : Sound t x
   child = head-at t (b .by-arc)
 
   v-status : status-at x v ≡ reached
-  unfolding terminal
-  v-status = top-status nodes (x .path) (s .chain)
+  v-status = terminal-status s
 
   v-in : v < t .n
   v-in = status-in v (nodes .sizes) (omega (arith, v-status))
@@ -217,4 +216,7 @@ module _ (t : Table) (g : Good t) (x : State) (dep : ℕ → ℕ) (s : Sound t x
         stays = λ u h. omega (arith, effect .statuses u, h);
         distances = λ u h. same-distance x y u (effect .bounds u);
         arrives = λ u e h. absurd (omega (arith, effect .statuses u, e, h));
+        dearer = price-rises;
+        gone = λ u e. effect .statuses u ∙ e;
+        kepts = λ u i h e. sym (effect .kepts u) ∙ e;
       }

@@ -2,18 +2,19 @@
 use mathlib.Core.Path.{_≡_, ap}
 use mathlib.Core.Bool.{cond}
 use mathlib.Core.Logic.{⊎-elim}
+use mathlib.Core.Option.{some}
 use Prim.Native.Nat.{ℕ, suc, _+_, _*_, _-_, _/_, _≤_, _<_}
 use native.Mathlib.Omega.{arith}
 use lib.Dec.{eqb}
 use lib.ListN.{length}
 use borrow.Author.Tests.{eq-eqb, ne-eqb}
-use Rattle.table.specs.Table.{Table}
-use Rattle.auction.specs.Auction.{State, price-at, status-at, distance, terminal, iterations, most-iterations, unreached, deleted}
+use Rattle.table.specs.Table.{Table, tail-at}
+use Rattle.auction.specs.Auction.{State, price-at, kept-at, status-at, distance, terminal, iterations, most-iterations, unreached, deleted}
 use Rattle.auction.specs.HandOver.{reached-count}
 use Rattle.table.proofs.Basics.{same-or}
 use Rattle.auction.proofs.Sums.{total, total-le, total-const, total-one, only-at, only-same, only-other}
 use Rattle.auction.proofs.Good.{Good}
-use Rattle.auction.proofs.Invariant.Sound.{Sound, top-status, reached-low}
+use Rattle.auction.proofs.Invariant.Sound.{Sound, terminal-status, reached-low}
 use Rattle.auction.proofs.Invariant.Potential.{slack, stages}
 use Rattle.auction.proofs.Invariant.Stages.{stages-most, sharper, demanded}
 
@@ -61,8 +62,14 @@ pub record Stepped (t : Table) (x y : State) : Type 0 where
   pub stays : (v : ℕ) → unreached < status-at x v → unreached < status-at y v
   -- at the same distance,
   pub distances : (v : ℕ) → unreached < status-at x v → distance y v ≡ distance x v
-  -- and one that is reached now is as far as the origin's price
+  -- and one that is reached now is as far as the origin's price;
   pub arrives : (v : ℕ) → status-at x v ≡ unreached → unreached < status-at y v → distance y v ≡ price-at x (t .origin)
+  -- no price falls,
+  pub dearer : (v : ℕ) → price-at x v ≤ price-at y v
+  -- a deleted node stays deleted,
+  pub gone : (v : ℕ) → status-at x v ≡ deleted → status-at y v ≡ deleted
+  -- and an arc out of a node that was reached is kept only where it was before
+  pub kepts : (v i : ℕ) → unreached < status-at x (tail-at t i) → kept-at y v ≡ some i → kept-at x v ≡ some i
 
 module _ {t : Table} (g : Good t) {x : State} {dep : ℕ → ℕ} (s : Sound t x dep) (c : Counts t x dep) where
   deletions-low : suc (x .deletions) ≤ t .n
@@ -83,10 +90,8 @@ module _ {t : Table} (g : Good t) {x : State} {dep : ℕ → ℕ} (s : Sound t x
       omega (arith, a, c .deleted, total-one (t .n) (one-if-deleted x) o 1 (g .origin-in), total-const (t .n) 1)
 
   pub path-short : length (x .path) ≤ t .n
-  unfolding terminal
   path-short =
-      omega
-      (arith, s .path-depth, s .nodes .shallow (terminal x) (omega (arith, top-status (s .nodes) (x .path) (s .chain))), reached-low t x)
+      omega (arith, s .path-depth, s .nodes .shallow (terminal x) (omega (arith, terminal-status s)), reached-low t x)
 
   counted : iterations x ≤ 2 * stages (t .n) (t .n) + 3 * (t .n - 1)
   unfolding iterations

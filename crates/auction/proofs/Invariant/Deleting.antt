@@ -12,7 +12,7 @@ use Rattle.auction.proofs.Sums.{total-le, total-same, total-one, only-a
 use Rattle.auction.proofs.Good.{Good}
 use Rattle.auction.proofs.Steps.Effects.{Same, estimate, same-distance, Restatused, deletion-effect, status-in}
 use Rattle.auction.proofs.Steps.Bids.{no-child}
-use Rattle.auction.proofs.Invariant.Sound.{Live-arc, Nodes, Sound, top-status, as-reached}
+use Rattle.auction.proofs.Invariant.Sound.{Live-arc, Nodes, Sound, terminal-status, as-reached}
 use Rattle.auction.proofs.Invariant.Potential.{slack, slack-falls, stages}
 use Rattle.auction.proofs.Invariant.Counting.{Counts, Stepped, one-if-deleted, deleted-one, undeleted-none, same-deleted}
 use Rattle.auction.proofs.Invariant.Terminal.{shorter, pop}
@@ -30,8 +30,7 @@ module _ (t : Table) (g : Good t) (x : State) (dep : ℕ → ℕ) (s : Sound t x
   before = s .nodes
 
   gone-status : status-at x gone ≡ reached
-  unfolding terminal
-  gone-status = top-status before (x .path) (s .chain)
+  gone-status = terminal-status s
 
   gone-in : gone < t .n
   gone-in = status-in gone (before .sizes) (omega (arith, gone-status))
@@ -54,6 +53,10 @@ module _ (t : Table) (g : Good t) (x : State) (dep : ℕ → ℕ) (s : Sound t x
   earlier : (u : ℕ) → unreached < status-at left u → unreached < status-at x u
   earlier u h =
       ⊎-elim (λ (e : u ≡ gone). omega (arith, gone-status, ap (status-at x) e)) (λ (d : u ≡ gone → ⊥). omega (arith, change .elsewhere u d, h)) (same-or u gone)
+
+  still-deleted : (u : ℕ) → status-at x u ≡ deleted → status-at left u ≡ deleted
+  still-deleted u q =
+      ⊎-elim (λ (e : u ≡ gone). ap (status-at left) e ∙ change .here) (λ (d : u ≡ gone → ⊥). change .elsewhere u d ∙ q) (same-or u gone)
 
   never : (u : ℕ) → status-at left u ≡ unreached → status-at x u ≡ unreached
   never u e =
@@ -147,7 +150,7 @@ module _ (t : Table) (g : Good t) (x : State) (dep : ℕ → ℕ) (s : Sound t x
       total-le (t .n) (slack t left dep) (slack t x dep)
       (λ u h.
       slack-falls t x left dep dep u refl (change .kepts u)
-      (λ q. ⊎-elim (λ (e : u ≡ gone). ap (status-at left) e ∙ change .here) (λ (d : u ≡ gone → ⊥). change .elsewhere u d ∙ q) (same-or u gone))
+      (still-deleted u)
       (λ j e l. omega (arith, estimates u, estimates (tail-at t j), l))) in
       let one-more =
       total-same (t .n) (one-if-deleted left) (λ u. one-if-deleted x u + only-at gone 1 u)
@@ -177,4 +180,7 @@ module _ (t : Table) (g : Good t) (x : State) (dep : ℕ → ℕ) (s : Sound t x
         stays = still;
         distances = λ u h. same-distance x left u (change .bounds u);
         arrives = λ u e h. absurd (omega (arith, earlier u h, e));
+        dearer = λ u. omega (arith, change .prices u);
+        gone = still-deleted;
+        kepts = λ u i h e. sym (change .kepts u) ∙ e;
       }

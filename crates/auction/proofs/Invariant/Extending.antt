@@ -15,7 +15,7 @@ use Rattle.auction.proofs.Sums.{total-le, total-same}
 use Rattle.auction.proofs.Good.{Good}
 use Rattle.auction.proofs.Steps.Effects.{Sizes, Same, estimate, same-distance, same-estimate, Restatused, restatused, longer-same, longer-sizes, kept-below, reached-status, unreached-status}
 use Rattle.auction.proofs.Steps.Bids.{Child, Best}
-use Rattle.auction.proofs.Invariant.Sound.{Relaxed, Relaxed-to, Nodes, Chain, Link, Sound, path-moves, top-status, top-estimate, same-reached, one-more-reached}
+use Rattle.auction.proofs.Invariant.Sound.{Relaxed, Relaxed-to, Nodes, Chain, Link, Sound, path-moves, terminal-status, top-estimate, same-reached, one-more-reached}
 use Rattle.auction.proofs.Invariant.Reaching.{Reaching, Offered, all-offered}
 use Rattle.auction.proofs.Invariant.Potential.{slack, slack-falls, stages, reach-potential}
 use Rattle.auction.proofs.Invariant.Counting.{Counts, Stepped, one-if-deleted, undeleted-none, same-deleted}
@@ -88,8 +88,7 @@ module _ (t : Table) (g : Good t) (x : State) (dep : ℕ → ℕ) (s : Sound t x
   child = best .child
 
   v-status : status-at x v ≡ reached
-  unfolding terminal
-  v-status = top-status nodes (x .path) (s .chain)
+  v-status = terminal-status s
 
   -- the child's estimate is the terminal node's, and so the origin's price
   tight : estimate x j ≡ estimate x v
@@ -191,8 +190,8 @@ module _ (t : Table) (g : Good t) (x : State) (dep : ℕ → ℕ) (s : Sound t x
     never u e =
         ⊎-elim (λ (q : u ≡ j). absurd (omega (arith, marked .here, ap (status-at z) q))) (λ (d : u ≡ j → ⊥). sym (elsewhere u d) ∙ e) (same-or u j)
 
-    not-deleted : (u : ℕ) → (status-at z u ≡ deleted → ⊥) → status-at x u ≡ deleted → ⊥
-    not-deleted u h q = h (elsewhere u (λ (e : u ≡ j). omega (arith, j-status, ap (status-at x) e)) ∙ q)
+    still-deleted : (u : ℕ) → status-at x u ≡ deleted → status-at z u ≡ deleted
+    still-deleted u q = elsewhere u (λ (e : u ≡ j). omega (arith, j-status, ap (status-at x) e)) ∙ q
 
     -- the child's distance is the origin's price
     top : distance x j ≡ price-at x (t .origin)
@@ -237,7 +236,7 @@ module _ (t : Table) (g : Good t) (x : State) (dep : ℕ → ℕ) (s : Sound t x
           unpriced = λ u e. prices u ∙ nodes .unpriced u (never u e);
           live =
               λ u i e h.
-              let a = nodes .live u i (sym (kepts u) ∙ e) (not-deleted u h) in
+              let a = nodes .live u i (sym (kepts u) ∙ e) (λ q. h (still-deleted u q)) in
               record {
                 tail-live =
                     elsewhere (tail-at t i) (λ (q : tail-at t i ≡ j). omega (arith, j-status, a .tail-live, ap (status-at x) q)) ∙ a .tail-live;
@@ -313,7 +312,7 @@ module _ (t : Table) (g : Good t) (x : State) (dep : ℕ → ℕ) (s : Sound t x
         let r = still-y u h in
         let same = m .reached u r in
         slack-falls t x y dep depths u (m .depths u r) (same .kept ∙ kepts u)
-        (λ q. same .status ∙ elsewhere u (λ (e : u ≡ j). omega (arith, j-status, ap (status-at x) e)) ∙ q)
+        (λ q. same .status ∙ still-deleted u q)
         (λ i e q.
         let a = nodes .kept u i e in
         let tail = m .reached (tail-at t i) (still (tail-at t i) (a .from-reached)) in
@@ -349,6 +348,9 @@ module _ (t : Table) (g : Good t) (x : State) (dep : ℕ → ℕ) (s : Sound t x
         stays = λ u h. omega (arith, same u .status, h);
         distances = λ u h. same-distance x l u (same u .bound);
         arrives = λ u e h. absurd (omega (arith, same u .status, e, h));
+        dearer = λ u. omega (arith, same u .price);
+        gone = λ u e. same u .status ∙ e;
+        kepts = λ u i h e. sym (same u .kept) ∙ e;
       }
 
   onto-new : (new : was-reached x j ≡ false) → Stepped t x (reach t j l)
@@ -367,6 +369,10 @@ module _ (t : Table) (g : Good t) (x : State) (dep : ℕ → ℕ) (s : Sound t x
             let r = still-y new u h in
             ⊎-elim (λ (q : u ≡ j). distance-kept u r ∙ ap (distance x) q ∙ top new) (λ (q : unreached < status-at x u). absurd (omega arith))
             (reached-cases new u r);
+        dearer = λ u. omega (arith, m .prices u, prices new u);
+        gone = λ u e. m .statuses u ∙ still-deleted new u e;
+        kepts =
+            λ u i h e. sym (kepts new u) ∙ m .kepts u i (λ (q : tail-at t i ≡ j). omega (arith, j-status new, h, ap (status-at x) q)) e;
       }
 
   pub by-extension : Stepped t x (extension t j x)
@@ -374,4 +380,12 @@ module _ (t : Table) (g : Good t) (x : State) (dep : ℕ → ℕ) (s : Sound t x
   by-extension =
       ⊎-elim (λ (r : was-reached x j ≡ true). subst (λ (c : Bool). Stepped t x (cond c l (reach t j l))) (sym r) (onto-reached r))
       (λ (r : was-reached x j ≡ false). subst (λ (c : Bool). Stepped t x (cond c l (reach t j l))) (sym r) (onto-new r))
+      (true-or (was-reached x j))
+
+  -- and makes no contraction and no deletion
+  pub as-many : extension t j x .contractions + extension t j x .deletions ≡ x .contractions + x .deletions
+  unfolding extension longer with-status state
+  as-many =
+      ⊎-elim (λ (r : was-reached x j ≡ true). rw r)
+      (λ (r : was-reached x j ≡ false). let m = done r .unmoved in rw r (omega (arith, m .contractions, m .deletions)))
       (true-or (was-reached x j))

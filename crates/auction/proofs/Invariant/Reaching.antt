@@ -28,8 +28,8 @@ depth-else : (u d : ℕ) (dep : ℕ → ℕ) (v : ℕ) → (v ≡ u → ⊥) →
 unfolding depth-at
 depth-else u d dep v h = rw (ne-eqb v u h)
 
--- WHAT OFFERING ARCS LEAVES AS IT WAS
-pub record Unmoved (x y : State) (dep dep′ : ℕ → ℕ) : Type 0 where
+-- WHAT OFFERING THE ARCS OUT OF J LEAVES AS IT WAS
+pub record Unmoved (t : Table) (j : ℕ) (x y : State) (dep dep′ : ℕ → ℕ) : Type 0 where
   -- the path,
   pub path : y .path ≡ x .path
   -- the three counts,
@@ -39,12 +39,14 @@ pub record Unmoved (x y : State) (dep dep′ : ℕ → ℕ) : Type 0 where
   -- every price and every status,
   pub prices : (v : ℕ) → price-at y v ≡ price-at x v
   pub statuses : (v : ℕ) → status-at y v ≡ status-at x v
-  -- and of every node that was reached its bound and kept arc too, and its depth
+  -- and of every node that was reached its bound and kept arc too, and its depth;
   pub reached : (v : ℕ) → unreached < status-at x v → Same x y v
   pub depths : (v : ℕ) → unreached < status-at x v → dep′ v ≡ dep v
+  -- and an arc that is kept and does not leave j was kept before
+  pub kepts : (v i : ℕ) → (tail-at t i ≡ j → ⊥) → kept-at y v ≡ some i → kept-at x v ≡ some i
 
-unmoved : (x : State) (dep : ℕ → ℕ) → Unmoved x x dep dep
-unmoved x dep =
+unmoved : (t : Table) (j : ℕ) (x : State) (dep : ℕ → ℕ) → Unmoved t j x x dep dep
+unmoved t j x dep =
     record {
       path = refl;
       contractions = refl;
@@ -54,10 +56,11 @@ unmoved x dep =
       statuses = λ v. refl;
       reached = λ v h. record { price = refl; bound = refl; kept = refl; status = refl };
       depths = λ v h. refl;
+      kepts = λ v i d e. e;
     }
 
-then-unmoved : {x y z : State} {a b c : ℕ → ℕ} → Unmoved x y a b → Unmoved y z b c → Unmoved x z a c
-then-unmoved {x} {y} {z} p q =
+then-unmoved : {t : Table} {j : ℕ} {x y z : State} {a b c : ℕ → ℕ} → Unmoved t j x y a b → Unmoved t j y z b c → Unmoved t j x z a c
+then-unmoved {x = x} {y = y} {z = z} p q =
     let still : (v : ℕ) → unreached < status-at x v → unreached < status-at y v = λ v h. omega (arith, p .statuses v) in
     record {
       path = q .path ∙ p .path;
@@ -72,6 +75,7 @@ then-unmoved {x} {y} {z} p q =
           let r = q .reached v (still v h) in
           record { price = r .price ∙ s .price; bound = r .bound ∙ s .bound; kept = r .kept ∙ s .kept; status = r .status ∙ s .status };
       depths = λ v h. q .depths v (still v h) ∙ p .depths v h;
+      kepts = λ v i d e. p .kepts v i d (q .kepts v i d e);
     }
 
 -- THE INVARIANT IN THE MIDDLE OF REACHING J, when its arcs below position q have been offered
@@ -93,7 +97,7 @@ pub record Reaching (t : Table) (j q : ℕ) (x : State) (dep : ℕ → ℕ) : Ty
 pub record Offered (t : Table) (j q : ℕ) (x y : State) (dep : ℕ → ℕ) : Type 0 where
   pub depth : ℕ → ℕ
   pub reaching : Reaching t j q y depth
-  pub unmoved : Unmoved x y dep depth
+  pub unmoved : Unmoved t j x y dep depth
 
 -- ONE ARC IS KEPT
 module _ (t : Table) (g : Good t) (j q : ℕ) (x : State) (dep : ℕ → ℕ) (listed : q < arc-count t) (s : Reaching t j q x dep) (k : Taken t j q x) where
@@ -313,7 +317,7 @@ module _ (t : Table) (g : Good t) (j q : ℕ) (x : State) (dep : ℕ → ℕ) (l
       (same-or (head-at t i) u))
       (same-or i q)
 
-  kept-unmoved : Unmoved x y dep dep′
+  kept-unmoved : Unmoved t j x y dep dep′
   unfolding y with-kept state
   kept-unmoved =
       record {
@@ -325,6 +329,11 @@ module _ (t : Table) (g : Good t) (j q : ℕ) (x : State) (dep : ℕ → ℕ) (l
         statuses = effect .statuses;
         reached = keep;
         depths = keep-depth;
+        kepts =
+            λ v i d e.
+            ⊎-elim (λ (h : (v ≡ u) × (i ≡ q)). absurd (d (ap (tail-at t) (h .1) ∙ k .leaves)))
+            (λ (h : (v ≡ u → ⊥) × (kept-at x v ≡ some i)). h .1)
+            (kept-cases v i e);
       }
 
   kept-reaching : Reaching t j (suc q) y dep′
@@ -411,7 +420,7 @@ module _ (t : Table) (g : Good t) (j : ℕ) where
       subst (λ (y : State). Offered t j (suc q) x y dep) (sym (offer-taken t j q x e)) (kept-offered t g j q x dep h s (taken t j q x e)))
       (λ (e : takes t j q x ≡ false).
       subst (λ (y : State). Offered t j (suc q) x y dep) (sym (offer-dropped t j q x e))
-      (record { depth = dep; reaching = dropped-reaching t g j q x dep h s e; unmoved = unmoved x dep }))
+      (record { depth = dep; reaching = dropped-reaching t g j q x dep h s e; unmoved = unmoved t j x dep }))
       (true-or (takes t j q x))
 
   pub all-offered : (left q : ℕ) (x : State) (dep : ℕ → ℕ) → q + left ≡ arc-count t → Reaching t j q x dep →
@@ -419,7 +428,7 @@ module _ (t : Table) (g : Good t) (j : ℕ) where
   unfolding offers
   all-offered zero q x dep e s =
       let at : q ≡ arc-count t = omega arith in
-      record { depth = dep; reaching = subst (λ (a : ℕ). Reaching t j a x dep) at s; unmoved = unmoved x dep }
+      record { depth = dep; reaching = subst (λ (a : ℕ). Reaching t j a x dep) at s; unmoved = unmoved t j x dep }
   all-offered (suc left) q x dep e s =
       let one = offered q x dep (omega arith) s in
       let rest = all-offered left (suc q) (offer t j q x) (one .depth) (omega arith) (one .reaching) in

@@ -205,6 +205,11 @@ module _ {t : Table} {x : State} {dep : ℕ → ℕ} (s : Nodes t x dep) where
   path-moves y same [] c = absurd c
   path-moves y same (v ∷ more) c = chain-moves y (suc (dep v)) (λ u h l. same u h) v more (omega arith) c
 
+-- so the terminal node is reached and not deleted
+pub terminal-status : {t : Table} {x : State} {dep : ℕ → ℕ} → Sound t x dep → status-at x (terminal x) ≡ reached
+unfolding terminal
+terminal-status {x = x} s = top-status (s .nodes) (x .path) (s .chain)
+
 -- THE NUMBER OF REACHED NODES: 1 for each
 unfoldable pub one-if-reached : State → (v : ℕ) → ℕ
 one-if-reached x v = cond (was-reached x v) 1 0

@@ -44,11 +44,11 @@ module _ (t : Table) (g : Good t) where
   unfolding fresh state price-at
   fresh-price v = blank (t .n) v
 
-  fresh-status : (v : ℕ) → status-at (fresh t) v ≡ unreached
+  pub fresh-status : (v : ℕ) → status-at (fresh t) v ≡ unreached
   unfolding fresh state status-at
   fresh-status v = blank (t .n) v
 
-  fresh-kept : (v : ℕ) → kept-at (fresh t) v ≡ none
+  pub fresh-kept : (v : ℕ) → kept-at (fresh t) v ≡ none
   unfolding fresh state kept-at
   fresh-kept v = blank (t .n) v
 
@@ -56,7 +56,7 @@ module _ (t : Table) (g : Good t) where
   unfolding fresh state bound-at
   fresh-bound v d = getD-set-other (replicate (t .n) none) o v (some 0) none d ∙ blank (t .n) v
 
-  fresh-origin : bound-at (fresh t) o ≡ some 0
+  pub fresh-origin : bound-at (fresh t) o ≡ some 0
   unfolding fresh state bound-at
   fresh-origin = getD-set-same (replicate (t .n) none) o (some 0) none (omega (arith, length-replicate {A = Option ℕ} (t .n) none, g .origin-in))
 

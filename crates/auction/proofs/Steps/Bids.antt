@@ -30,8 +30,12 @@ pub test-kept : (x : State) (i : ℕ) (o : Option ℕ) → o ≡ some i → is-k
 unfolding is-kept
 test-kept x i o e = subst (λ (a : Option ℕ). is-kept x i a ≡ true) (sym e) (eq-eqb i i refl)
 
+same-bid : (b c : Bid) → b .value ≡ c .value → b .by-arc ≡ c .by-arc → b ≡ c
+unfolding bid
+same-bid b c value arc = ap (λ (n : ℕ). bid n (b .by-arc)) value ∙ ap (bid (c .value)) arc
+
 module _ (t : Table) (v : ℕ) (x : State) where
-  child : (i : ℕ) → to-child t v i x ≡ true → Child t v i x
+  pub child : (i : ℕ) → to-child t v i x ≡ true → Child t v i x
   unfolding to-child
   child i e =
       let p = both-true (eqb (tail-at t i) v) (is-kept x i (kept-at x (head-at t i)) && not (is-deleted x (head-at t i))) e in
@@ -42,7 +46,7 @@ module _ (t : Table) (v : ℕ) (x : State) where
         undeleted = undeleted-status x (head-at t i) (not-true (is-deleted x (head-at t i)) (q .1));
       }
 
-  child-test : (i : ℕ) → Child t v i x → to-child t v i x ≡ true
+  pub child-test : (i : ℕ) → Child t v i x → to-child t v i x ≡ true
   unfolding to-child
   child-test i c =
       let d : is-deleted x (head-at t i) ≡ false =
@@ -168,3 +172,11 @@ module _ (t : Table) (v : ℕ) (x : State) where
         least = λ i h c. a .least i (omega arith) (omega arith) c;
         first = λ i h c. a .first i (omega arith) h c;
       }
+
+  -- there is only one
+  pub one-best : (b c : Bid) → Best b → Best c → b ≡ c
+  one-best b c p q =
+      let not-below : (b c : Bid) → Best b → Best c → b .by-arc < c .by-arc → ⊥ =
+      λ b c p q h. omega (arith, q .first (b .by-arc) h (p .child), p .value, p .least (c .by-arc) (q .listed) (q .child), q .value) in
+      let arc : b .by-arc ≡ c .by-arc = omega (arith, not-below b c p q, not-below c b q p) in
+      same-bid b c (p .value ∙ ap (bid-at t x) arc ∙ sym (q .value)) arc

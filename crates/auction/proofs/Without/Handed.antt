@@ -26,6 +26,7 @@ use Rattle.auction.proofs.Promised.{invariant}
 use Rattle.auction.proofs.Without.Places.{spread, same-tail, same-head, same-present, place-there, place-listed, place-in, tail-there, no-place, closed-good}
 use Rattle.auction.proofs.Without.Told.{told-kept, told-is-kept}
 use Rattle.auction.proofs.Without.Runs.{placed, auction-without-absent}
+use Rattle.auction.proofs.Without.Scans.{told-scans}
 
 -- THE REFUSAL "no route" is the same, however kept arcs are told
 told-missing : (f : ℕ → ℕ) (i : ℕ) (ws : List ℕ) (x : State) → first-missing i ws (told-state f x) ≡ first-missing i ws x
@@ -171,6 +172,7 @@ module _ (t : Table) where
           contractions = refl;
           extensions = refl;
           deletions = refl;
+          scans = told-scans t g (iterations x);
           distances = refl;
           prices = refl;
           links = told-tree few x;

@@ -45,12 +45,15 @@ module _ (t : Table) (g : Good (without-absent t)) where
   unfolding terminal
   terminal-in x i = let w = within s g x i in omega (arith, w .path-in 0 (w .path-some), g .few-nodes)
 
+  pub terminal-after : (k : ℕ) (x : State) → after k s ≡ some x → terminal x < no-node
+  terminal-after k x e = terminal-in x (passed s g k x e .0)
+
   origin-in : t .origin < no-node
   unfolding without-absent table
   origin-in = omega (arith, g .origin-in, g .few-nodes)
 
   -- AFTER EVERY ITERATION
-  told-after : (k : ℕ) → after k t ≡ told-step place (after k s)
+  pub told-after : (k : ℕ) → after k t ≡ told-step place (after k s)
   unfolding after then-next told-step
   told-after zero = ap some (told-start t origin-in)
   told-after (suc k) =
@@ -59,7 +62,7 @@ module _ (t : Table) (g : Good (without-absent t)) where
       ap (then-next t) (told-after k ∙ ap (told-step place) n) ∙ sym (ap (λ (o : Option State). told-step place (then-next s o)) n))
       (λ (w : (x : State) × (after k s ≡ some x)).
       ap (then-next t) (told-after k ∙ ap (told-step place) (w .1))
-      ∙ told-next t g (w .0) (terminal-in (w .0) (passed s g k (w .0) (w .1) .0))
+      ∙ told-next t g (w .0) (terminal-after k (w .0) (w .1))
       ∙ sym (ap (λ (o : Option State). told-step place (then-next s o)) (w .1)))
       (option-or (after k s))
 

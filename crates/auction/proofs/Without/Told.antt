@@ -70,28 +70,28 @@ module _ (t : Table) where
   absent-offer v i y h p = rw (ne-eqb (tail-at t i) v (λ e. omega (arith, e, h, absent-tail t i p)))
 
   -- THE SAME ARCS ARE LEFT, from position i on in the table and from position j on in the table without its absent arcs
-  record Aligned (rest : List Arc) (i j : ℕ) : Type 0 where
+  pub record Aligned (rest : List Arc) (i j : ℕ) : Type 0 where
     arcs : (q : ℕ) → arc-at t (i + q) ≡ getD rest q (arc no-arc no-arc 0)
     places : (q : ℕ) → place (j + q) ≡ i + spread rest q
 
-  all-left : Aligned (t .arcs) 0 0
+  pub all-left : Aligned (t .arcs) 0 0
   unfolding arc-at
   all-left =
       let plain : (q : ℕ) → 0 + q ≡ q = λ q. omega arith in
       record { arcs = λ q. ap (arc-at t) (plain q); places = λ q. ap place (plain q) ∙ sym (plain (place q)) }
 
   module _ (a : Arc) (more : List Arc) (i j : ℕ) (l : Aligned (a ∷ more) i j) where
-    here : present-at t i ≡ present a
+    pub here : present-at t i ≡ present a
     unfolding present-at
     here = let plain : i ≡ i + 0 = omega arith in ap (λ (k : ℕ). present (arc-at t k)) plain ∙ ap present (l .arcs 0)
 
-    here-place : present a ≡ true → place j ≡ i
+    pub here-place : present a ≡ true → place j ≡ i
     here-place p = let plain : j ≡ j + 0 = omega arith in ap place plain ∙ omega (arith, l .places 0, first-place a more p)
 
     after-arcs : (q : ℕ) → arc-at t (suc i + q) ≡ getD more q (arc no-arc no-arc 0)
     after-arcs q = let on : suc i + q ≡ i + suc q = omega arith in ap (arc-at t) on ∙ l .arcs (suc q)
 
-    after-present : present a ≡ true → Aligned more (suc i) (suc j)
+    pub after-present : present a ≡ true → Aligned more (suc i) (suc j)
     after-present p =
         record {
           arcs = after-arcs;
@@ -101,7 +101,7 @@ module _ (t : Table) where
               ap place on ∙ omega (arith, l .places (suc q), later-place a more p q);
         }
 
-    after-absent : present a ≡ false → Aligned more (suc i) j
+    pub after-absent : present a ≡ false → Aligned more (suc i) j
     after-absent p = record { arcs = after-arcs; places = λ q. omega (arith, l .places q, place-past a more p q) }
 
   -- REACHING a node offers the same arcs
@@ -135,7 +135,7 @@ module _ (t : Table) where
   told-start h = ap (reach t (t .origin)) told-fresh ∙ told-reach (t .origin) (fresh s) h
 
   -- THE BEST BID is the same, by the same arc
-  told-bid : Option Bid → Option Bid
+  unfoldable pub told-bid : Option Bid → Option Bid
   told-bid none = none
   told-bid (some b) = some (bid (b .value) (place (b .by-arc)))
 
@@ -144,12 +144,12 @@ module _ (t : Table) where
   told-is-kept x y i none = refl
   told-is-kept x y i (some k) = same-equal (t .arcs) k i
 
-  told-child : (v i : ℕ) (x : State) → to-child t v (place i) (retold x) ≡ to-child s v i x
+  pub told-child : (v i : ℕ) (x : State) → to-child t v (place i) (retold x) ≡ to-child s v i x
   unfolding to-child is-deleted status-at told-state state
   told-child v i x =
       rw (same-tail t i, same-head t i, told-kept place x (head-at s i), told-is-kept x (retold x) i (kept-at x (head-at s i)))
 
-  absent-child : (v i : ℕ) (y : State) → v < no-node → present-at t i ≡ false → to-child t v i y ≡ false
+  pub absent-child : (v i : ℕ) (y : State) → v < no-node → present-at t i ≡ false → to-child t v i y ≡ false
   unfolding to-child
   absent-child v i y h p = rw (ne-eqb (tail-at t i) v (λ e. omega (arith, e, h, absent-tail t i p)))
 
@@ -184,7 +184,7 @@ module _ (t : Table) where
       rw (p, absent-child v i y h (here a more i j l ∙ p)) (told-best-from v h more (suc i) j x (after-absent a more i j l p)))
       (true-or (present a))
 
-  told-best : (v : ℕ) (x : State) → v < no-node → best t v (retold x) ≡ told-bid (best s v x)
+  pub told-best : (v : ℕ) (x : State) → v < no-node → best t v (retold x) ≡ told-bid (best s v x)
   unfolding best arc-count without-absent table
   told-best v x h = told-best-from v h (t .arcs) 0 0 x all-left
 

@@ -102,7 +102,7 @@ returns c =
     let f = refused h in
     let a = start f .args in
     let g = a .end .progress in
-    assembled t ws (a .end .missing) _ ran (f .route-refusal .result) _ _ _ _ _ _ _ _ _ _
+    assembled t ws (a .end .missing) (a .end .scans) _ ran (f .route-refusal .result) _ _ _ _ _ _ _ _ _ _
     (subst (λ (k : ℕ). f .route-refusal .result ≡ cond (eqb (a .end .missing) k) no-refusal (refusal 8 (a .end .missing))) (sym many) (f .route-refusal .ensures))
     (h .before .count-reached .ensures (a .bound .now) (a .kept .now) t path price g nodes)
     (h .horizon-of .ensures .0 (a .kept .now) t path price g nodes) refl refl refl refl

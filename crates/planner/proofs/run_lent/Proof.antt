@@ -78,7 +78,7 @@ hand-over-requires c κs =
     let r = ended (c .before .before .before .before .before .before .before .before) in
     let a = s r .args in
     let pre = s r .pre in (
-      known-so (t r) (a .wanted .now) (r .run .result .missing) (path r) (price r) (bound r) (kept r) (status r) (r .run .result .progress) (r .run .ensures) (bounds r),
+      known-so (t r) (a .wanted .now) (r .run .result .missing) (r .run .result .scans) (path r) (price r) (bound r) (kept r) (status r) (r .run .result .progress) (r .run .ensures) (bounds r),
       (
         ends-so (n r) (a .origin) (a .tails .now) (a .heads .now) (a .lengths .now) (a .wanted .now) (pre .0 .0) (pre .0 .1) (pre .1 .0)
             (kept r) (status r) (kepts r) (sym (statuses r)),

@@ -6,12 +6,13 @@ use Prim.Native.Nat.{ℕ, zero, suc, _+_, _-_, _≤_, _<_}
 use native.Mathlib.Omega.{arith}
 use native.Mathlib.Numerals.{add-one}
 use lib.ListN.{length, getD, set}
-use lib.Seq.{getD-set-same, getD-set-other}
+use lib.Seq.{getD-set-same, getD-set-other, lt-length-set}
 use borrow.Author.Tests.{lt-ltb, le-ltb, eq-eqb, ne-eqb}
 use Rattle.table.specs.Table.{Table, head-at, no-arc}
-use Rattle.auction.specs.Auction.{State, state, bid, was-reached, price-at, without-terminal, deletion, contraction, longer, extension, reach, iteration}
+use Rattle.auction.specs.Auction.{State, state, bid, was-reached, price-at, without-terminal, deletion, contraction, longer, extension, reach, iteration, status-at, unreached}
 use Rattle.steps.specs.declared.state.Progress.{Progress}
 use Rattle.steps.specs.Seen.{bid-of, nodes-of, seen}
+use Rattle.steps.specs.Memory.{Has-before}
 use Rattle.steps.proofs.Arrays.{seen-status, some-bid, no-bid}
 
 -- THE PATH
@@ -41,6 +42,11 @@ pub as-many : (d : ℕ) (p : List ℕ) → length (nodes-of d p) ≡ d
 unfolding nodes-of
 as-many zero p = refl
 as-many (suc d) p = ap suc (as-many d p)
+
+-- the node before the terminal one can be looked up still
+pub before-still : {d : ℕ} {p m : List ℕ} (v a : ℕ) → Has-before d p m → Has-before d p (set m v a)
+before-still {d} {p} {m} v a h =
+    record { some-node = h .some-node; on-path = h .on-path; inside = lt-length-set m v a (h .inside) }
 
 -- THE THREE KINDS OF ITERATION
 abbrev pub grown : Progress → Progress
@@ -94,6 +100,10 @@ module _ (p u b k s : List ℕ) (g : Progress) where
       let there : getD s j 0 ≤ 0 = let q = ap (λ m. getD s m 0) e in omega (arith, q) in
       r ∙ ap (λ m. reach t m (seen (set p (g .depth) j) u b k s (grown g))) e ∙ ap (λ x. reach t j x) (longer-so j h)
       ∙ sym (rw (seen-status p u b k s g j, le-ltb 0 (getD s j 0) there))
+
+  -- a node that was reached is not one that was not
+  pub reached-other : (v : ℕ) → getD s v 0 ≡ unreached → (w : ℕ) → unreached < status-at (seen p u b k s g) w → w ≡ v → ⊥
+  reached-other v e w h z = let q = ap (λ m. getD s m 0) z in omega (arith, seen-status p u b k s g w)
 
 -- WHICH OF THEM
 module _ (t : Table) (v value arc : ℕ) (x : State) where

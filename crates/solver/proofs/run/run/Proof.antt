@@ -3,11 +3,11 @@ use mathlib.Core.Path.{_≡_, sym, subst, _∙_}
 use mathlib.Core.List.{List, _++_}
 use Prim.Native.Nat.{ℕ, _≤_, _<_}
 use lib.ListN.{length, getD, take, drop, replicate}
-use Rattle.table.specs.Table.{Table, table-of, no-arc, most-nodes, most-arcs}
+use Rattle.table.specs.Table.{Table, table-of, no-arc, no-node, most-nodes, most-arcs}
 use Rattle.auction.specs.Auction.{fresh}
 use Rattle.steps.specs.Seen.{arrays, held, Sized}
 use Rattle.steps.specs.Lists.{star}
-use Rattle.solver.specs.Runs.{Begun}
+use Rattle.solver.specs.Runs.{Begun, All-forgotten}
 use Rattle.table.proofs.Columns.{nodes-so}
 use Rattle.solver.proofs.run.Beginning.{tails-held, few-tails, few-nodes, tails-below, begun-fresh, prefix-fits, prefix-long, lent-again, filled-long, filled-with}
 use borrow.Author.Needs.{needs}
@@ -17,6 +17,9 @@ use Rattle.solver.proofs.run.run.Tie as tie
 -- an array before it is filled
 abbrev no-arcs : (room : ℕ) → List ℕ
 no-arcs room = replicate room no-arc
+
+abbrev no-nodes : (room : ℕ) → List ℕ
+no-nodes room = replicate room no-node
 
 -- where the run is called: the table, which has few nodes and few arcs
 module _ (c : tie.Start) where
@@ -79,7 +82,7 @@ module _ (c : tie.After-link-arcs) where
   first-lent-long = prefix-long first (drop (n s) (no-arcs most-nodes)) (n s) first-long
 
   begun : let a = s .args in
-      Begun fresh (t s) (a .wanted .now) (origin .wide .result) (star (a .heads .now) (a .lengths .now) first-lent next-lent)
+      Begun fresh (t s) (a .wanted .now) (origin .wide .result) (star (a .heads .now) (a .lengths .now) first-lent next-lent) (a .tails .now)
       (held (arrays (a .path .now) (a .price .now) (a .bound .now) (a .kept .now) (a .status .now) (a .begun)))
   begun =
       let a = s .args in
@@ -99,7 +102,7 @@ module _ (c : tie.After-next2) where
 
 module _ (c : tie.After-run-listed) where
   abbrev lists-lent : tie.After-next2
-  lists-lent = c .before .before .before .before .before .before .before .before
+  lists-lent = c .before .before .before .before .before .before .before .before .before
 
 wide-requires : tie.Need-wide-requires
 wide-requires c κs = search needs
@@ -147,33 +150,45 @@ slice-aggregate-run-listed-2 c =
     let l = linked (c .before .before) in
     let k = m (s l) in prefix-long (next l) (drop k (no-arcs most-arcs)) k (next-long l)
 
+-- no node remembers a child
+array-borrow-prefix-remembered : tie.Need-array-borrow-prefix-remembered
+array-borrow-prefix-remembered c = nodes-fit (s (linked (c .before .before .before .before .before .before)))
+
+slice-aggregate-run-listed-3 : tie.Need-slice-aggregate-run-listed-3
+slice-aggregate-run-listed-3 c = sym (first-fits (s (linked (c .before .before .before .before .before .before .before))))
+
 run-listed-requires : tie.Need-run-listed-requires
 run-listed-requires c κs =
-    let l = linked (c .before .before .before .before .before .before .before) in
+    let l = linked (c .before .before .before .before .before .before .before .before) in
+    let k = n (s l) in
     let a = s l .args in (
       (_, begun l),
-      subst (λ (k : ℕ). (length (a .path .now) ≡ k) × Sized k (a .price .now) (a .bound .now) (a .kept .now) (a .status .now)) (first-lent-long l)
-          (s l .pre .1 .1 .0),
+      (
+        subst (λ (k : ℕ). (length (a .path .now) ≡ k) × Sized k (a .price .now) (a .bound .now) (a .kept .now) (a .status .now)) (first-lent-long l)
+            (s l .pre .1 .1 .0),
+        subst (λ (k′ : ℕ). All-forgotten k′ (take k (no-nodes most-nodes))) (first-lent-long l)
+            (record { count = filled-long most-nodes k no-node (nodes-fit (s l)); nothing = λ v h. filled-with most-nodes k no-node v (nodes-fit (s l)) h }),
+      ),
     )
 
 same-length : tie.Need-same-length
-same-length c = c .before .before .before .before .before .before .before .before .before .path .given
+same-length c = c .before .before .before .before .before .before .before .before .before .before .path .given
 
 same-length-2 : tie.Need-same-length-2
-same-length-2 c = c .before .before .before .before .before .before .before .price .given
+same-length-2 c = c .before .before .before .before .before .before .before .before .price .given
 
 same-length-3 : tie.Need-same-length-3
-same-length-3 c = c .before .before .before .before .before .bound .given
+same-length-3 c = c .before .before .before .before .before .before .bound .given
 
 same-length-4 : tie.Need-same-length-4
-same-length-4 c = c .before .before .before .kept .given
+same-length-4 c = c .before .before .before .before .kept .given
 
 same-length-5 : tie.Need-same-length-5
 same-length-5 c = c .before .status .given
 
 returns : tie.Need-returns
 returns c =
-    let r = c .before .before .before .before .before .before .before .before .before .before in r .run-listed .ensures _ (begun (linked (lists-lent r)))
+    let r = c .before .before .before .before .before .before .before .before .before .before .before in r .run-listed .ensures _ (begun (linked (lists-lent r)))
 
 pub run-spec : {M : Type 1} → statement M
 run-spec =
@@ -189,6 +204,8 @@ run-spec =
     slice-aggregate-run-listed
     array-share-prefix-next
     slice-aggregate-run-listed-2
+    array-borrow-prefix-remembered
+    slice-aggregate-run-listed-3
     run-listed-requires
     same-length
     same-length-2

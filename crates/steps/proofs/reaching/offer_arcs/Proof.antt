@@ -1,26 +1,30 @@
--- The arcs from p on are left to offer; p rises along the node's list. Assumes nothing.
-use mathlib.Core.Path.{_≡_, ap, _∙_}
-use Prim.Native.Nat.{ℕ, _+_, _≤_, _-_}
+-- The arcs from p on are left to offer, and the nodes remember what they should after those before; p rises along the node's list. Assumes nothing.
+use mathlib.Core.Path.{_≡_, ap, sym, subst, _∙_}
+use Prim.Native.Nat.{ℕ, _+_, _≤_, _<_, _-_}
 use borrow.Author.Needs.{needs}
 use native.Mathlib.Omega.{arith}
-use lib.ListN.{getD}
+use lib.ListN.{length, getD}
 use Rattle.table.specs.Table.{no-arc}
+use Rattle.steps.specs.Memory.{Kept-in}
 use Rattle.steps.proofs.reaching.Offering.{Offering, begins, goes-on, ends}
+use Rattle.steps.proofs.reaching.Losing.{Forgetting, none-yet, one-more}
 use Rattle.steps.proofs.Arcs.{Readable, readable}
 use Rattle.steps.proofs.reaching.offer_arcs.Statement.{statement}
 use Rattle.steps.proofs.reaching.offer_arcs.Tie as tie
 
 abbrev Inv-loop : tie.InvT-loop
-Inv-loop v distance heads lengths first next bound₀ kept₀ status p₀ bound kept p = (Offering heads lengths first next v distance bound₀ kept₀ status bound kept p) × (p ≤ no-arc)
+Inv-loop v distance tails heads lengths first next bound₀ kept₀ remembered₀ status p₀ bound kept remembered p =
+    (Offering heads lengths first next v distance bound₀ kept₀ status bound kept p)
+    × ((Forgetting heads lengths first next tails v bound₀ kept₀ remembered₀ status bound kept remembered) × (p ≤ no-arc))
 
 abbrev μ-loop : tie.MeasureT-loop
-μ-loop v distance heads lengths first next bound₀ kept₀ status p₀ bound kept p = no-arc - p
+μ-loop v distance tails heads lengths first next bound₀ kept₀ remembered₀ status p₀ bound kept remembered p = no-arc - p
 
 -- THE PLACES on the way, each named from the one after it: before the loop; at its head; where the arc at p can be read; where its head and
 -- its length are read; where it has been offered.
-module _ (c : tie.After-shared-slice-known6 Inv-loop μ-loop) where
+module _ (c : tie.After-shared-slice-known7 Inv-loop μ-loop) where
   abbrev start : tie.Start Inv-loop μ-loop
-  start = c .before .before .before .before .before .before .before .before
+  start = c .before .before .before .before .before .before .before .before .before .before
 
 module _ (c : tie.In-loop Inv-loop μ-loop) where
   abbrev s : tie.Start Inv-loop μ-loop
@@ -45,6 +49,11 @@ module _ (c : tie.After-wide2 Inv-loop μ-loop) where
   head : c .wide2 .result ≡ getD (s within .args .heads .now) (p within) 0
   head = c .wide2 .ensures .0 ∙ ap (λ m. getD (s within .args .heads .now) m 0) index
 
+  in-kept : c .wide2 .result < length (within .before .loop .kept)
+  in-kept =
+      let r = inside within in
+      omega (arith, head, r .head-in, r .listed .linked .first-count, s within .pre .1 .0 .1 .0, within .before .loop .inv .0 .kepts-long)
+
 module _ (c : tie.After-long Inv-loop μ-loop) where
   abbrev arc : tie.After-wide2 Inv-loop μ-loop
   arc = c .before .before
@@ -54,20 +63,24 @@ module _ (c : tie.After-long Inv-loop μ-loop) where
 
 module _ (c : tie.After-offer Inv-loop μ-loop) where
   abbrev with-length : tie.After-long Inv-loop μ-loop
-  with-length = c .before .before .before
+  with-length = c .before .before .before .before
 
-module _ (c : tie.After-slice-known4 Inv-loop μ-loop) where
+module _ (c : tie.After-slice-known6 Inv-loop μ-loop) where
   abbrev offered : tie.After-offer Inv-loop μ-loop
-  offered = c .before .before .before .before
+  offered = c .before .before .before .before .before .before
 
 mul-p : tie.Need-mul-p Inv-loop μ-loop
 mul-p c = search needs
 
 shared-slice-read-p : tie.Need-shared-slice-read-p Inv-loop μ-loop
-shared-slice-read-p c = omega (arith, start c .pre .1 .1 .0)
+shared-slice-read-p c = omega (arith, start c .pre .1 .1 .0 .0)
 
 loop-holds : tie.Need-loop-holds Inv-loop μ-loop
-loop-holds c = let b = start c in (begins (b .pre .1 .1 .0) (b .pre .1 .1 .1 .1 .1), omega (arith, c .shared-slice-known6 .given (b .args .v)))
+loop-holds c =
+    let b = start c in (
+      begins (b .pre .1 .1 .0 .0) (b .pre .1 .1 .0 .1 .1 .1),
+      (none-yet (b .pre .1 .1 .1 .kept-in), omega (arith, c .shared-slice-known7 .given (b .args .v))),
+    )
 
 wide-requires : tie.Need-wide-requires Inv-loop μ-loop
 wide-requires c κs = search needs
@@ -92,11 +105,11 @@ long-requires : tie.Need-long-requires Inv-loop μ-loop
 long-requires c κs = search needs
 
 add-offered : tie.Need-add-offered Inv-loop μ-loop
-add-offered c = omega (arith, s (within (arc c)) .pre .1 .1 .1 .0, c .long .ensures .1)
+add-offered c = omega (arith, s (within (arc c)) .pre .1 .1 .0 .1 .0, c .long .ensures .1)
 
 offer-requires : tie.Need-offer-requires Inv-loop μ-loop
 offer-requires c κs =
-    let l = c .before .before in
+    let l = c .before .before .before in
     let w = within (arc l) in
     let r = inside w in
     let n = r .listed .linked .first-count in
@@ -105,9 +118,12 @@ offer-requires c κs =
     let inv = w .before .loop .inv in (
       (
         omega (arith, head (arc l), r .head-in, n, lengths .0, inv .0 .bounds-long),
-        (omega (arith, head (arc l), r .head-in, n, lengths .1 .0, inv .0 .kepts-long), omega (arith, head (arc l), r .head-in, n, lengths .1 .1)),
+        (in-kept (arc l), omega (arith, head (arc l), r .head-in, n, lengths .1 .1 .1)),
       ),
-      (omega (arith, b .pre .1 .1 .1 .0, l .long .ensures .1), omega (arith, inv .1, w .loop-test .taken)),
+      (
+        (omega (arith, b .pre .1 .1 .0 .1 .0, l .long .ensures .1), omega (arith, inv .1 .1, w .loop-test .taken)),
+        subst (λ (m : ℕ). Kept-in m (b .args .tails .now) (w .before .loop .kept)) (sym (inv .1 .0 .memory-long ∙ lengths .1 .1 .0)) (inv .1 .0 .kept-in),
+      ),
     )
 
 mul-p-2 : tie.Need-mul-p-2 Inv-loop μ-loop
@@ -124,7 +140,7 @@ loop-less c =
     let w = within h in
     let n = s w .args .next .now in
     let same : getD n (i h) 0 ≡ getD n (p w) 0 = ap (λ m. getD n m 0) (index h) in
-    omega (arith, same, inside w .rises, c .shared-slice-known9 .given (i h))
+    omega (arith, same, inside w .rises, c .shared-slice-known10 .given (i h))
 
 loop-again : tie.Need-loop-again Inv-loop μ-loop
 loop-again c =
@@ -133,11 +149,18 @@ loop-again c =
     let h = arc l in
     let w = within h in
     let b = s w in
-    let kept = o .offer .kept .1 .1 .1 in (
-      goes-on (w .before .loop .inv .0) (i h) (h .wide2 .result) _ (index h) (head h) (ap (λ m. b .args .distance + m) (length-so l))
-          (w .loop-test .taken) (omega (arith, b .pre .1 .1 .1 .0)) (omega (arith, b .pre .1 .1 .0, b .pre .1 .0 .0)) (b .pre .1 .1 .1 .1 .0)
-          (kept .0) (kept .1 .0) (o .offer .ensures),
-      omega (arith, c .shared-slice-known9 .given (i h)),
+    let inv = w .before .loop .inv in
+    let more = w .loop-test .taken in
+    let r = inside w in
+    let kept = o .offer .kept .1 .1 .1 .1 in (
+      goes-on (inv .0) (i h) (h .wide2 .result) _ (index h) (head h) (ap (λ m. b .args .distance + m) (length-so l)) more
+          (omega (arith, b .pre .1 .1 .0 .1 .0)) (omega (arith, b .pre .1 .1 .0 .0, b .pre .1 .0 .0)) (b .pre .1 .1 .0 .1 .1 .0) (kept .0)
+          (kept .1 .0) (o .offer .ensures .0),
+      (
+        one-more (inv .1 .0) (λ t here. inv .0 .left-over t here .on-list) more (omega (arith, r .inside, r .listed .head-count, b .pre .1 .1 .1 .as-long)) (head h)
+            (in-kept h) (b .pre .1 .0 .1 .1 .0) (kept .1 .1 .0) (o .offer .ensures .1),
+        omega (arith, c .shared-slice-known10 .given (i h)),
+      ),
     )
 
 same-length : tie.Need-same-length Inv-loop μ-loop
@@ -146,8 +169,15 @@ same-length c = c .before .loop .inv .0 .bounds-long
 same-length-2 : tie.Need-same-length-2 Inv-loop μ-loop
 same-length-2 c = c .before .loop .inv .0 .kepts-long
 
+same-length-3 : tie.Need-same-length-3 Inv-loop μ-loop
+same-length-3 c = c .before .loop .inv .1 .0 .memory-long
+
 returns : tie.Need-returns Inv-loop μ-loop
-returns c = ends (c .before .loop .inv .0) (c .loop-test .left)
+returns c =
+    let inv = c .before .loop .inv in (
+      ends (inv .0) (c .loop-test .left),
+      λ path price g t here tails arcs. inv .1 .0 .since path price g t here tails arcs .remembering,
+    )
 
 pub offer-arcs-spec : {M : Type 1} → statement M
 offer-arcs-spec =
@@ -173,4 +203,5 @@ offer-arcs-spec =
     loop-again
     same-length
     same-length-2
+    same-length-3
     returns)

@@ -1,8 +1,18 @@
 -- The path loses its first node, unless that is the origin. Assumes nothing.
+use mathlib.Core.Path.{refl}
 use Rattle.steps.proofs.steps.Stepping.{contracted-origin, contracted-other}
 use borrow.Author.Needs.{needs}
 use Rattle.steps.proofs.steps.contract.Statement.{statement}
 use Rattle.steps.proofs.steps.contract.Tie as tie
+
+-- THE PLACES on the way, each named from the one after it: before the price is stored; where the node is not the origin.
+module _ (c : tie.After-struct-known) where
+  abbrev start : tie.Start
+  start = c .before .before .before .before
+
+module _ (c : tie.Else1) where
+  abbrev s : tie.Start
+  s = start (c .before)
 
 mul-price : tie.Need-mul-price
 mul-price c = search needs
@@ -18,20 +28,33 @@ same-length c = search needs
 
 returns : tie.Need-returns
 returns c =
-    λ t path bound kept status eo.
-    let a = c .before .before .args in contracted-origin path (a .price .now) bound kept status (a .g) t (a .v) (a .origin) (a .value) eo (c .if1 .taken)
+    let a = start (c .before) .args in (
+      λ t path bound kept status eo. contracted-origin path (a .price .now) bound kept status (a .g) t (a .v) (a .origin) (a .value) eo (c .if1 .taken),
+      (λ e. refl, λ d. absurd (d (c .if1 .taken))),
+    )
 
-sub-t7 : tie.Need-sub-t7
-sub-t7 c = search needs
+forget-before-requires : tie.Need-forget-before-requires
+forget-before-requires c κs = let e = c .before in s e .pre .1 (e .if1 .left)
+
+sub-t9 : tie.Need-sub-t9
+sub-t9 c = search needs
 
 same-length-2 : tie.Need-same-length-2
 same-length-2 c = search needs
 
+same-length-3 : tie.Need-same-length-3
+same-length-3 c = search needs
+
 returns-2 : tie.Need-returns-2
 returns-2 c =
-    λ t path bound kept status eo.
-    let a = c .before .before .before .args in
-    contracted-other path (a .price .now) bound kept status (a .g) t (a .v) (a .origin) (a .value) eo (c .before .if1 .left) (c .before .before .before .pre .0)
+    let f = c .before .before .before in
+    let e = f .before .before in
+    let b = s e in
+    let a = b .args in (
+      λ t path bound kept status eo.
+          contracted-other path (a .price .now) bound kept status (a .g) t (a .v) (a .origin) (a .value) eo (e .if1 .left) (b .pre .0 .0),
+      (λ z. absurd (e .if1 .left z), λ d. f .forget-before .ensures),
+    )
 
 pub contract-spec : {M : Type 1} → statement M
 contract-spec =
@@ -42,6 +65,8 @@ contract-spec =
     add-contractions
     same-length
     returns
-    sub-t7
+    forget-before-requires
+    sub-t9
     same-length-2
+    same-length-3
     returns-2)
