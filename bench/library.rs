@@ -1,6 +1,6 @@
 //! The library's functions on the benchmark's tables, and the C and C++ functions of this folder.
 
-use crate::abi::{self, Columns, Listed, PlanBuffers, Planned, Written};
+use crate::abi::{self, Columns, Listed, PlanBuffers, Planned, Within, Written};
 use crate::auction::Plan;
 use crate::tables::Table;
 use std::ffi::c_void;
@@ -45,6 +45,10 @@ pub fn before() -> Option<abi::PlanRoutes> {
 
 pub fn plan_by(function: abi::PlanRoutes, table: &Table, wanted: &[u16], out: &mut Plan) -> Planned {
     abi::plan_routes_by(function, table.n as u32, 0, columns(table), wanted, buffers(out))
+}
+
+pub fn within(table: &Table, node: u16, limit: u64) -> Within {
+    abi::within_limit(table.n as u32, 0, node, limit, columns(table))
 }
 
 pub fn list(table: &Table, node: u16, tree: &[u16], output: &mut [u16]) -> Listed {

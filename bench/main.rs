@@ -77,7 +77,8 @@ fn main() -> std::io::Result<()> {
     };
     let rows = rows();
     let stack = measure::stack(&tables::sparse(1_024));
-    println!("stack: plan {}, list {}, read {}, write {} bytes", stack.plan, stack.list, stack.read, stack.write);
+    let measure::Stack { plan, within, list, read, write } = stack;
+    println!("stack: plan {plan}, within {within}, list {list}, read {read}, write {write} bytes");
     let plot_name = Path::new(plot).file_name().unwrap_or_default().to_string_lossy();
     std::fs::write(plot, plot::svg(&curves()))?;
     std::fs::write(page, report::page(&machine, &rows, &stack, &plot_name))

@@ -124,9 +124,10 @@ pub fn middle_node(table: &Table) -> u16 {
     nodes[nodes.len() / 2]
 }
 
-/// Bytes of stack that the four functions need: plan, list, read, write.
+/// Bytes of stack that the five functions need: plan, within, list, read, write.
 pub struct Stack {
     pub plan: usize,
+    pub within: usize,
     pub list: usize,
     pub read: usize,
     pub write: usize,
@@ -168,6 +169,7 @@ pub fn stack(table: &Table) -> Stack {
     };
     Stack {
         plan: plan_stack,
+        within: used_by(&mut || finish(library::within(table, last, u64::MAX))),
         list: used_by(&mut || finish(library::list(table, last, &plan.tree, &mut path))),
         read: used_by(&mut read),
         write: used_by(&mut || finish(library::write(table, &wanted, &mut file))),

@@ -15,7 +15,8 @@
  *
  * Calls share nothing: there is no global state, no allocation and no call out of the library but
  * to memcpy and memset, so two threads may call at once. Stack needed, measured on x86-64
- * (docs/PERFORMANCE.md): planning 46,136 bytes, each other call less than 512.
+ * (docs/PERFORMANCE.md): planning 38,296 bytes, asking for a limit 38,168, each other call less
+ * than 512.
  *
  * Every answer starts with a number and a place: kestrelore_refusal lists them. docs/RULES.md has
  * the rules of planning, the file format with an example byte by byte, and the order of the tests.
@@ -30,7 +31,7 @@
 extern "C" {
 #endif
 
-#define KESTRELORE_VERSION "0.2.0"
+#define KESTRELORE_VERSION "0.3.0"
 
 /* The most nodes, arcs and wanted nodes of a table, and the bytes of the longest link file. */
 #define KESTRELORE_MOST_NODES 1024
@@ -40,7 +41,8 @@ extern "C" {
 
 /*
  * The length of a link that is down. Its arc is absent: it keeps its position and is tested like any
- * other, but it is in no walk and its mark is 1. A plan is that of the table without such arcs.
+ * other, but it is in no walk and its mark is 1. A plan, and the answer to a limit, is that of the
+ * table without such arcs.
  */
 #define KESTRELORE_DOWN UINT32_C(4294967295)
 
@@ -64,7 +66,8 @@ typedef enum kestrelore_refusal {
                                      too short */
     KESTRELORE_ORIGIN = 4,        /* the origin is not below n */
     KESTRELORE_WANTED = 5,        /* more than 1,024 wanted nodes (place 1024); a wanted node is not
-                                     below n (its index); a node to list is not below n (place 0) */
+                                     below n (its index); a node to list, or to ask for, is not below
+                                     n (place 0) */
     KESTRELORE_ARC_END = 6,       /* an arc's tail or head is not below n (its position) */
     KESTRELORE_ARC_LENGTH = 7,    /* an arc's length is 0 (its position) */
     KESTRELORE_NO_ROUTE = 8,      /* a wanted node has no walk from the origin (the first such index);
@@ -93,6 +96,14 @@ typedef struct kestrelore_planned {
                               node's children or the price of its remembered child, the best at
                               its last scan, have changed since that scan (docs/RULES.md) */
 } kestrelore_planned;
+
+/* What asking for a limit answers. */
+typedef struct kestrelore_within {
+    uint32_t number;       /* 0, 1, 2 or 4 to 7 */
+    uint32_t place;
+    uint32_t within;       /* 1: some walk to the node is at most as long as the limit; 0: none is */
+    uint64_t iterations;   /* those made until the run ended */
+} kestrelore_within;
 
 /* What listing a path answers. */
 typedef struct kestrelore_listed {
@@ -144,6 +155,21 @@ kestrelore_planned kestrelore_plan_routes(
     uint64_t *prices, size_t prices_count,
     uint16_t *tree, size_t tree_count,
     uint8_t *marks, size_t marks_count);
+
+/*
+ * Tells whether a node is within a limit: some walk from the origin to it is at most that long.
+ *
+ * The run is that of a plan for the wanted list of this one node, but it ends as soon as the origin's
+ * price in the run (not the one that a plan hands over) is above the limit, the node is reached, or
+ * the origin has no children. So its iterations are those of the plan, cut, and never more. within is
+ * 1 where the node was reached, else 0. A node without a walk is within no limit: its number is 0 and
+ * not KESTRELORE_NO_ROUTE. Tested in the order 1, 2, 4, 5, then 6 and 7 arc by arc.
+ */
+kestrelore_within kestrelore_within_limit(
+    uint32_t n, uint16_t origin, uint16_t node, uint64_t limit,
+    const uint16_t *tails, size_t tails_count,
+    const uint16_t *heads, size_t heads_count,
+    const uint32_t *lengths, size_t lengths_count);
 
 /*
  * Lists the nodes of the walk to a node, from the origin to the node, by a plan's tree column.

@@ -35,6 +35,15 @@ pub struct Planned {
 
 #[repr(C)]
 #[derive(Clone, Copy, Debug, Default, PartialEq)]
+pub struct Within {
+    pub number: u32,
+    pub place: u32,
+    pub within: u32,
+    pub iterations: u64,
+}
+
+#[repr(C)]
+#[derive(Clone, Copy, Debug, Default, PartialEq)]
 pub struct Listed {
     pub number: u32,
     pub place: u32,
@@ -85,6 +94,13 @@ extern "C" {
         tree: *mut u16, tree_count: usize,
         marks: *mut u8, marks_count: usize,
     ) -> Planned;
+
+    fn kestrelore_within_limit(
+        n: u32, origin: u16, node: u16, limit: u64,
+        tails: *const u16, tails_count: usize,
+        heads: *const u16, heads_count: usize,
+        lengths: *const u32, lengths_count: usize,
+    ) -> Within;
 
     fn kestrelore_list_path(
         origin: u16, node: u16,
@@ -156,6 +172,17 @@ pub fn plan_routes_by(function: PlanRoutes, n: u32, origin: u16, columns: Column
     }
 }
 
+pub fn within_limit(n: u32, origin: u16, node: u16, limit: u64, columns: Columns) -> Within {
+    unsafe {
+        kestrelore_within_limit(
+            n, origin, node, limit,
+            columns.tails.as_ptr(), columns.tails.len(),
+            columns.heads.as_ptr(), columns.heads.len(),
+            columns.lengths.as_ptr(), columns.lengths.len(),
+        )
+    }
+}
+
 pub fn list_path(origin: u16, node: u16, tails: &[u16], heads: &[u16], tree: &[u16], output: &mut [u16]) -> Listed {
     unsafe {
         kestrelore_list_path(
@@ -211,6 +238,7 @@ pub fn layout() -> Result<String, std::fmt::Error> {
     let mut text = String::new();
     struct_lines!(text, "kestrelore_planned", Planned,
         number place reached horizon iterations contractions extensions deletions scans);
+    struct_lines!(text, "kestrelore_within", Within, number place within iterations);
     struct_lines!(text, "kestrelore_listed", Listed, number place count);
     struct_lines!(text, "kestrelore_table_read", TableRead, number place n origin arcs wanted);
     struct_lines!(text, "kestrelore_written", Written, number place length);

@@ -103,7 +103,7 @@ pub fn plan(entries: &dyn Entries, table: &Table) -> Verdict {
     if !fails(table) {
         return Ok(());
     }
-    let small = if table.columns_equal() { smaller_table(table, &fails) } else { table.clone() };
+    let small = smaller_table(table, &fails);
     plan_sized(entries, &small, right_sizes(&small))
 }
 
@@ -111,8 +111,11 @@ pub fn plan_sized(entries: &dyn Entries, table: &Table, sizes: Sizes) -> Verdict
     compare_plan(entries, table, sizes).map_err(|fault| format!("{fault}\n  buffers {sizes:?}, {}", table_words(table)))
 }
 
-/// Drops arcs and wanted nodes while the table still fails.
+/// Drops arcs and wanted nodes while the table still fails; unequal columns stay as they are.
 fn smaller_table(table: &Table, fails: &dyn Fn(&Table) -> bool) -> Table {
+    if !table.columns_equal() {
+        return table.clone();
+    }
     let with = |arcs: &[Arc], wanted: &[u16]| Table::new(table.n, table.origin, arcs, wanted);
     let wanted = smaller(table.wanted.clone(), &|wanted| fails(&with(&table.arcs(), wanted)));
     let arcs = smaller(table.arcs(), &|arcs| fails(&with(arcs, &wanted)));
@@ -151,6 +154,40 @@ fn table_words(table: &Table) -> String {
         format!("tails {:?} heads {:?} lengths {:?}", table.tails, table.heads, table.lengths)
     };
     format!("table n {n}, origin {origin}, wanted {wanted:?}, {arcs}")
+}
+
+// Asking for a limit.
+
+fn compare_within(entries: &dyn Entries, table: &Table, node: u16, limit: u64) -> Verdict {
+    let before = table.clone();
+    let answer = entries.within(table, node, limit);
+    same_answer(&answer, &RIGHT.within(table, node, limit))?;
+    same_answer(table, &before)?;
+    if answer.number != 0 {
+        return Ok(());
+    }
+    optimality::check_limit(table, node, limit, &answer)?;
+    let (plan, _) = plan_filled(entries, &Table { wanted: vec![node], ..before });
+    check_cut(&answer, limit, plan.iterations)
+}
+
+/// As many iterations as the plan for the node makes; fewer only where the node was not reached and a price can be above
+/// the limit.
+fn check_cut(answer: &Within, limit: u64, planned: u64) -> Verdict {
+    let may_be_cut = answer.within == 0 && limit < u64::MAX;
+    let holds = answer.iterations == planned || may_be_cut && answer.iterations < planned;
+    if holds { Ok(()) } else { Err(format!("{} iterations, the plan makes {planned}", answer.iterations)) }
+}
+
+/// Compares what is answered to a limit; a failing table is made smaller before it is shown.
+pub fn within(entries: &dyn Entries, table: &Table, node: u16, limit: u64) -> Verdict {
+    let fails = |table: &Table| compare_within(entries, table, node, limit).is_err();
+    if !fails(table) {
+        return Ok(());
+    }
+    let small = smaller_table(table, &fails);
+    let with_table = |fault| format!("{fault}\n  node {node}, limit {limit}, {}", table_words(&small));
+    compare_within(entries, &small, node, limit).map_err(with_table)
 }
 
 // Listing a path.

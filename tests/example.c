@@ -1,4 +1,4 @@
-/* Plans the routes of a small table and prints the path to node 3. */
+/* Plans the routes of a small table and prints the path to node 3, and whether that is within 5 and 6. */
 #include "kestrelore.h"
 #include <stdio.h>
 
@@ -14,5 +14,10 @@ int main(void)
     kestrelore_listed list = kestrelore_list_path(0, 3, tails, 5, heads, 5, tree, 4, path, 4);
     printf("refusals %u %u, distance %u, path", plan.number, list.number, (unsigned)distances[3]);
     for (uint32_t i = 0; i < list.count; i++) printf(" %u", path[i]);
-    return puts("") < 0;
+    puts("");
+    for (uint64_t limit = 5; limit <= 6; limit++) {
+        kestrelore_within within = kestrelore_within_limit(4, 0, 3, limit, tails, 5, heads, 5, lengths, 5);
+        printf("refusal %u, within %u: %s\n", within.number, (unsigned)limit, within.within ? "yes" : "no");
+    }
+    return ferror(stdout);
 }

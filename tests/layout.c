@@ -18,6 +18,11 @@ int main(void)
     FIELD(kestrelore_planned, extensions);
     FIELD(kestrelore_planned, deletions);
     FIELD(kestrelore_planned, scans);
+    STRUCT(kestrelore_within);
+    FIELD(kestrelore_within, number);
+    FIELD(kestrelore_within, place);
+    FIELD(kestrelore_within, within);
+    FIELD(kestrelore_within, iterations);
     STRUCT(kestrelore_listed);
     FIELD(kestrelore_listed, number);
     FIELD(kestrelore_listed, place);

@@ -108,6 +108,10 @@ fn main() -> ExitCode {
         let name = format!("the optimality check alone notices {fault:?}");
         tests.push(cases(name, move |random| wrong::noticed_by_optimality(fault, random)));
     }
+    for fault in wrong::AGAINST_LIMITS {
+        let name = format!("the distances alone notice {fault:?}");
+        tests.push(cases(name, move |random| wrong::noticed_by_distances(fault, random)));
+    }
     let passed = run_all(&tests, seed);
     let failed = tests.len() - passed;
     println!("{passed} passed, {failed} failed");

@@ -1,5 +1,6 @@
 //! Checks a finished plan without any auction: least distances over all walks by relaxing every arc
-//! until nothing changes, then each promise about distances, links, prices, walks and "no route".
+//! until nothing changes, then each promise about distances, links, prices, walks and "no route"; and
+//! by the same distances whether a node is within a limit.
 
 use crate::rules::*;
 
@@ -17,7 +18,7 @@ fn present_arcs(table: &Table) -> Vec<(usize, Arc)> {
 }
 
 /// The least length of all walks from the origin to each node; none where there is no walk.
-fn least_distances(table: &Table) -> Vec<Option<u64>> {
+pub fn least_distances(table: &Table) -> Vec<Option<u64>> {
     let mut least: Vec<Option<u64>> = vec![None; table.n as usize];
     least[table.origin as usize] = Some(0);
     let mut changed = true;
@@ -48,6 +49,15 @@ pub fn check(table: &Table, plan: &Planned, filled: &Filled) -> Result<(), Strin
     (0..table.n as usize)
         .filter(|&node| filled.distances[node] != NO_DISTANCE)
         .try_for_each(|node| check_walk(table, filled, node))
+}
+
+/// Checks what was answered to a limit where there is no refusal.
+pub fn check_limit(table: &Table, node: u16, limit: u64, answer: &Within) -> Result<(), String> {
+    let least = least_distances(table)[node as usize];
+    let within = least.map_or(false, |distance| distance <= limit) as u32;
+    let expected = (0, 0, within);
+    let right = (answer.number, answer.place, answer.within) == expected;
+    demand(right, || format!("least distance {least:?}: number, place and within must be {expected:?}"))
 }
 
 fn check_answer(table: &Table, plan: &Planned, filled: &Filled, least: &[Option<u64>]) -> Result<(), String> {

@@ -73,9 +73,11 @@ pub fn refuse<T>(number: u32, place: usize) -> Result<T, Refusal> {
     Err(Refusal { number, place: place as u32 })
 }
 
-/// The four functions of the library, and the program from its standard input to its standard output.
+/// The five functions of the library, and the program from its standard input to its standard output.
 pub trait Entries: Sync {
     fn plan(&self, table: &Table, out: PlanBuffers) -> Planned;
+    /// Whether the node is within the limit; the table's wanted list is not looked at.
+    fn within(&self, table: &Table, node: u16, limit: u64) -> Within;
     fn list(&self, listing: &Listing, output: &mut [u16]) -> Listed;
     fn read(&self, file: &[u8], out: ReadBuffers) -> TableRead;
     fn write(&self, table: &Table, output: &mut [u8]) -> Written;

@@ -1,11 +1,13 @@
 //! Tests that cannot fail are worth nothing: the cases must notice each fault built into the model.
 
+use crate::cases::within::limits_about;
 use crate::cases::{self, Tried};
 use crate::product::{Product, Unread};
 use crate::compare::plan_filled;
 use crate::model::{Model, Wrong, RIGHT};
 use crate::optimality;
 use crate::random::Random;
+use crate::rules::{Entries, Table};
 use crate::shapes::{self, SHAPES};
 use std::fs;
 use std::os::unix::fs::PermissionsExt;
@@ -34,18 +36,45 @@ pub const AGAINST_PROMISES: [Wrong; 8] = [
     Wrong::DownLinksClosedUp,
 ];
 
-pub fn noticed_by_optimality(fault: Wrong, random: &mut Random) -> Tried {
-    let faulty = Model { wrong: Some(fault) };
+/// The faults that tell wrongly whether a node is within a limit.
+pub const AGAINST_LIMITS: [Wrong; 7] = [
+    Wrong::LimitItselfPassed,
+    Wrong::LimitOnHorizon,
+    Wrong::LimitOnEveryPrice,
+    Wrong::LimitCutTo32Bits,
+    Wrong::PassedIsWithin,
+    Wrong::NoWalkRefused,
+    Wrong::DownLinksWithin,
+];
+
+/// Random tables until one is judged to be answered wrongly.
+fn tables_until(random: &mut Random, wrong: impl Fn(&Table, &mut Random) -> bool) -> Tried {
     for tried in 1..=20_000 {
         let shape = random.pick(&SHAPES);
         let n = random.from(1, 12);
         let table = shapes::table(random, shape, n);
-        let (plan, filled) = plan_filled(&faulty, &table);
-        if optimality::check(&table, &plan, &filled).is_err() {
+        if wrong(&table, random) {
             return Ok(tried);
         }
     }
     Err("the optimality check accepts it".to_string())
+}
+
+pub fn noticed_by_optimality(fault: Wrong, random: &mut Random) -> Tried {
+    let faulty = Model { wrong: Some(fault) };
+    tables_until(random, |table, _| {
+        let (plan, filled) = plan_filled(&faulty, table);
+        optimality::check(table, &plan, &filled).is_err()
+    })
+}
+
+pub fn noticed_by_distances(fault: Wrong, random: &mut Random) -> Tried {
+    let faulty = Model { wrong: Some(fault) };
+    tables_until(random, |table, random| {
+        let node = random.below(table.n as usize) as u16;
+        let limit = random.pick(&limits_about(table, &[node]));
+        optimality::check_limit(table, node, limit, &faulty.within(table, node, limit)).is_err()
+    })
 }
 
 /// A program that a signal ends, beside the tests' own.

@@ -6,9 +6,11 @@ use crate::shapes;
 
 pub const GROUPS: &[Group] = &[
     Group { name: "grounds: the planner's rows 1 to 8", run: planner_rows },
+    Group { name: "grounds: rows 1, 2 and 4 to 7 where a limit is asked for", run: asked_rows },
     Group { name: "grounds: the reader's rows 9 to 12, listing 14, short buffers 13", run: other_rows },
     Group { name: "grounds: buffers of every wrong length", run: wrong_lengths },
     Group { name: "grounds: several faults at once, planner", run: several_faults },
+    Group { name: "grounds: several faults at once, a limit asked for", run: several_faults_asked },
     Group { name: "grounds: several faults at once, writer", run: several_faults_written },
 ];
 
@@ -51,6 +53,50 @@ fn planner_rows(entries: &dyn Entries, _: &mut Random) -> Tried {
         expect(&format!("{table:?}"), (answer.number, answer.place), *expected)?;
     }
     Ok(rows.len())
+}
+
+/// As for a wanted list of this one node, without buffers; a refusal says no, after 0 iterations.
+fn asked_rows(entries: &dyn Entries, _: &mut Random) -> Tried {
+    let t = || example(4, &[]);
+    let uneven = || Table { heads: vec![1], ..Table::new(2, 0, &[(0, 1, 1), (0, 1, 1)], &[]) };
+    let arcs = |arcs: &[Arc]| Table::new(2, 0, arcs, &[]);
+    let rows = [
+        (Table { n: 0, ..t() }, 0, (1, 0)),
+        (Table { n: 1_025, ..t() }, 0, (1, 0)),
+        (uneven(), 0, (2, 0)),
+        (wide_table(4, 6_001, 0), 0, (2, 0)),
+        (Table { origin: 4, ..t() }, 3, (4, 0)),
+        (t(), 4, (5, 0)),
+        (t(), NO_ARC, (5, 0)),
+        (arcs(&[(0, 2, 1)]), 1, (6, 0)),
+        (arcs(&[(0, 1, 1), (2, 1, 1)]), 1, (6, 1)),
+        (arcs(&[(0, 1, 1), (2, 1, DOWN)]), 1, (6, 1)),
+        (arcs(&[(0, 1, 0)]), 1, (7, 0)),
+        (arcs(&[(0, 1, DOWN), (0, 1, 0)]), 1, (7, 1)),
+        // Two faults and more.
+        (Table { n: 0, ..uneven() }, 0, (1, 0)),
+        (Table { origin: 2, ..uneven() }, 2, (2, 0)),
+        (Table { origin: 4, ..t() }, 4, (4, 0)),
+        (Table { origin: 2, ..arcs(&[(0, 2, 0)]) }, 1, (4, 0)),
+        (arcs(&[(0, 2, 1)]), 2, (5, 0)),
+        (arcs(&[(0, 1, 0)]), 2, (5, 0)),
+        (arcs(&[(0, 2, 0)]), 1, (6, 0)),
+        (arcs(&[(0, 1, 0), (0, 2, 1)]), 1, (7, 0)),
+        (arcs(&[(2, 1, DOWN), (0, 1, 0)]), 1, (6, 0)),
+        // No walk is no ground.
+        (arcs(&[]), 1, (0, 0)),
+        (arcs(&[(0, 1, DOWN)]), 1, (0, 0)),
+    ];
+    for (table, node, (number, place)) in &rows {
+        for limit in [0, u64::MAX] {
+            compare::within(entries, table, *node, limit)?;
+            let answer = entries.within(table, *node, limit);
+            if answer != (Within { number: *number, place: *place, ..Within::default() }) {
+                return Err(format!("{answer:?}, must be refused with {number} at {place}: node {node}, {table:?}"));
+            }
+        }
+    }
+    Ok(2 * rows.len())
 }
 
 fn other_rows(entries: &dyn Entries, _: &mut Random) -> Tried {
@@ -147,6 +193,16 @@ fn several_faults(entries: &dyn Entries, random: &mut Random) -> Tried {
     for _ in 0..tried {
         let (table, sizes) = damaged_table(random);
         compare::plan_sized(entries, &table, sizes)?;
+    }
+    Ok(tried)
+}
+
+fn several_faults_asked(entries: &dyn Entries, random: &mut Random) -> Tried {
+    let tried = 20_000;
+    for _ in 0..tried {
+        let (table, _) = damaged_table(random);
+        let node = random.pick(&[0, 0, 1, table.n as u16, NO_ARC]);
+        compare::within(entries, &table, node, random.pick(&[0, 3, u64::MAX]))?;
     }
     Ok(tried)
 }

@@ -16,27 +16,13 @@ pub const GROUPS: &[Group] = &[
     Group { name: "plans: two threads at once", run: two_threads },
 ];
 
-/// Every table of n nodes with that many arcs, of lengths 1 and 2 or down, for some wanted lists.
-fn every_table(entries: &dyn Entries, n: usize, m: usize) -> Tried {
-    let lengths = [1, 2, DOWN];
-    let choices = n * n * lengths.len();
-    let tables = choices.pow(m as u32);
-    let wanted: [&[u16]; 4] = [&[], &[1], &[n as u16 - 1], &[1, 0, n as u16 - 1]];
-    for number in 0..tables {
-        let choice = |position: u32| number / choices.pow(position) % choices;
-        let arc = |choice: usize| ((choice / 3 / n) as u16, (choice / 3 % n) as u16, lengths[choice % 3]);
-        let arcs: Vec<Arc> = (0..m as u32).map(|position| arc(choice(position))).collect();
-        wanted.iter().try_for_each(|wanted| compare::plan(entries, &Table::new(n as u32, 0, &arcs, wanted)))?;
-    }
-    Ok(tables * wanted.len())
-}
-
 fn all_small(entries: &dyn Entries, _: &mut Random) -> Tried {
     let mut tried = 0;
-    for (n, most_arcs) in [(2, 4), (3, 3)] {
-        for m in 0..=most_arcs {
-            tried += every_table(entries, n, m)?;
-        }
+    for table in all_small_tables() {
+        let last = table.n as u16 - 1;
+        let lists = [vec![], vec![1], vec![last], vec![1, 0, last]];
+        tried += lists.len();
+        lists.into_iter().try_for_each(|wanted| compare::plan(entries, &Table { wanted, ..table.clone() }))?;
     }
     Ok(tried)
 }

@@ -1,4 +1,4 @@
-//! "Tables on the test rack", the printed example and the wrong turns, with 01's own figures.
+//! "Tables on the test rack", the printed example and the wrong turns, with 01's own figures; and what is within a limit.
 
 use super::*;
 use crate::compare::{self, plan_filled};
@@ -6,6 +6,7 @@ use crate::compare::{self, plan_filled};
 pub const GROUPS: &[Group] = &[
     Group { name: "the rack: tables with 01's figures", run: rows },
     Group { name: "the rack: limits of nodes and arcs", run: limits },
+    Group { name: "the rack: within a limit, and the iterations made", run: asked },
     Group { name: "the printed example, byte for byte", run: printed_example },
 ];
 
@@ -95,12 +96,68 @@ fn limits(entries: &dyn Entries, _: &mut Random) -> Tried {
     let cases = [(full(1_024, 6_000), 0), (full(1_025, 6_000), 1), (full(1_024, 6_001), 2)];
     for (table, number) in &cases {
         compare::plan(entries, table)?;
-        let answer = plan_filled(entries, table).0.number;
-        if answer != *number {
-            return Err(format!("n {}, {} arcs: number {answer}", table.n, table.tails.len()));
+        compare::within(entries, table, 1_023, u64::MAX)?;
+        let (plan, asked) = (plan_filled(entries, table).0.number, entries.within(table, 1_023, u64::MAX).number);
+        if [plan, asked] != [*number; 2] {
+            return Err(format!("n {}, {} arcs: numbers {plan} and {asked}", table.n, table.tails.len()));
         }
     }
     Ok(cases.len())
+}
+
+/// A table, a node and a limit; whether it is within, and the iterations made.
+type Asked = (Table, u16, u64, (u32, u64));
+
+fn asked_rows() -> Vec<Asked> {
+    let most = u64::MAX;
+    let t = |n: u32| example(n, &[]);
+    let t_down = Table { lengths: vec![2, DOWN, 3, 1, 9], ..t(4) };
+    let one_down = Table::new(2, 0, &[(0, 1, DOWN)], &[]);
+    let equal = Table::new(3, 0, &[(0, 1, 2), (0, 2, 2)], &[]);
+    let (longest, long) = (LONGEST_ARC as u64, || chain(3, LONGEST_ARC));
+    vec![
+        (t(4), 3, 7, (1, 9)),
+        (t(4), 3, 6, (1, 9)),
+        (t(4), 3, 5, (0, 7)),
+        (t(4), 3, 0, (0, 1)),
+        (t(4), 2, 5, (1, 5)),
+        (t(4), 2, 4, (0, 4)),
+        (t(4), 1, 2, (1, 2)),
+        (t(4), 1, 1, (0, 1)),
+        (t(4), 0, 0, (1, 0)),
+        (t(5), 4, 5, (0, 7)),
+        (t(5), 4, 10, (0, 12)),
+        (t(5), 4, 11, (0, 14)),
+        // The full runs.
+        (t(4), 0, most, (1, 0)),
+        (t(4), 1, most, (1, 2)),
+        (t(4), 2, most, (1, 5)),
+        (t(4), 3, most, (1, 9)),
+        (t(5), 4, most, (0, 14)),
+        (one_down, 1, most, (0, 0)),
+        (t_down.clone(), 3, 5, (0, 9)),
+        (t_down, 3, 6, (1, 12)),
+        (equal.clone(), 2, 1, (0, 1)),
+        (equal, 2, 2, (1, 4)),
+        (Table::new(2, 0, &[], &[]), 1, most, (0, 0)),
+        (Table::new(1, 0, &[(0, 0, 1)], &[]), 0, 0, (1, 0)),
+        (long(), 2, longest - 1, (0, 1)),
+        (long(), 2, 1 << 32, (0, 4)),
+        (long(), 2, 2 * longest - 1, (0, 4)),
+        (long(), 2, 2 * longest, (1, 6)),
+    ]
+}
+
+fn asked(entries: &dyn Entries, _: &mut Random) -> Tried {
+    let rows = asked_rows();
+    for (table, node, limit, (within, iterations)) in &rows {
+        compare::within(entries, table, *node, *limit)?;
+        let answer = entries.within(table, *node, *limit);
+        if answer != (Within { within: *within, iterations: *iterations, ..Within::default() }) {
+            return Err(format!("not the rack's figures: {answer:?} of node {node}, limit {limit}, {table:?}"));
+        }
+    }
+    Ok(rows.len())
 }
 
 const EXAMPLE_SHEET: &str = "\

@@ -63,13 +63,31 @@ impl<'a> Auction<'a> {
         }
     }
 
-    /// Reaches the origin, then iterates until every wanted node is reached or the origin has no children.
-    pub fn run(&mut self) {
+    /// Reaches the origin, then iterates until every wanted node is reached, the origin's price is above the limit, where
+    /// there is one, or the origin has no children.
+    pub fn run(&mut self, limit: Option<u64>) {
         self.reach(self.table.origin as usize);
         if self.model.has(Wrong::FirstStopForgotten) {
             self.iteration();
         }
-        while !self.stopped && !self.at_wrong_cap() && self.iteration() {}
+        while !self.stopped && !self.has_passed(limit) && !self.at_wrong_cap() && self.iteration() {}
+    }
+
+    /// The origin's price is above the limit.
+    pub fn has_passed(&self, limit: Option<u64>) -> bool {
+        let Some(limit) = limit else { return false };
+        let price = match self.model.wrong {
+            Some(Wrong::LimitOnHorizon) => self.horizon(),
+            Some(Wrong::LimitOnEveryPrice) => self.prices.iter().copied().max().unwrap_or(0),
+            _ => self.prices[self.table.origin as usize],
+        };
+        price > limit || price == limit && self.model.has(Wrong::LimitItselfPassed)
+    }
+
+    /// The largest distance reached.
+    pub fn horizon(&self) -> u64 {
+        let reached = (0..self.reached.len()).filter(|&node| self.reached[node]);
+        reached.filter_map(|node| self.bounds[node]).max().unwrap_or(0)
     }
 
     pub fn iterations(&self) -> u64 {

@@ -5,6 +5,7 @@ mod link_file;
 mod listing;
 mod planner;
 mod sheet;
+mod within;
 
 use crate::rules::*;
 
@@ -51,9 +52,20 @@ pub enum Wrong {
     ChildsPriceUnseen,
     ScansByKind,
     EachIterationScans,
+    LimitItselfPassed,
+    LimitOnHorizon,
+    LimitOnEveryPrice,
+    LimitCutTo32Bits,
+    LimitComparedAfterRun,
+    PassingUncounted,
+    PassedIsWithin,
+    NoWalkRefused,
+    AskedNodeTestedLast,
+    AskedPlaceIsNode,
+    DownLinksWithin,
 }
 
-pub const ALL_WRONG: [Wrong; 40] = [
+pub const ALL_WRONG: [Wrong; 51] = [
     Wrong::TieByFirstMet,
     Wrong::HorizonFromRawPrice,
     Wrong::RawPrices,
@@ -94,6 +106,17 @@ pub const ALL_WRONG: [Wrong; 40] = [
     Wrong::ChildsPriceUnseen,
     Wrong::ScansByKind,
     Wrong::EachIterationScans,
+    Wrong::LimitItselfPassed,
+    Wrong::LimitOnHorizon,
+    Wrong::LimitOnEveryPrice,
+    Wrong::LimitCutTo32Bits,
+    Wrong::LimitComparedAfterRun,
+    Wrong::PassingUncounted,
+    Wrong::PassedIsWithin,
+    Wrong::NoWalkRefused,
+    Wrong::AskedNodeTestedLast,
+    Wrong::AskedPlaceIsNode,
+    Wrong::DownLinksWithin,
 ];
 
 /// The rules, or with a fault.
@@ -112,6 +135,10 @@ impl Model {
 impl Entries for Model {
     fn plan(&self, table: &Table, out: PlanBuffers) -> Planned {
         self.plan_routes(table, out)
+    }
+
+    fn within(&self, table: &Table, node: u16, limit: u64) -> Within {
+        self.within_limit(table, node, limit)
     }
 
     fn list(&self, listing: &Listing, output: &mut [u16]) -> Listed {

@@ -6,17 +6,17 @@ use crate::rules::*;
 
 impl Model {
     pub fn plan_routes(&self, table: &Table, out: PlanBuffers) -> Planned {
-        if let Err(Refusal { number, place }) = self.test_table(table, &out) {
+        if let Err(Refusal { number, place }) = self.test_table(table, fit(table, &out)) {
             return Planned { number, place, ..Planned::default() };
         }
         let (present, places) = table.without(self.down());
         let mut auction = Auction::new(self, &present);
-        auction.run();
+        auction.run(None);
         self.hand_over(&present, &places, &auction, out)
     }
 
     /// The length of the arcs that are down; none has length 0.
-    fn down(&self) -> u32 {
+    pub fn down(&self) -> u32 {
         match self.wrong {
             Some(Wrong::DownByOneLess) => DOWN - 1,
             Some(Wrong::DownLinksUsed) => 0,
@@ -25,7 +25,7 @@ impl Model {
     }
 
     /// The grounds 1 to 7 in order.
-    fn test_table(&self, table: &Table, out: &PlanBuffers) -> Result<(), Refusal> {
+    pub fn test_table(&self, table: &Table, buffers_fit: bool) -> Result<(), Refusal> {
         let n = table.n as usize;
         let m = table.tails.len();
         if n == 0 || n > MOST_NODES {
@@ -34,8 +34,7 @@ impl Model {
         if !table.columns_equal() || m > MOST_ARCS {
             return refuse(2, 0);
         }
-        let (distances, prices) = (out.distances.len(), out.prices.len());
-        if distances != n || prices != n || out.tree.len() != n || out.marks.len() != m {
+        if !buffers_fit {
             return refuse(3, 0);
         }
         if table.origin as usize >= n {
@@ -78,10 +77,8 @@ impl Model {
     fn hand_over(&self, table: &Table, places: &[usize], auction: &Auction, out: PlanBuffers) -> Planned {
         let reached = |node: &usize| auction.reached[*node];
         let nodes = 0..table.n as usize;
-        let mut horizon = nodes.clone().filter(reached).filter_map(|node| auction.bounds[node]).max().unwrap_or(0);
-        if self.has(Wrong::HorizonFromRawPrice) {
-            horizon = auction.prices[table.origin as usize];
-        }
+        let from_raw_price = self.has(Wrong::HorizonFromRawPrice);
+        let horizon = if from_raw_price { auction.prices[table.origin as usize] } else { auction.horizon() };
         for node in nodes.clone() {
             let (distance, price, arc) = self.node_entries(places, auction, node, horizon);
             out.distances[node] = distance;
@@ -134,4 +131,10 @@ impl Model {
             (false, false) => 0,
         }
     }
+}
+
+/// The four buffers are n and m long.
+fn fit(table: &Table, out: &PlanBuffers) -> bool {
+    let n = table.n as usize;
+    [out.distances.len(), out.prices.len(), out.tree.len()] == [n; 3] && out.marks.len() == table.tails.len()
 }

@@ -4,7 +4,7 @@ use Rattle.auction.specs.Absent.{Down-is-all-ones, Absent}
 use Rattle.auction.proofs.Nowhere.{absent-nowhere}
 use Rattle.auction.proofs.Without.Places.{absent-closed-up}
 use Rattle.auction.proofs.Without.Walks.{walks-without-absent}
-use Rattle.auction.proofs.Without.Runs.{steps-without-absent, auction-without-absent}
+use Rattle.auction.proofs.Without.Runs.{steps-without-absent, auction-without-absent, limited-without-absent}
 use Rattle.auction.proofs.Without.Scans.{scans-without-absent}
 use Rattle.auction.proofs.Without.Handed.{plan-without-absent}
 
@@ -21,6 +21,7 @@ absent =
       walks-without-absent = walks-without-absent;
       steps-without-absent = steps-without-absent;
       auction-without-absent = auction-without-absent;
+      limited-without-absent = limited-without-absent;
       scans-without-absent = scans-without-absent;
       plan-without-absent = plan-without-absent;
     }

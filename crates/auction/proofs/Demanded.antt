@@ -3,13 +3,13 @@ use mathlib.Core.Path.{_≡_, refl, sym, ap, subst, _∙_}
 use mathlib.Core.Bool.{true, false}
 use mathlib.Core.List.{List}
 use mathlib.Core.Logic.{inl, inr, ⊎-elim}
-use mathlib.Core.Option.{none, some}
-use Prim.Native.Nat.{ℕ, zero, suc, _≤_, _<_}
+use mathlib.Core.Option.{some}
+use Prim.Native.Nat.{ℕ, _≤_, _<_}
 use native.Mathlib.Omega.{arith}
 use lib.ListN.{getD}
 use Rattle.table.specs.Table.{Table, is-table, arc-count, present-at, tail-at, walk-length, no-distance}
 use Rattle.table.specs.Refusals.{refusal, no-refusal}
-use Rattle.auction.specs.Auction.{State, auction, next, after, then-next, was-reached, distance, iterations}
+use Rattle.auction.specs.Auction.{State, auction, after, was-reached, distance, iterations}
 use Rattle.auction.specs.HandOver.{Answer, handed-over, distances, mark, marks, first-missing, route-refusal}
 use Rattle.auction.specs.Scans.{scans}
 use Rattle.auction.specs.Plan.{routes-of}
@@ -24,6 +24,7 @@ use Rattle.auction.proofs.Remembering.{scans-within}
 use Rattle.auction.proofs.Walks.{kept-link, tree-origin, tree-unreached}
 use Rattle.auction.proofs.Tally.{distance-entry, not-no-distance, reached-all, absent-mark, absent-unkept}
 use Rattle.auction.proofs.Nowhere.{in-no-walk}
+use Rattle.auction.proofs.Run.{none-after}
 use Rattle.auction.proofs.Promised.{walk-shortest, walk-given, prices-fit, prices-show, route-to-all, no-route, few-iterations, fewer-iterations, ends-by-itself, iterations-counted, earliest-link, marks-tallied, invariant}
 
 module _ (t : Table) (ws : List ℕ) (e : is-table t ws ≡ true) where
@@ -156,15 +157,7 @@ pub demands-met : Demands-met
 unfolding Demands-met
 demands-met = demands
 
--- THE COUNTS ARE PINNED. Once no iteration follows, none does later
-none-after : (t : Table) (k : ℕ) (y : State) → after k t ≡ some y → next t y ≡ none → (m : ℕ) → k < m → after m t ≡ none
-unfolding after then-next
-none-after t k y p n zero h = absurd (omega (arith, h))
-none-after t k y p n (suc m) h =
-    ⊎-elim (λ (s : k ≡ m). ap (λ (q : ℕ). then-next t (after q t)) (sym s) ∙ ap (then-next t) p ∙ n)
-    (λ (d : k ≡ m → ⊥). ap (then-next t) (none-after t k y p n m (omega (arith, h, d))))
-    (same-or k m)
-
+-- THE COUNTS ARE PINNED
 module _ {t : Table} {ws : List ℕ} where
   -- number 0 and number 8 exclude each other
   one-number : {a b : Answer} → Demands t ws a → Demands t ws b → a .number ≡ 0 → b .number ≡ 8 → ⊥

@@ -16,6 +16,7 @@ pub mod Nowhere
 pub mod Promised
 pub mod Demanded
 pub mod Made
+pub mod Limit
 pub mod Stability
 -- the table without its absent arcs: the same auction, the same plan
 pub mod Without

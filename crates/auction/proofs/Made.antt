@@ -1,5 +1,5 @@
--- What it says of a plan that no refusal of the grounds 1 to 7 applies, and that an answer 0 or 8 is the auction's. Assumes nothing.
-use mathlib.Core.Path.{_≡_, sym, _∙_}
+-- What it says of a table that none of the refusals 1 to 7 applies, what numbers they have, and that an answer 0 or 8 is the auction's. Assumes nothing.
+use mathlib.Core.Path.{_≡_, refl, sym, _∙_}
 use mathlib.Core.Bool.{Bool, true, false, _&&_, _||_, not, cond}
 use mathlib.Core.List.{List, [], _∷_}
 use mathlib.Core.Logic.{_⊎_, ⊎-elim}
@@ -7,17 +7,17 @@ use Prim.Native.Nat.{ℕ, suc, _^_, _≤_}
 use native.Mathlib.Omega.{arith}
 use lib.Dec.{ltb, leb, eqb}
 use lib.ListN.{length}
-use borrow.Author.Tests.{eqb-true, eq-eqb, ne-eqb, not-false, ltb-false}
+use borrow.Author.Tests.{eqb-true, eqb-false, eq-eqb, ne-eqb, not-false, ltb-false, leb-true}
 use Rattle.table.specs.Table.{Arc, arcs-of, table-of, is-table, most-nodes, most-arcs, most-wanted, Below}
 use Rattle.table.specs.declared.Refusal.{Refusal}
-use Rattle.table.specs.Refusals.{refusal, no-refusal, or-else, room, table-refusal, count-bad, columns-bad, rooms-fit, wanted-from, wanted-refusal, arc-fault, arcs-from, arcs-refusal}
+use Rattle.table.specs.Refusals.{refusal, no-refusal, or-else, Room, room, table-refusal, count-bad, columns-bad, rooms-fit, wanted-from, wanted-refusal, arc-fault, arcs-from, arcs-refusal}
 use Rattle.table.proofs.Basics.{both-true, either-false, same-or, true-or}
 use Rattle.auction.specs.Promises.{Unrefused-is-table}
 use Rattle.auction.specs.Plan.{rooms, plan-refusal, plan, routes-of, refused-plan}
 use Rattle.auction.proofs.Good.{unrefused-is-table, passed}
 
 -- the four buffers are as long as they have to be
-rooms-so : (n m a b c d : ℕ) → rooms-fit (rooms n m a b c d) ≡ true → (a ≡ n) × (b ≡ n) × (c ≡ n) × (d ≡ m)
+pub rooms-so : (n m a b c d : ℕ) → rooms-fit (rooms n m a b c d) ≡ true → (a ≡ n) × (b ≡ n) × (c ≡ n) × (d ≡ m)
 unfolding rooms-fit rooms room
 rooms-so n m a b c d e =
     let p = both-true (eqb a n) (eqb b n && (eqb c n && (eqb d m && true))) e in
@@ -26,8 +26,8 @@ rooms-so n m a b c d e =
     let s = both-true (eqb d m) true (r .1) in
     (eqb-true a n (p .0), eqb-true b n (q .0), eqb-true c n (r .0), eqb-true d m (s .0))
 
-module _ (n o : ℕ) (ts hs ls ws ds ps tr ms : List ℕ) where
-  -- a plan that is not refused
+module _ (n o : ℕ) (ts hs ls ws : List ℕ) (rs : List Room) where
+  -- a table that is not refused
   pub record Unrefused : Type 0 where
     -- the columns are equally long, and are a table with its wanted list
     pub heads-count : length ts ≡ length hs
@@ -36,69 +36,84 @@ module _ (n o : ℕ) (ts hs ls ws ds ps tr ms : List ℕ) where
     -- there are not too many nodes and arcs
     pub few-nodes : n ≤ most-nodes
     pub few-arcs : length ts ≤ most-arcs
-    -- and the buffers are as long as the answer
-    pub distances-long : length ds ≡ n
-    pub prices-long : length ps ≡ n
-    pub tree-long : length tr ≡ n
-    pub marks-long : length ms ≡ length ts
+    -- and the buffers are as long as they have to be
+    pub rooms-good : rooms-fit rs ≡ true
 
-  pub unrefused : Below (2 ^ 32) ls → plan-refusal n o ts hs ls ws ds ps tr ms .number ≡ 0 → Unrefused
-  unfolding plan-refusal table-refusal count-bad columns-bad Unrefused-is-table
+  pub unrefused : Below (2 ^ 32) ls → table-refusal n o ts hs ls ws rs .number ≡ 0 → Unrefused
+  unfolding table-refusal count-bad columns-bad Unrefused-is-table
   unrefused low e =
       let p = passed (eqb n 0 || ltb most-nodes n) _ 0 0 e in
       let q = passed (columns-bad (length ts) (length hs) (length ls)) _ 1 0 (p .1) in
-      let r = passed (not (rooms-fit (rooms n (length ts) (length ds) (length ps) (length tr) (length ms)))) _ 2 0 (q .1) in
+      let r = passed (not (rooms-fit rs)) _ 2 0 (q .1) in
       let c = either-false (not (eqb (length ts) (length hs) && eqb (length hs) (length ls))) (ltb most-arcs (length ts)) (q .0) in
       let h = both-true (eqb (length ts) (length hs)) (eqb (length hs) (length ls)) (not-false _ (c .0)) in
-      let fit = rooms-so n (length ts) (length ds) (length ps) (length tr) (length ms) (not-false _ (r .0)) in
       record {
         heads-count = eqb-true (length ts) (length hs) (h .0);
         lengths-count = eqb-true (length hs) (length ls) (h .1);
-        table-good = unrefused-is-table n o ts hs ls ws _ low e;
+        table-good = unrefused-is-table n o ts hs ls ws rs low e;
         few-nodes = ltb-false most-nodes n (either-false (eqb n 0) (ltb most-nodes n) (p .0) .1);
         few-arcs = ltb-false most-arcs (length ts) (c .1);
-        distances-long = fit .0;
-        prices-long = fit .1;
-        tree-long = fit .2;
-        marks-long = fit .3;
+        rooms-good = not-false _ (r .0);
       }
 
--- AN ANSWER 0 OR 8 is the auction's: no other refusal has such a number
-cond-low : (b : Bool) (x y : Refusal) (m : ℕ) → x .number ≤ m → y .number ≤ m → cond b x y .number ≤ m
-cond-low true x y m p q = p
-cond-low false x y m p q = q
+-- THE NUMBERS of these refusals are at most 7, and 3 only where a buffer does not fit
+abbrev pub Numbered : (fits : Bool) → (number : ℕ) → Type 0
+Numbered fits k = (k ≤ 7) × (k ≡ 3 → fits ≡ false)
 
-wanted-low : (i n : ℕ) (ws : List ℕ) → wanted-from i n ws .number ≤ 7
+numbered : {fits : Bool} (k : ℕ) → leb k 7 ≡ true → eqb k 3 ≡ false → Numbered fits k
+numbered k low other = (leb-true k 7 low, λ e. absurd (eqb-false k 3 other e))
+
+either-numbered : {fits : Bool} (b : Bool) (x y : Refusal) → Numbered fits (x .number) → Numbered fits (y .number) → Numbered fits (cond b x y .number)
+either-numbered true x y p q = p
+either-numbered false x y p q = q
+
+wanted-numbered : {fits : Bool} (i n : ℕ) (ws : List ℕ) → Numbered fits (wanted-from i n ws .number)
 unfolding wanted-from no-refusal refusal
-wanted-low i n [] = omega arith
-wanted-low i n (w ∷ ws) = cond-low (ltb w n) (wanted-from (suc i) n ws) (refusal 5 i) 7 (wanted-low (suc i) n ws) (omega arith)
+wanted-numbered i n [] = numbered 0 refl refl
+wanted-numbered i n (w ∷ ws) =
+    either-numbered (ltb w n) (wanted-from (suc i) n ws) (refusal 5 i) (wanted-numbered (suc i) n ws) (numbered 5 refl refl)
 
-fault-low : (n : ℕ) (a : Arc) → arc-fault n a ≤ 7
+fault-numbered : {fits : Bool} (n : ℕ) (a : Arc) → Numbered fits (arc-fault n a)
 unfolding arc-fault
-fault-low n a =
-    ⊎-elim (λ (e : (leb n (a .tail) || leb n (a .head)) ≡ true). rw e (omega arith))
+fault-numbered n a =
+    ⊎-elim (λ (e : (leb n (a .tail) || leb n (a .head)) ≡ true). rw e (numbered 6 refl refl))
     (λ (e : (leb n (a .tail) || leb n (a .head)) ≡ false).
     rw e
-    (⊎-elim (λ (z : eqb (a .arc-length) 0 ≡ true). rw z (omega arith)) (λ (z : eqb (a .arc-length) 0 ≡ false). rw z (omega arith))
+    (⊎-elim (λ (z : eqb (a .arc-length) 0 ≡ true). rw z (numbered 7 refl refl))
+    (λ (z : eqb (a .arc-length) 0 ≡ false). rw z (numbered 0 refl refl))
     (true-or (eqb (a .arc-length) 0))))
     (true-or (leb n (a .tail) || leb n (a .head)))
 
-arcs-low : (i n : ℕ) (arcs : List Arc) → arcs-from i n arcs .number ≤ 7
+arcs-numbered : {fits : Bool} (i n : ℕ) (arcs : List Arc) → Numbered fits (arcs-from i n arcs .number)
 unfolding arcs-from no-refusal refusal
-arcs-low i n [] = omega arith
-arcs-low i n (a ∷ more) =
-    cond-low (eqb (arc-fault n a) 0) (arcs-from (suc i) n more) (refusal (arc-fault n a) i) 7 (arcs-low (suc i) n more) (fault-low n a)
+arcs-numbered i n [] = numbered 0 refl refl
+arcs-numbered i n (a ∷ more) =
+    either-numbered (eqb (arc-fault n a) 0) (arcs-from (suc i) n more) (refusal (arc-fault n a) i) (arcs-numbered (suc i) n more) (fault-numbered n a)
 
+rooms-numbered : (fits : Bool) (y : Refusal) → Numbered fits (y .number) → Numbered fits (cond (not fits) (refusal 3 0) y .number)
+unfolding refusal
+rooms-numbered true y q = q
+rooms-numbered false y q = (omega arith, λ e. refl)
+
+pub refusal-numbered : (n o : ℕ) (ts hs ls ws : List ℕ) (rs : List Room) → Numbered (rooms-fit rs) (table-refusal n o ts hs ls ws rs .number)
+unfolding table-refusal or-else wanted-refusal arcs-refusal refusal
+refusal-numbered n o ts hs ls ws rs =
+    let w = either-numbered (ltb most-wanted (length ws)) (refusal 5 most-wanted) (wanted-from 0 n ws) (numbered 5 refl refl) (wanted-numbered 0 n ws) in
+    let a = arcs-numbered 0 n (arcs-of ts hs ls) in
+    either-numbered (count-bad n) (refusal 1 0) _ (numbered 1 refl refl)
+    (either-numbered (columns-bad (length ts) (length hs) (length ls)) (refusal 2 0) _ (numbered 2 refl refl)
+    (rooms-numbered (rooms-fit rs) _
+    (either-numbered (leb n o) (refusal 4 0) _ (numbered 4 refl refl)
+    (either-numbered (eqb (wanted-refusal n ws .number) 0) (arcs-refusal n (arcs-of ts hs ls)) (wanted-refusal n ws) a w))))
+
+-- AN ANSWER 0 OR 8 is the auction's: no other refusal has such a number
 module _ (n o : ℕ) (ts hs ls ws ds ps tr ms : List ℕ) where
+  abbrev plan-rooms : List Room
+  plan-rooms = rooms n (length ts) (length ds) (length ps) (length tr) (length ms)
+
   pub refusal-low : plan-refusal n o ts hs ls ws ds ps tr ms .number ≤ 7
-  unfolding plan-refusal table-refusal or-else wanted-refusal arcs-refusal refusal
-  refusal-low =
-      let w = cond-low (ltb most-wanted (length ws)) (refusal 5 most-wanted) (wanted-from 0 n ws) 7 (omega arith) (wanted-low 0 n ws) in
-      let a = arcs-low 0 n (arcs-of ts hs ls) in
-      cond-low (count-bad n) (refusal 1 0) _ 7 (omega arith)
-      (cond-low (columns-bad (length ts) (length hs) (length ls)) (refusal 2 0) _ 7 (omega arith)
-      (cond-low (not (rooms-fit (rooms n (length ts) (length ds) (length ps) (length tr) (length ms)))) (refusal 3 0) _ 7 (omega arith)
-      (cond-low (leb n o) (refusal 4 0) _ 7 (omega arith) (cond-low (eqb (wanted-refusal n ws .number) 0) (arcs-refusal n (arcs-of ts hs ls)) (wanted-refusal n ws) 7 a w))))
+  unfolding plan-refusal
+  refusal-low = refusal-numbered n o ts hs ls ws plan-rooms .0
 
   refused-number : (plan-refusal n o ts hs ls ws ds ps tr ms .number ≡ 0 → ⊥) → plan n o ts hs ls ws ds ps tr ms .number ≡ plan-refusal n o ts hs ls ws ds ps tr ms .number
   unfolding plan refused-plan
@@ -110,13 +125,14 @@ module _ (n o : ℕ) (ts hs ls ws ds ps tr ms : List ℕ) where
 
   -- an answer 0 or 8
   pub record Made : Type 0 where
-    pub fine : Unrefused n o ts hs ls ws ds ps tr ms
+    pub fine : Unrefused n o ts hs ls ws plan-rooms
     pub routes : plan n o ts hs ls ws ds ps tr ms ≡ routes-of (table-of n o ts hs ls) ws
 
   pub made : Below (2 ^ 32) ls → ((plan n o ts hs ls ws ds ps tr ms .number ≡ 0) ⊎ (plan n o ts hs ls ws ds ps tr ms .number ≡ 8)) → Made
+  unfolding plan-refusal
   made low e =
       ⊎-elim
-      (λ (z : plan-refusal n o ts hs ls ws ds ps tr ms .number ≡ 0). record { fine = unrefused n o ts hs ls ws ds ps tr ms low z; routes = routes-so z })
+      (λ (z : plan-refusal n o ts hs ls ws ds ps tr ms .number ≡ 0). record { fine = unrefused n o ts hs ls ws plan-rooms low z; routes = routes-so z })
       (λ (z : plan-refusal n o ts hs ls ws ds ps tr ms .number ≡ 0 → ⊥).
       absurd
       (⊎-elim (λ (q : plan n o ts hs ls ws ds ps tr ms .number ≡ 0). z (sym (refused-number z) ∙ q))

@@ -10,7 +10,7 @@ use lib.Dec.{eqb}
 use lib.ListN.{length, getD}
 use borrow.Author.Tests.{eqb-true, eq-eqb}
 use Rattle.table.specs.Table.{Table, is-table, is-walk, arc-count, tail-at, head-at, length-at, longest}
-use Rattle.auction.specs.Auction.{State, Bid, Ended, auction, ended, next, iteration, deletion, after, best, terminal, all-reached, was-reached, distance, iterations}
+use Rattle.auction.specs.Auction.{State, Bid, auction, next, iteration, deletion, best, terminal, all-reached, was-reached, distance}
 use Rattle.auction.specs.HandOver.{prices, first-missing}
 use Rattle.auction.specs.Promises.{Promises, last-state, route, price, link, Walk-shortest, Walk-given, Prices-fit, equal-along, Prices-show, Has-walk, No-walk, First-without-walk, Route-to-all, No-route, Few-iterations, Fewer-iterations, Ends-by-itself, Iterations-counted, Attains, Earliest-link, Marks-tallied, Never-above, Distances-stay, Ascending, Small-distances, Small-sums}
 use Rattle.table.proofs.Basics.{true-or, both-true, true-both, some-none, not-both}
@@ -27,25 +27,15 @@ use Rattle.auction.proofs.Tally.{marks-all, marks-tree}
 
 -- THE LAST STATE of a run is sound, and the run stopped there
 module _ (t : Table) (ws : List ℕ) (e : is-table t ws ≡ true) where
-  abbrev end : Finish t ws
-  end = finish e
-
-  x : State
-  x = end .last
-
   g : Good t
   g = good t ws e
 
-  last-is : last-state t ws ≡ x
-  unfolding last-state ended x
-  last-is =
-      ⊎-elim (λ (d : (all-reached ws (end .last) ≡ true) × (auction t ws ≡ ended true (end .last))). ap (λ (f : Ended). f .last) (d .1))
-      (λ (d : (all-reached ws (end .last) ≡ false) × (next t (end .last) ≡ none) × (auction t ws ≡ ended false (end .last))). ap (λ (f : Ended). f .last) (d .2))
-      (end .end)
+  abbrev end : Finish t (all-reached ws)
+  end = finish g
 
   pub invariant : Invariant t (last-state t ws)
-  unfolding x
-  invariant = subst (λ (y : State). Invariant t y) (sym last-is) (end .running .invariant)
+  unfolding last-state auction
+  invariant = end .running .invariant
 
   abbrev sound : Sound t (last-state t ws) (invariant .depth)
   sound = invariant .sound
@@ -55,31 +45,16 @@ module _ (t : Table) (ws : List ℕ) (e : is-table t ws ≡ true) where
 
   -- the reason for which it stopped
   found : auction t ws .routed ≡ true → all-reached ws last ≡ true
-  unfolding ended x
-  found r =
-      ⊎-elim
-      (λ (d : (all-reached ws (end .last) ≡ true) × (auction t ws ≡ ended true (end .last))). ap (all-reached ws) last-is ∙ d .0)
-      (λ (d : (all-reached ws (end .last) ≡ false) × (next t (end .last) ≡ none) × (auction t ws ≡ ended false (end .last))).
-      absurd (not-both (auction t ws .routed) r (ap (λ (f : Ended). f .routed) (d .2))))
-      (end .end)
+  unfolding last-state auction
+  found = end .found
 
   stuck : auction t ws .routed ≡ false → next t last ≡ none
-  unfolding ended x
-  stuck r =
-      ⊎-elim
-      (λ (d : (all-reached ws (end .last) ≡ true) × (auction t ws ≡ ended true (end .last))).
-      absurd (not-both (auction t ws .routed) (ap (λ (f : Ended). f .routed) (d .1)) r))
-      (λ (d : (all-reached ws (end .last) ≡ false) × (next t (end .last) ≡ none) × (auction t ws ≡ ended false (end .last))). ap (next t) last-is ∙ d .1)
-      (end .end)
+  unfolding last-state auction
+  stuck = end .stuck
 
   missing : auction t ws .routed ≡ false → all-reached ws last ≡ false
-  unfolding ended x
-  missing r =
-      ⊎-elim
-      (λ (d : (all-reached ws (end .last) ≡ true) × (auction t ws ≡ ended true (end .last))).
-      absurd (not-both (auction t ws .routed) (ap (λ (f : Ended). f .routed) (d .1)) r))
-      (λ (d : (all-reached ws (end .last) ≡ false) × (next t (end .last) ≡ none) × (auction t ws ≡ ended false (end .last))). ap (all-reached ws) last-is ∙ d .0)
-      (end .end)
+  unfolding last-state auction
+  missing = end .missing
 
 -- where no iteration follows, the origin has no children
 no-iteration : (t : Table) (x : State) (o : Option Bid) → best t (terminal x) x ≡ o → iteration o t (terminal x) x ≡ none → (i : ℕ) → i < arc-count t →
@@ -93,7 +68,7 @@ no-iteration t x none b e i h c =
     (true-or (eqb (terminal x) (t .origin)))
 no-iteration t x (some d) b e i h c = some-none refl e
 
-childless : (t : Table) (x : State) → next t x ≡ none → (i : ℕ) → i < arc-count t → Child t (t .origin) i x → ⊥
+pub childless : (t : Table) (x : State) → next t x ≡ none → (i : ℕ) → i < arc-count t → Child t (t .origin) i x → ⊥
 unfolding next
 childless t x e = no-iteration t x (best t (terminal x) x) refl e
 
@@ -219,20 +194,13 @@ unfolding Fewer-iterations
 fewer-iterations t ws e = fewer (g t ws e) (sound t ws e) (invariant t ws e .counts)
 
 pub ends-by-itself : Ends-by-itself
-unfolding Ends-by-itself
+unfolding Ends-by-itself auction
 ends-by-itself t ws e =
     record { found = found t ws e; stuck = stuck t ws e; missing = missing t ws e; no-cap = end t ws e .no-cap }
 
 pub iterations-counted : Iterations-counted
-unfolding Iterations-counted x
-iterations-counted t ws e =
-    let r = end t ws e .running in
-    let same = sym (last-is t ws e) in
-    record {
-      steps = subst (λ (y : State). after (iterations y) t ≡ some y) same (r .steps);
-      not-before =
-          subst (λ (y : State). (k : ℕ) (z : State) → k < iterations y → after k t ≡ some z → all-reached ws z ≡ false) same (r .not-before);
-    }
+unfolding Iterations-counted last-state auction
+iterations-counted t ws e = let r = end t ws e .running in record { steps = r .steps; not-before = r .not-before }
 
 -- THE SECOND DEMAND
 pub earliest-link : Earliest-link

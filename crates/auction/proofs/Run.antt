@@ -2,15 +2,15 @@
 use mathlib.Core.Path.{_≡_, refl, sym, ap, subst, _∙_}
 use mathlib.Core.Bool.{Bool, true, false, cond}
 use mathlib.Core.List.{List, [], _∷_}
-use mathlib.Core.Logic.{_⊎_, inl, inr, ⊎-elim}
+use mathlib.Core.Logic.{⊎-elim}
 use mathlib.Core.Option.{Option, none, some}
 use Prim.Native.Nat.{ℕ, zero, suc, _+_, _*_, _-_, _≤_, _<_}
 use native.Mathlib.Omega.{arith}
 use lib.ListN.{length, getD}
-use Rattle.table.specs.Table.{Table, arc-count, is-table, longest}
-use Rattle.auction.specs.Auction.{State, Bid, price-at, kept-at, distance, terminal, best, next, go-on, run, ended, all-reached, start, auction, after, then-next, iterations, most-iterations}
-use Rattle.table.proofs.Basics.{same-or, true-or, option-or, some-none, some-same}
-use Rattle.auction.proofs.Good.{Good, good}
+use Rattle.table.specs.Table.{Table, arc-count, longest}
+use Rattle.auction.specs.Auction.{State, Bid, Ended, price-at, kept-at, distance, terminal, best, next, go-on, run, ended, start, after, then-next, iterations, most-iterations}
+use Rattle.table.proofs.Basics.{same-or, true-or, not-both, option-or, some-none, some-same}
+use Rattle.auction.proofs.Good.{Good}
 use Rattle.auction.proofs.Steps.Effects.{estimate, status-in}
 use Rattle.auction.proofs.Steps.Bids.{best-bid}
 use Rattle.auction.proofs.Steps.Kinds.{Kind, deletes, contracts, extends, kind}
@@ -44,6 +44,15 @@ preceded t k y e =
     ⊎-elim (λ (n : after k t ≡ none). absurd (some-none e (ap (then-next t) n)))
     (λ (x : (x : State) × (after k t ≡ some x)). (x .0, x .1, sym (ap (then-next t) (x .1)) ∙ e))
     (option-or (after k t))
+
+-- once no iteration follows, none does later
+pub none-after : (t : Table) (k : ℕ) (y : State) → after k t ≡ some y → next t y ≡ none → (m : ℕ) → k < m → after m t ≡ none
+unfolding after then-next
+none-after t k y p n zero h = absurd (omega (arith, h))
+none-after t k y p n (suc m) h =
+    ⊎-elim (λ (s : k ≡ m). ap (λ (q : ℕ). then-next t (after q t)) (sym s) ∙ ap (then-next t) p ∙ n)
+    (λ (d : k ≡ m → ⊥). ap (then-next t) (none-after t k y p n m (omega (arith, h, d))))
+    (same-or k m)
 
 -- every state that a run passes
 pub passed : (t : Table) → Good t → (k : ℕ) (x : State) → after k t ≡ some x → Invariant t x × (iterations x ≡ k)
@@ -102,8 +111,12 @@ within t g x i =
       never-above = λ b e. never-above s (terminal x) b (best-bid t (terminal x) x b e);
     }
 
+-- THE WHOLE RUN that ends when `stop` holds: the auction's is until every wanted node has been reached
+abbrev pub until : (stop : State → Bool) → Table → Ended
+until stop t = run (suc (most-iterations (t .n))) stop t (start t)
+
 -- X IS A STATE OF THE RUN
-pub record Running (t : Table) (ws : List ℕ) (x : State) : Type 0 where
+pub record Running (t : Table) (stop : State → Bool) (x : State) : Type 0 where
   -- the table is not refused
   pub good : Good t
   -- x is sound and its counts are bounded,
@@ -114,29 +127,28 @@ pub record Running (t : Table) (ws : List ℕ) (x : State) : Type 0 where
   pub few : iterations x ≤ most-iterations (t .n)
   -- the auction comes to x after just so many iterations,
   pub steps : after (iterations x) t ≡ some x
-  -- and before, not every wanted node had been reached;
-  pub not-before : (k : ℕ) (y : State) → k < iterations x → after k t ≡ some y → all-reached ws y ≡ false
+  -- and before, it had not stopped;
+  pub not-before : (k : ℕ) (y : State) → k < iterations x → after k t ≡ some y → stop y ≡ false
   -- going on from x with what is left of the count comes to the end of the whole run
   pub left : (more : ℕ) →
-      run ((suc (most-iterations (t .n)) - iterations x) + more) (all-reached ws) t x ≡ run (suc (most-iterations (t .n)) + more) (all-reached ws) t (start t)
+      run ((suc (most-iterations (t .n)) - iterations x) + more) stop t x ≡ run (suc (most-iterations (t .n)) + more) stop t (start t)
 
 -- THE END OF A RUN
-pub record Finish (t : Table) (ws : List ℕ) : Type 0 where
+pub record Finish (t : Table) (stop : State → Bool) : Type 0 where
   -- it is a state of the run,
-  pub last : State
-  pub running : Running t ws last
-  -- in which every wanted node has been reached, or from which no iteration follows,
-  pub end : ((all-reached ws last ≡ true) × (auction t ws ≡ ended true last)) ⊎
-      ((all-reached ws last ≡ false) × (next t last ≡ none) × (auction t ws ≡ ended false last))
+  pub running : Running t stop (until stop t .last)
+  -- in which the run stops, or from which no iteration follows,
+  pub found : until stop t .routed ≡ true → stop (until stop t .last) ≡ true
+  pub missing : until stop t .routed ≡ false → stop (until stop t .last) ≡ false
+  pub stuck : until stop t .routed ≡ false → next t (until stop t .last) ≡ none
   -- and the same however much further the run could have counted down
-  pub no-cap : (more : ℕ) → run (suc (most-iterations (t .n)) + more) (all-reached ws) t (start t) ≡ auction t ws
+  pub no-cap : (more : ℕ) → run (suc (most-iterations (t .n)) + more) stop t (start t) ≡ until stop t
 
-module _ {t : Table} {ws : List ℕ} where
+module _ {t : Table} {stop : State → Bool} where
   -- the run begins with the start
-  pub begins : is-table t ws ≡ true → Running t ws (start t)
+  pub begins : Good t → Running t stop (start t)
   unfolding after
-  begins e =
-      let g = good t ws e in
+  begins g =
       let i = started t g in
       let zero-yet = started-iterations t g in
       record {
@@ -149,10 +161,10 @@ module _ {t : Table} {ws : List ℕ} where
         left =
             λ more.
             let same : (suc (most-iterations (t .n)) - iterations (start t)) + more ≡ suc (most-iterations (t .n)) + more = omega (arith, zero-yet) in
-            ap (λ (k : ℕ). run k (all-reached ws) t (start t)) same;
+            ap (λ (k : ℕ). run k stop t (start t)) same;
       }
 
-  module _ {x : State} (r : Running t ws x) where
+  module _ {x : State} (r : Running t stop x) where
     abbrev fuel : ℕ
     fuel = most-iterations (t .n) - iterations x
 
@@ -160,24 +172,24 @@ module _ {t : Table} {ws : List ℕ} where
     one-left more = omega (arith, r .few)
 
     -- at an end, however much is left
-    ends-done : all-reached ws x ≡ true → (more : ℕ) → run (suc (most-iterations (t .n)) + more) (all-reached ws) t (start t) ≡ ended true x
+    ends-done : stop x ≡ true → (more : ℕ) → run (suc (most-iterations (t .n)) + more) stop t (start t) ≡ ended true x
     unfolding run
     ends-done e more =
         sym (r .left more)
-        ∙ ap (λ (k : ℕ). run k (all-reached ws) t x) (one-left more)
-        ∙ ap (λ (c : Bool). cond c (ended true x) (go-on (next t x) x (λ y. run (fuel + more) (all-reached ws) t y))) e
+        ∙ ap (λ (k : ℕ). run k stop t x) (one-left more)
+        ∙ ap (λ (c : Bool). cond c (ended true x) (go-on (next t x) x (λ y. run (fuel + more) stop t y))) e
 
-    ends-stuck : all-reached ws x ≡ false → next t x ≡ none → (more : ℕ) →
-        run (suc (most-iterations (t .n)) + more) (all-reached ws) t (start t) ≡ ended false x
+    ends-stuck : stop x ≡ false → next t x ≡ none → (more : ℕ) →
+        run (suc (most-iterations (t .n)) + more) stop t (start t) ≡ ended false x
     unfolding run go-on
     ends-stuck e n more =
         sym (r .left more)
-        ∙ ap (λ (k : ℕ). run k (all-reached ws) t x) (one-left more)
-        ∙ ap (λ (c : Bool). cond c (ended true x) (go-on (next t x) x (λ y. run (fuel + more) (all-reached ws) t y))) e
-        ∙ ap (λ (o : Option State). go-on o x (λ y. run (fuel + more) (all-reached ws) t y)) n
+        ∙ ap (λ (k : ℕ). run k stop t x) (one-left more)
+        ∙ ap (λ (c : Bool). cond c (ended true x) (go-on (next t x) x (λ y. run (fuel + more) stop t y))) e
+        ∙ ap (λ (o : Option State). go-on o x (λ y. run (fuel + more) stop t y)) n
 
     -- the next state is one of the run
-    pub goes-on : (y : State) → all-reached ws x ≡ false → next t x ≡ some y → Running t ws y × (iterations y ≡ suc (iterations x))
+    pub goes-on : (y : State) → stop x ≡ false → next t x ≡ some y → Running t stop y × (iterations y ≡ suc (iterations x))
     unfolding run go-on after then-next
     goes-on y e n =
         let g = r .good in
@@ -194,50 +206,90 @@ module _ {t : Table} {ws : List ℕ} where
                 λ k z h p.
                 ⊎-elim
                 (λ (q : k ≡ iterations x).
-                let same : x ≡ z = some-same (r .steps) (ap (λ (a : ℕ). after a t) (sym q) ∙ p) in ap (all-reached ws) (sym same) ∙ e)
+                let same : x ≡ z = some-same (r .steps) (ap (λ (a : ℕ). after a t) (sym q) ∙ p) in ap stop (sym same) ∙ e)
                 (λ (q : k ≡ iterations x → ⊥). r .not-before k z (omega (arith, s .counted, h, q)) p)
                 (same-or k (iterations x));
             left =
                 λ more.
                 let same : (suc (most-iterations (t .n)) - iterations y) + more ≡ fuel + more = omega (arith, s .counted, r .few) in
-                ap (λ (k : ℕ). run k (all-reached ws) t y) same
+                ap (λ (k : ℕ). run k stop t y) same
                 ∙ sym
-                (ap (λ (k : ℕ). run k (all-reached ws) t x) (one-left more)
-                ∙ ap (λ (c : Bool). cond c (ended true x) (go-on (next t x) x (λ w. run (fuel + more) (all-reached ws) t w))) e
-                ∙ ap (λ (o : Option State). go-on o x (λ w. run (fuel + more) (all-reached ws) t w)) n)
+                (ap (λ (k : ℕ). run k stop t x) (one-left more)
+                ∙ ap (λ (c : Bool). cond c (ended true x) (go-on (next t x) x (λ w. run (fuel + more) stop t w))) e
+                ∙ ap (λ (o : Option State). go-on o x (λ w. run (fuel + more) stop t w)) n)
                 ∙ r .left more;
           },
           s .counted,
         )
 
-    no-more : run (suc (most-iterations (t .n)) + 0) (all-reached ws) t (start t) ≡ auction t ws
-    unfolding auction
-    no-more = let same : suc (most-iterations (t .n)) + 0 ≡ suc (most-iterations (t .n)) = omega arith in ap (λ (k : ℕ). run k (all-reached ws) t (start t)) same
+    no-more : run (suc (most-iterations (t .n)) + 0) stop t (start t) ≡ until stop t
+    no-more = let same : suc (most-iterations (t .n)) + 0 ≡ suc (most-iterations (t .n)) = omega arith in ap (λ (k : ℕ). run k stop t (start t)) same
 
-    pub done : all-reached ws x ≡ true → auction t ws ≡ ended true x
+    pub done : stop x ≡ true → until stop t ≡ ended true x
     done e = sym no-more ∙ ends-done e 0
 
-    pub stuck : all-reached ws x ≡ false → next t x ≡ none → auction t ws ≡ ended false x
+    pub stuck : stop x ≡ false → next t x ≡ none → until stop t ≡ ended false x
     stuck e n = sym no-more ∙ ends-stuck e n 0
 
-  by-reached : (x : State) → ((y : State) → iterations y ≡ suc (iterations x) → Running t ws y → Finish t ws) → Running t ws x → Finish t ws
-  by-reached x on r =
-      ⊎-elim
-      (λ (e : all-reached ws x ≡ true).
-      record { last = x; running = r; end = inl (e, done r e); no-cap = λ more. ends-done r e more ∙ sym (done r e) })
-      (λ (e : all-reached ws x ≡ false).
-      ⊎-elim
-      (λ (n : next t x ≡ none).
-      record { last = x; running = r; end = inr (e, n, stuck r e n); no-cap = λ more. ends-stuck r e n more ∙ sym (stuck r e n) })
+  finish-done : {x : State} → Running t stop x → stop x ≡ true → Finish t stop
+  unfolding ended
+  finish-done {x} r e =
+      let same = done r e in
+      let last : until stop t .last ≡ x = ap (λ (f : Ended). f .last) same in
+      let routed : until stop t .routed ≡ true = ap (λ (f : Ended). f .routed) same in
+      record {
+        running = subst (λ (y : State). Running t stop y) (sym last) r;
+        found = λ q. ap stop last ∙ e;
+        missing = λ q. absurd (not-both (until stop t .routed) routed q);
+        stuck = λ q. absurd (not-both (until stop t .routed) routed q);
+        no-cap = λ more. ends-done r e more ∙ sym same;
+      }
+
+  finish-stuck : {x : State} → Running t stop x → stop x ≡ false → next t x ≡ none → Finish t stop
+  unfolding ended
+  finish-stuck {x} r e n =
+      let same = stuck r e n in
+      let last : until stop t .last ≡ x = ap (λ (f : Ended). f .last) same in
+      let routed : until stop t .routed ≡ false = ap (λ (f : Ended). f .routed) same in
+      record {
+        running = subst (λ (y : State). Running t stop y) (sym last) r;
+        found = λ q. absurd (not-both (until stop t .routed) q routed);
+        missing = λ q. ap stop last ∙ e;
+        stuck = λ q. ap (next t) last ∙ n;
+        no-cap = λ more. ends-stuck r e n more ∙ sym same;
+      }
+
+  by-stop : (x : State) → ((y : State) → iterations y ≡ suc (iterations x) → Running t stop y → Finish t stop) → Running t stop x → Finish t stop
+  by-stop x on r =
+      ⊎-elim (λ (e : stop x ≡ true). finish-done r e)
+      (λ (e : stop x ≡ false).
+      ⊎-elim (λ (n : next t x ≡ none). finish-stuck r e n)
       (λ (y : (y : State) × (next t x ≡ some y)).
       let q = goes-on r (y .0) e (y .1) in
       on (y .0) (q .1) (q .0))
       (option-or (next t x)))
-      (true-or (all-reached ws x))
+      (true-or (stop x))
 
-  finish-from : (k : ℕ) (x : State) → most-iterations (t .n) ≤ k + iterations x → Running t ws x → Finish t ws
-  finish-from zero x h r = by-reached x (λ y e q. absurd (omega (arith, h, e, q .few))) r
-  finish-from (suc k) x h r = by-reached x (λ y e q. finish-from k y (omega (arith, h, e)) q) r
+  finish-from : (k : ℕ) (x : State) → most-iterations (t .n) ≤ k + iterations x → Running t stop x → Finish t stop
+  finish-from zero x h r = by-stop x (λ y e q. absurd (omega (arith, h, e, q .few))) r
+  finish-from (suc k) x h r = by-stop x (λ y e q. finish-from k y (omega (arith, h, e)) q) r
 
-  pub finish : is-table t ws ≡ true → Finish t ws
-  finish e = finish-from (most-iterations (t .n)) (start t) (omega arith) (begins e)
+  pub finish : Good t → Finish t stop
+  finish g = finish-from (most-iterations (t .n)) (start t) (omega arith) (begins g)
+
+-- ONE RUN FOR TWO STOPS, where they agree on every state that satisfies the invariant
+module _ {t : Table} {stop other : State → Bool} (g : Good t) (agree : (x : State) → Invariant t x → stop x ≡ other x) where
+  same-from : (k : ℕ) (x : State) → Invariant t x → run k stop t x ≡ run k other t x
+  unfolding run go-on
+  same-from zero x i = ap (λ (b : Bool). ended b x) (agree x i)
+  same-from (suc k) x i =
+      ⊎-elim (λ (e : other x ≡ true). rw (agree x i, e))
+      (λ (e : other x ≡ false).
+      rw (agree x i, e)
+      (⊎-elim (λ (n : next t x ≡ none). rw n)
+      (λ (y : (y : State) × (next t x ≡ some y)). rw (y .1) (same-from k (y .0) (stepped t g x i (y .0) (y .1) .invariant)))
+      (option-or (next t x))))
+      (true-or (other x))
+
+  pub same-run : until stop t ≡ until other t
+  same-run = same-from (suc (most-iterations (t .n))) (start t) (started t g)

@@ -12,7 +12,7 @@ use borrow.Author.Tests.{eqb-true, lt-ltb, eq-eqb}
 use Rattle.table.specs.Table.{Table, arc-count, tail-at, head-at, length-at, leads, is-walk, walk-length, no-arc}
 use Rattle.auction.specs.Auction.{State, bound-at, kept-at, status-at, distance, or-zero, was-reached, price-at, deleted}
 use Rattle.auction.specs.HandOver.{horizon, prices, tree, arc-or-none, back-from, returned}
-use Rattle.table.proofs.Basics.{same-or, below-or, true-or, true-both, option-or}
+use Rattle.table.proofs.Basics.{same-or, below-or, true-or, true-both, not-both, option-or}
 use Rattle.auction.proofs.Sums.{column, past-column, greatest-bound, greatest-least}
 use Rattle.auction.proofs.Good.{Good}
 use Rattle.auction.proofs.Back.{first, at-origin, one-back}
@@ -164,6 +164,26 @@ module _ (t : Table) (g : Good t) (x : State) (dep : ℕ → ℕ) (s : Sound t x
 
   pub no-shorter : (is : List ℕ) (v : ℕ) → was-reached x v ≡ true → is-walk t is v ≡ true → distance x v ≤ walk-length t is
   no-shorter is v r e = omega (arith, far-walk is v e, far-reached v r)
+
+  -- A WALK TO A NODE THAT WAS NOT REACHED is at least as long as the origin's price: so is the bound of the first such node on it
+  unreached-leads : (is : List ℕ) (u v : ℕ) → leads t u is v ≡ true → was-reached x u ≡ true → was-reached x v ≡ false →
+      price-at x (t .origin) ≤ distance x u + walk-length t is
+  unfolding leads walk-length
+  unreached-leads [] u v e r q = absurd (not-both (was-reached x u) r (ap (was-reached x) (eqb-true u v e) ∙ q))
+  unreached-leads (i ∷ is) u v e r q =
+      let f = first t u i is v e in
+      let tail : was-reached x (tail-at t i) ≡ true = ap (was-reached x) (f .leaves) ∙ r in
+      let a = s .relaxed i (f .listed) (reached-status x (tail-at t i) tail) in
+      let here : distance x (tail-at t i) ≡ distance x u = ap (distance x) (f .leaves) in
+      ⊎-elim
+      (λ (h : was-reached x (head-at t i) ≡ true). omega (arith, unreached-leads is (head-at t i) v (f .rest) h q, a .low, here))
+      (λ (h : was-reached x (head-at t i) ≡ false).
+      omega (arith, unreached-far nodes (head-at t i) (a .bounded) (unreached-status x (head-at t i) h), a .low, here))
+      (true-or (was-reached x (head-at t i)))
+
+  pub unreached-walk : (is : List ℕ) (v : ℕ) → was-reached x v ≡ false → is-walk t is v ≡ true → price-at x (t .origin) ≤ walk-length t is
+  unfolding is-walk
+  unreached-walk is v q e = omega (arith, unreached-leads is (t .origin) v e origin-reached q, origin-distance)
 
   -- THE TREE
   pub tree-entry : (v k : ℕ) → was-reached x v ≡ true → kept-at x v ≡ some k → getD (tree t x) v no-arc ≡ k

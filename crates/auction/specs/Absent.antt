@@ -12,6 +12,7 @@ use Rattle.auction.specs.Scans.{scans}
 use Rattle.auction.specs.HandOver.{Answer, mark, how-many}
 use Rattle.auction.specs.Plan.{routes-of}
 use Rattle.auction.specs.Demands.{walk-of}
+use Rattle.auction.specs.Limit.{limited}
 
 -- DOWN is the number of 32 ones.
 unfoldable pub Down-is-all-ones : Type 0
@@ -95,6 +96,11 @@ unfoldable pub Auction-without-absent : Type 0
 Auction-without-absent =
     (t : Table) (ws : List ℕ) → is-table t ws ≡ true → auction t ws ≡ told-end (place-of t) (auction (without-absent t) ws)
 
+-- So is the run within a limit.
+unfoldable pub Limited-without-absent : Type 0
+Limited-without-absent =
+    (t : Table) (ws : List ℕ) (limit : ℕ) → is-table t ws ≡ true → limited t ws limit ≡ told-end (place-of t) (limited (without-absent t) ws limit)
+
 -- The scans of the first k iterations are as many.
 unfoldable pub Scans-without-absent : Type 0
 Scans-without-absent = (t : Table) (k : ℕ) → is-table t [] ≡ true → scans k t ≡ scans k (without-absent t)
@@ -129,5 +135,6 @@ pub record Absent : Type 0 where
   pub walks-without-absent : Walks-without-absent
   pub steps-without-absent : Steps-without-absent
   pub auction-without-absent : Auction-without-absent
+  pub limited-without-absent : Limited-without-absent
   pub scans-without-absent : Scans-without-absent
   pub plan-without-absent : Plan-without-absent

@@ -4,6 +4,7 @@ pub mod HandOver
 pub mod Plan
 pub mod Promises
 pub mod Demands
+pub mod Limit
 pub mod Absent
 pub mod Stability
 pub mod Rack

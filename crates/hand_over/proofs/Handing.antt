@@ -11,7 +11,7 @@ use borrow.Author.Tests.{ltb-true, lt-ltb, le-ltb, eq-eqb, ne-eqb}
 use Rattle.table.specs.Table.{Table, arc-count, down, no-arc, no-distance}
 use Rattle.table.specs.declared.Refusal.{Refusal}
 use Rattle.table.specs.Refusals.{refusal, no-refusal}
-use Rattle.auction.specs.Auction.{State, Ended, ended, auction, iterations, was-reached, distance, kept-at, is-kept}
+use Rattle.auction.specs.Auction.{State, auction, iterations, was-reached, distance, kept-at, is-kept}
 use Rattle.auction.specs.HandOver.{answer, handed-over, route-refusal, entries, greatest, sum, horizon, reached-count, distances, prices, tree, marks, mark, arc-or-none}
 use Rattle.table.proofs.Basics.{same-or, true-or}
 use Rattle.table.proofs.Present.{present-tail, down-absent, up-present}
@@ -132,23 +132,20 @@ at-most-one true = omega arith
 at-most-one false = omega arith
 
 -- THE WHOLE ANSWER
-route-so : (t : Table) (ws : List ℕ) (missing scanned : ℕ) (x : State) → Ran t ws missing scanned x → (f : Refusal) →
-    f ≡ cond (eqb missing (length ws)) no-refusal (refusal 8 missing) → f ≡ route-refusal ws (auction t ws)
-unfolding route-refusal ended
-route-so t ws missing scanned x ran f e =
-    rw (ran .ended-so) (subst (λ (m : ℕ). f ≡ cond (eqb missing (length ws)) no-refusal (refusal 8 m)) (ran .first-so) e)
+module _ (t : Table) (ws : List ℕ) (missing scanned : ℕ) (x : State) (ran : Ran t ws (auction t ws) missing scanned x)
+    (routed : auction t ws .routed ≡ eqb missing (length ws)) where
+  route-so : (f : Refusal) → f ≡ cond (eqb missing (length ws)) no-refusal (refusal 8 missing) → f ≡ route-refusal ws (auction t ws)
+  unfolding route-refusal
+  route-so f e =
+      rw (routed, ran .last-so) (subst (λ (m : ℕ). f ≡ cond (eqb missing (length ws)) no-refusal (refusal 8 m)) (ran .first-so) e)
 
-last-so : (t : Table) (ws : List ℕ) (missing scanned : ℕ) (x : State) → Ran t ws missing scanned x → auction t ws .last ≡ x
-unfolding ended
-last-so t ws missing scanned x ran = ap (λ (e : Ended). e .last) (ran .ended-so)
-
-pub assembled : (t : Table) (ws : List ℕ) (missing scanned : ℕ) (x : State) → Ran t ws missing scanned x → (f : Refusal) (reached h i c e d : ℕ) (ds ps ts ms : List ℕ) →
-    f ≡ cond (eqb missing (length ws)) no-refusal (refusal 8 missing) → reached ≡ reached-count t x → h ≡ horizon t x → i ≡ iterations x →
-    c ≡ x .contractions → e ≡ x .extensions → d ≡ x .deletions → ds ≡ distances t x → ps ≡ prices t x → ts ≡ tree t x → ms ≡ marks t x →
-    answer (f .number) (f .place) reached h i c e d scanned ds ps ts ms ≡ routes-of t ws
-unfolding routes-of handed-over refusal
-assembled t ws missing scanned x ran f reached h i c e d ds ps ts ms ef er eh ei ec ee ed ads aps ats ams =
-    let r = route-so t ws missing scanned x ran f ef in
-    let number : f .number ≡ route-refusal ws (auction t ws) .number = ap (λ (q : Refusal). q .number) r in
-    let place : f .place ≡ route-refusal ws (auction t ws) .place = ap (λ (q : Refusal). q .place) r in
-    rw (number, place, er, eh, ei, ec, ee, ed, ran .scans-so, ads, aps, ats, ams, last-so t ws missing scanned x ran)
+  pub assembled : (f : Refusal) (reached h i c e d : ℕ) (ds ps ts ms : List ℕ) →
+      f ≡ cond (eqb missing (length ws)) no-refusal (refusal 8 missing) → reached ≡ reached-count t x → h ≡ horizon t x → i ≡ iterations x →
+      c ≡ x .contractions → e ≡ x .extensions → d ≡ x .deletions → ds ≡ distances t x → ps ≡ prices t x → ts ≡ tree t x → ms ≡ marks t x →
+      answer (f .number) (f .place) reached h i c e d scanned ds ps ts ms ≡ routes-of t ws
+  unfolding routes-of handed-over refusal
+  assembled f reached h i c e d ds ps ts ms ef er eh ei ec ee ed ads aps ats ams =
+      let r = route-so f ef in
+      let number : f .number ≡ route-refusal ws (auction t ws) .number = ap (λ (q : Refusal). q .number) r in
+      let place : f .place ≡ route-refusal ws (auction t ws) .place = ap (λ (q : Refusal). q .place) r in
+      rw (number, place, er, eh, ei, ec, ee, ed, ran .scans-so, ads, aps, ats, ams, ran .last-so)

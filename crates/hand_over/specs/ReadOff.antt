@@ -6,7 +6,7 @@ use Prim.Native.Nat.{ℕ, _≤_, _<_}
 use lib.Dec.{ltb, eqb}
 use lib.ListN.{length, getD}
 use Rattle.table.specs.Table.{Table, arc-count, arc-at, head-at, length-at, down, no-distance, most-nodes, most-arcs}
-use Rattle.auction.specs.Auction.{State}
+use Rattle.auction.specs.Auction.{State, auction}
 use Rattle.auction.specs.HandOver.{Answer, mark-number}
 use Rattle.auction.specs.Plan.{routes-of}
 use Rattle.steps.specs.declared.state.Progress.{Progress}
@@ -70,4 +70,5 @@ mark-entry tails heads lengths kept status i =
 abbrev pub Hands-over : (end : RunEnd) → (wanted : ℕ) → (tails heads lengths bound kept status : List ℕ) → Answer → Type 0
 Hands-over end wanted tails heads lengths bound kept status answer =
     (t : Table) (ws path price : List ℕ) → t .n ≡ length status → Arcs-held t tails heads lengths → length ws ≡ wanted →
-    Ran t ws (end .missing) (end .scans) (seen path price bound kept status (end .progress)) → answer ≡ routes-of t ws
+    Ran t ws (auction t ws) (end .missing) (end .scans) (seen path price bound kept status (end .progress)) →
+    auction t ws .routed ≡ eqb (end .missing) wanted → answer ≡ routes-of t ws

@@ -1,12 +1,14 @@
-// The library for firmware: the four entry points under C names, nothing else. include/kestrelore.h declares them; each has the contract of the function
+// The library for firmware: the five entry points under C names, nothing else. include/kestrelore.h declares them; each has the contract of the function
 // that it hands on to.
 ghost use Rattle.planner.specs.Plan.{Plans};
+ghost use Rattle.planner.specs.Limit.{Answers-limit};
 ghost use Rattle.paths.specs.Listing.{Lists-path};
 ghost use Rattle.link_file.specs.Entries.{Reads-file, Writes-file};
 use hand_over::Planned;
 use link_file::TableRead;
 use link_file::Written;
 use paths::Listed;
+use planner::Within;
 
 // Plans the routes of a link table.
 #[no_mangle]
@@ -36,6 +38,22 @@ pub extern "C" fn kestrelore_plan_routes(
         tree,
         marks,
     )
+}
+
+// Whether a node is within a limit.
+#[no_mangle]
+pub extern "C" fn kestrelore_within_limit(
+    n: u32,
+    origin: u16,
+    node: u16,
+    limit: u64,
+    tails: &[u16],
+    heads: &[u16],
+    lengths: &[u32],
+) -> Within
+    ensures { λ r. ⌜ Answers-limit n origin node limit tails heads lengths r ⌝ }
+{
+    planner::within_limit(n, origin, node, limit, tails, heads, lengths)
 }
 
 // Lists the nodes of a path.

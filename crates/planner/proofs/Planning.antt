@@ -1,31 +1,63 @@
 -- From the run to the hand-over, and from the refusals to the run. Assumes nothing.
-use mathlib.Core.Path.{_≡_, refl, sym, _∙_}
-use mathlib.Core.Bool.{true}
+use mathlib.Core.Path.{_≡_, refl, sym, ap, subst, _∙_}
+use mathlib.Core.Bool.{true, false}
 use mathlib.Core.List.{List}
-use Prim.Native.Nat.{ℕ, _^_, _≤_, _<_}
+use mathlib.Core.Logic.{⊎-elim}
+use Prim.Native.Nat.{ℕ, _*_, _^_, _≤_, _<_}
 use native.Mathlib.Omega.{arith}
+use lib.Dec.{eqb}
 use lib.ListN.{length, getD, take}
 use lib.Seq.{length-take-le}
 use borrow.Author.Tests.{lt-ltb, eq-eqb, ne-eqb}
-use Rattle.table.specs.Table.{Table, table, table-of, is-table, most-nodes, Below, most-wanted}
+use Rattle.table.specs.Table.{Table, table, table-of, is-table, most-nodes, longest, Below, most-wanted}
 use Rattle.table.specs.declared.Refusal.{Refusal}
 use Rattle.table.specs.Refusals.{refusal}
-use Rattle.auction.specs.Auction.{fresh, was-reached}
+use Rattle.auction.specs.Auction.{State, Ended, fresh, was-reached, all-reached, auction}
 use Rattle.auction.specs.HandOver.{Answer, answer}
-use Rattle.table.proofs.Basics.{inside}
+use Rattle.auction.specs.Promises.{last-state, Ends-by-itself}
+use Rattle.auction.specs.Limit.{Unlimited}
+use Rattle.table.proofs.Basics.{inside, same-or, true-or}
 use Rattle.auction.proofs.Good.{good, parts}
-use Rattle.auction.proofs.Made.{unrefused}
+use Rattle.auction.proofs.Promised.{ends-by-itself}
+use Rattle.auction.proofs.Limit.{unlimited}
+use Rattle.auction.proofs.Made.{rooms-so, unrefused}
 use Rattle.steps.specs.declared.state.Progress.{Progress}
 use Rattle.steps.specs.declared.state.RunState.{RunState}
-use Rattle.steps.specs.Seen.{seen, held, first-of}
+use Rattle.steps.specs.Seen.{seen, held, first-of, Sized}
 use Rattle.steps.specs.Steps.{Ran}
 use Rattle.steps.proofs.Arrays.{seen-bound, seen-status, no-bound}
+use Rattle.solver.specs.Runs.{Ran-within}
+use Rattle.solver.proofs.run.Wanted.{some-missing, none-missing}
 use Rattle.table.proofs.Columns.{count-so, end-so, head-so, length-so, nodes-so, origin-so}
 use Rattle.auction.specs.Plan.{plan-refusal, plan, routes-of, refused-plan}
 use Rattle.hand_over.specs.ReadOff.{Known, Arc-ends, Fitting, Arcs-held}
 
--- AFTER THE RUN
-module _ (t : Table) (ws : List ℕ) (m c : ℕ) (p u b k s : List ℕ) (g : Progress) (ran : Ran t ws m c (seen p u b k s g)) where
+-- AFTER THE RUN: whether a wanted node is missing
+pub all-found : {t : Table} {ws : List ℕ} {e : Ended} {m c : ℕ} {x : State} → Ran t ws e m c x → all-reached ws x ≡ eqb m (length ws)
+all-found {ws = ws} {m = m} {x = x} ran =
+    ⊎-elim
+    (λ (z : m ≡ length ws). none-missing ws x (omega (arith, z, ran .first-so)) ∙ sym (eq-eqb m (length ws) z))
+    (λ (z : m ≡ length ws → ⊥). some-missing ws x (omega (arith, z, ran .first-so, ran .inside)) ∙ sym (ne-eqb m (length ws) z))
+    (same-or m (length ws))
+
+-- without a limit it is the plan's
+module _ {t : Table} {ws : List ℕ} (ok : is-table t ws ≡ true) where
+  pub ran-unlimited : (limit : ℕ) {m c : ℕ} {x : State} → most-nodes * longest ≤ limit → Ran-within t ws limit m c x → Ran t ws (auction t ws) m c x
+  unfolding Unlimited
+  ran-unlimited limit {m} {c} {x} h ran =
+      subst (λ (e : Ended). Ran t ws e m c x) (unlimited t ws limit ok (omega (arith, h, good t ws ok .few-nodes))) ran
+
+  pub routed-so : {m c : ℕ} {x : State} → Ran t ws (auction t ws) m c x → auction t ws .routed ≡ eqb m (length ws)
+  unfolding Ends-by-itself last-state
+  routed-so ran =
+      let end = ends-by-itself t ws ok in
+      let found = ap (all-reached ws) (ran .last-so) ∙ all-found ran in
+      ⊎-elim (λ (r : auction t ws .routed ≡ true). r ∙ sym (end .found r) ∙ found)
+      (λ (r : auction t ws .routed ≡ false). r ∙ sym (end .missing r) ∙ found)
+      (true-or (auction t ws .routed))
+
+-- and the arrays can be handed over
+module _ (t : Table) (ws : List ℕ) (e : Ended) (m c : ℕ) (p u b k s : List ℕ) (g : Progress) (ran : Ran t ws e m c (seen p u b k s g)) where
   reached-so : (v : ℕ) → 0 < getD s v 0 → was-reached (seen p u b k s g) v ≡ true
   unfolding was-reached
   reached-so v h = rw (seen-status p u b k s g v) (lt-ltb 0 (getD s v 0) h)
@@ -82,8 +114,21 @@ module _ (n o : ℕ) (ts hs ls ws : List ℕ) (eh : length hs ≡ length ts) (el
 pub part-fits : (l : List ℕ) (n : ℕ) → length l ≡ most-nodes → n ≤ most-nodes → n ≤ length l
 part-fits l n e h = omega arith
 
-pub part-long : (l : List ℕ) (n : ℕ) → length l ≡ most-nodes → n ≤ most-nodes → n ≡ length (take n l)
-part-long l n e h = sym (length-take-le n l (omega arith))
+part-long : (l : List ℕ) (n : ℕ) → length l ≡ most-nodes → n ≤ most-nodes → length (take n l) ≡ n
+part-long l n e h = length-take-le n l (omega arith)
+
+pub parts-long : (x : RunState) (n : ℕ) → (length (x .path) ≡ most-nodes) × Sized most-nodes (x .price) (x .bound) (x .kept) (x .status) → n ≤ most-nodes →
+    let y = first-of n x in (length (y .path) ≡ n) × Sized n (y .price) (y .bound) (y .kept) (y .status)
+parts-long x n long h =
+    let sized = long .1 in (
+      part-long (x .path) n (long .0) h,
+      record {
+        prices = part-long (x .price) n (sized .prices) h;
+        bounds = part-long (x .bound) n (sized .bounds) h;
+        kepts = part-long (x .kept) n (sized .kepts) h;
+        statuses = part-long (x .status) n (sized .statuses) h;
+      },
+    )
 
 -- THE REFUSALS
 module _ (n o : ℕ) (ts hs ls ws ds ps tr ms : List ℕ) where
@@ -105,8 +150,10 @@ module _ (n o : ℕ) (ts hs ls ws ds ps tr ms : List ℕ) where
     pub fitting : Fitting n (length hs) ds ps tr ms
 
   pub fine : Below (2 ^ 32) ls → plan-refusal n o ts hs ls ws ds ps tr ms .number ≡ 0 → Fine
+  unfolding plan-refusal
   fine low e =
-      let u = unrefused n o ts hs ls ws ds ps tr ms low e in
+      let u = unrefused n o ts hs ls ws _ low e in
+      let fit = rooms-so n (length ts) (length ds) (length ps) (length tr) (length ms) (u .rooms-good) in
       record {
         heads-count = sym (u .heads-count);
         lengths-count = sym (u .heads-count ∙ u .lengths-count);
@@ -115,9 +162,9 @@ module _ (n o : ℕ) (ts hs ls ws ds ps tr ms : List ℕ) where
             record {
               few-nodes = u .few-nodes;
               few-arcs = omega (arith, u .few-arcs, u .heads-count);
-              distances-long = u .distances-long;
-              prices-long = u .prices-long;
-              tree-long = u .tree-long;
-              marks-long = u .marks-long ∙ u .heads-count;
+              distances-long = fit .0;
+              prices-long = fit .1;
+              tree-long = fit .2;
+              marks-long = fit .3 ∙ u .heads-count;
             };
       }

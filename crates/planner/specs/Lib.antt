@@ -1,2 +1,4 @@
 pub mod Plan
+pub mod Limit
+pub mod Rows
 pub mod Promise

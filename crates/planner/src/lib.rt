@@ -1,6 +1,10 @@
-// Planning: the refusals of a table, the run, and the four buffers that are handed over.
+// Planning: the refusals of a table, the run, and the four buffers that are handed over; and the run within a limit, which hands over an
+// answer alone.
 ghost use mathlib.Core.Path.{_≡_};
-ghost use mathlib.Core.Bool.{true};
+ghost use mathlib.Core.Bool.{true, cond};
+ghost use mathlib.Core.List.{[], _∷_};
+ghost use Prim.Native.Nat.{ℕ};
+ghost use lib.Dec.{eqb};
 ghost use lib.ListN.{length};
 ghost use Rattle.table.specs.Table.{table-of, is-table};
 ghost use Rattle.auction.specs.Auction.{fresh};
@@ -10,9 +14,11 @@ ghost use Rattle.table.specs.Slices.{was, left};
 ghost use Rattle.hand_over.specs.Answered.{answered};
 ghost use Rattle.hand_over.specs.ReadOff.{Fitting};
 ghost use Rattle.planner.specs.Plan.{Plans};
+ghost use Rattle.planner.specs.Limit.{limit-of, Answers-limit};
 use hand_over::Planned;
 use hand_over::hand_over;
 use refusals::table_refusal;
+use solver::run::NO_LIMIT;
 use solver::run::run;
 use steps::state::Progress;
 use steps::state::RunState;
@@ -48,6 +54,7 @@ fn run_lent(
     let end = run(
         progress,
         origin,
+        NO_LIMIT,
         tails,
         heads,
         lengths,
@@ -172,4 +179,106 @@ pub fn plan_routes(
         tree,
         marks,
     )
+}
+
+// Number and place of a refusal, number 0 where there is none; 1 where the node is within the limit, else 0; the iterations made.
+#[repr(C)]
+pub struct Within {
+    pub number: u32,
+    pub place: u32,
+    pub within: u32,
+    pub iterations: u64,
+}
+
+// 1 where no wanted node is missing, else 0.
+fn one_if_found(missing: usize, wanted: usize) -> u32
+    ensures { λ r. ⌜ r ≡ cond (eqb missing wanted) 1 0 ⌝ }
+{
+    if missing == wanted {
+        return 1;
+    }
+    0
+}
+
+// The run within a limit of a table that is not refused, for one wanted node.
+fn limit_table(
+    n: usize,
+    origin: u16,
+    limit: u64,
+    tails: &[u16],
+    heads: &[u16],
+    lengths: &[u32],
+    wanted: &[u16],
+) -> Within
+    requires { ⌜ (length (now heads) ≡ length (now tails)) × (length (now lengths) ≡ length (now tails)) ⌝ }
+    requires { ⌜ is-table (table-of n origin (now tails) (now heads) (now lengths)) (now wanted) ≡ true ⌝ }
+    ensures { λ r. ⌜ ((v : ℕ) → was wanted ≡ v ∷ [] → r ≡ limit-of (table-of n origin (was tails) (was heads) (was lengths)) v limit) ⌝ }
+{
+    let state = RunState::fresh(origin);
+    let mut path = state.path;
+    let mut price = state.price;
+    let mut bound = state.bound;
+    let mut kept = state.kept;
+    let mut status = state.status;
+    let progress = state.progress;
+    let end = run(
+        progress,
+        origin,
+        limit,
+        tails,
+        heads,
+        lengths,
+        wanted,
+        &mut path[..n],
+        &mut price[..n],
+        &mut bound[..n],
+        &mut kept[..n],
+        &mut status[..n],
+    );
+    let counts = end.progress;
+    Within {
+        number: Refusal::NONE,
+        place: 0,
+        within: one_if_found(end.missing, wanted.len()),
+        iterations: counts.contractions + counts.extensions + counts.deletions,
+    }
+}
+
+// Whether a node is within a limit: whether some walk from the origin to it is no longer. The run ends as soon as the node is reached or
+// the origin's price is above the limit. The answer of specs/Limit.antt says what it holds, for every input.
+pub fn within_limit(
+    n: u32,
+    origin: u16,
+    node: u16,
+    limit: u64,
+    tails: &[u16],
+    heads: &[u16],
+    lengths: &[u32],
+) -> Within
+    ensures { λ r. ⌜ Answers-limit n origin node limit tails heads lengths r ⌝ }
+{
+    let nodes = n as usize;
+    let arcs = tails.len();
+    let wanted: [u16; 1] = [node; 1];
+    let refusal = table_refusal(
+        n,
+        origin,
+        tails,
+        heads,
+        lengths,
+        &wanted,
+        nodes,
+        nodes,
+        nodes,
+        arcs,
+    );
+    if refusal.number == Refusal::NONE {
+        return limit_table(nodes, origin, limit, tails, heads, lengths, &wanted);
+    }
+    Within {
+        number: refusal.number,
+        place: refusal.place,
+        within: 0,
+        iterations: 0,
+    }
 }

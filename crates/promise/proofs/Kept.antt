@@ -1,16 +1,21 @@
--- The page of specs/Promise.antt, each promise by the proof that its crate has of it; and the demands once more, field by field, so that none of them can go
--- missing. Assumes nothing.
+-- The page of specs/Promise.antt, each promise by the proof that its crate has of it; and what is demanded of a plan and of a limit's answer once more,
+-- field by field, so that none of it can go missing. Assumes nothing.
 use mathlib.Core.List.{List}
 use Prim.Native.Nat.{ℕ}
 use Rattle.table.specs.Table.{Table}
 use Rattle.auction.specs.HandOver.{Answer}
 use Rattle.auction.specs.Demands.{Demands}
+use Rattle.planner.specs.declared.Within.{Within}
+use Rattle.planner.specs.Promise.{Limit-kept}
 use Rattle.auction.proofs.Promised.{promised}
 use Rattle.auction.proofs.Demanded.{demands-met, counts-pinned, hollow-fails}
+use Rattle.auction.proofs.Limit.{limits}
 use Rattle.auction.proofs.Absent.{absent}
 use Rattle.auction.proofs.Stability.{stability}
 use Rattle.auction.proofs.Answers.{rack-holds}
 use Rattle.planner.proofs.Promised.{plans-kept, refusals-touch-nothing}
+use Rattle.planner.proofs.Limits.{limits-kept, limits-pinned, limits-refused}
+use Rattle.planner.proofs.Rows as Limits
 use Rattle.paths.proofs.Promised.{routes-listed, plans-listed}
 use Rattle.paths.proofs.Examples as Paths
 use Rattle.link_format.proofs.ReadThenWrite.{accepted-files-write-back}
@@ -51,6 +56,12 @@ kept =
       small-sums = promised .small-sums;
       remembered-child = promised .remembered-child;
       scans-between = promised .scans-between;
+      limits-kept = limits-kept;
+      limits-pinned = limits-pinned;
+      limits-refused = limits-refused;
+      within-limit = limits .within-limit;
+      limit-cuts = limits .limit-cuts;
+      unlimited = limits .unlimited;
       unrefused-is-table = promised .unrefused-is-table;
       table-is-unrefused = promised .table-is-unrefused;
       longest-of-32-bits = promised .longest-of-32-bits;
@@ -61,6 +72,7 @@ kept =
       walks-without-absent = absent .walks-without-absent;
       steps-without-absent = absent .steps-without-absent;
       auction-without-absent = absent .auction-without-absent;
+      limited-without-absent = absent .limited-without-absent;
       scans-without-absent = absent .scans-without-absent;
       plan-without-absent = absent .plan-without-absent;
       same-choice = stability .same-choice;
@@ -85,6 +97,7 @@ kept =
       order-unseen = order-unseen;
       pieces-printed = pieces-printed;
       rack = rack-holds;
+      limits = Limits.rows;
       listings = Paths.examples;
       files = rows;
       sheets = Sheets.examples;
@@ -127,4 +140,17 @@ demanded t ws a d =
       not-before = d .not-before;
       few = d .few;
       fewer = d .fewer;
+    }
+
+pub kept-limit : (t : Table) (v limit : ℕ) (r : Within) → Limit-kept t v limit r → Limit-kept t v limit r
+kept-limit t v limit r k =
+    record {
+      answers = k .answers;
+      yes = k .yes;
+      no = k .no;
+      last = k .last;
+      steps = k .steps;
+      ends = k .ends;
+      not-before = k .not-before;
+      no-later = k .no-later;
     }

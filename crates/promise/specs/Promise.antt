@@ -2,10 +2,12 @@
 -- of this page, and so does one whose proof does (proofs/Kept.antt). Each type has its sentence in plain words where it stands. Assumes nothing.
 use Rattle.auction.specs.Promises.{Walk-shortest, Walk-given, Prices-fit, Prices-show, Route-to-all, No-route, Few-iterations, Fewer-iterations, Ends-by-itself, Iterations-counted, Earliest-link, Marks-tallied, Never-above, Distances-stay, Ascending, Small-distances, Small-sums, Scans-between, Remembered-child, Unrefused-is-table, Table-is-unrefused, Longest-of-32-bits, Lengths-of-32-bits}
 use Rattle.auction.specs.Demands.{Demands-met, Counts-pinned, Hollow-fails}
-use Rattle.auction.specs.Absent.{Down-is-all-ones, Absent-nowhere, Absent-closed-up, Walks-without-absent, Steps-without-absent, Auction-without-absent, Scans-without-absent, Plan-without-absent}
+use Rattle.auction.specs.Limit.{Within-limit, Limit-cuts, Unlimited}
+use Rattle.auction.specs.Absent.{Down-is-all-ones, Absent-nowhere, Absent-closed-up, Walks-without-absent, Steps-without-absent, Auction-without-absent, Limited-without-absent, Scans-without-absent, Plan-without-absent}
 use Rattle.auction.specs.Stability.{Same-choice, Route-stays, Wanted-route-stays, Link-added}
 use Rattle.auction.specs.Rack.{Rack-holds}
-use Rattle.planner.specs.Promise.{Plans-kept, Refusals-touch-nothing}
+use Rattle.planner.specs.Promise.{Plans-kept, Refusals-touch-nothing, Limits-kept, Limits-pinned, Limits-refused}
+use Rattle.planner.specs.Rows as Limits
 use Rattle.paths.specs.Promises.{Routes-listed, Plans-listed}
 use Rattle.paths.specs.Examples as Paths
 use Rattle.link_format.specs.Promises.{Accepted-files-write-back, Written-tables-read-back, Long-files-are-refused, Files-refused-by-number, Needless-is-not-canonical, Needless-header-is-not-canonical}
@@ -47,6 +49,13 @@ pub record Promise : Type 0 where
   -- a node goes by the child that it remembers until it scans again, and each contraction and each deletion scans
   pub remembered-child : Remembered-child
   pub scans-between : Scans-between
+  -- WITHIN A LIMIT: yes exactly when some walk is no longer, after the iterations of the same run, cut; a refusal says no, after none
+  pub limits-kept : Limits-kept
+  pub limits-pinned : Limits-pinned
+  pub limits-refused : Limits-refused
+  pub within-limit : Within-limit
+  pub limit-cuts : Limit-cuts
+  pub unlimited : Unlimited
   -- WHAT IS REFUSED: the tables that are not refused are just those of which all this is promised
   pub unrefused-is-table : Unrefused-is-table
   pub table-is-unrefused : Table-is-unrefused
@@ -59,6 +68,7 @@ pub record Promise : Type 0 where
   pub walks-without-absent : Walks-without-absent
   pub steps-without-absent : Steps-without-absent
   pub auction-without-absent : Auction-without-absent
+  pub limited-without-absent : Limited-without-absent
   pub scans-without-absent : Scans-without-absent
   pub plan-without-absent : Plan-without-absent
   -- WHAT STAYS: a spare chooses as the old unit did; a route stays while nothing shorter exists, also when a link goes down elsewhere or is added at
@@ -87,8 +97,9 @@ pub record Promise : Type 0 where
   pub in-order : In-order
   pub order-unseen : Order-unseen
   pub pieces-printed : Pieces-printed
-  -- THE ROWS: tables, listings, files and sheets, computed
+  -- THE ROWS: tables, limits, listings, files and sheets, computed
   pub rack : Rack-holds
+  pub limits : Limits.Rows
   pub listings : Paths.Examples
   pub files : Files.Rows
   pub sheets : Sheets.Examples

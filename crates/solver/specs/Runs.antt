@@ -7,6 +7,7 @@ use lib.ListN.{length, getD, drop}
 use Rattle.table.specs.Table.{Table, is-table, no-node}
 use Rattle.auction.specs.Auction.{State}
 use Rattle.auction.specs.HandOver.{first-missing}
+use Rattle.auction.specs.Limit.{limited}
 use Rattle.steps.specs.declared.state.RunState.{RunState}
 use Rattle.steps.specs.Seen.{held}
 use Rattle.steps.specs.Lists.{Star, Outgoing, Tails}
@@ -24,9 +25,14 @@ pub record Begun (from : Table → State) (t : Table) (ws : List ℕ) (origin : 
   -- and that is the state
   pub begun : x ≡ from t
 
--- A RUN from the fresh state or the start: in each table in which the arrays hold that, it ends in the auction's last state.
-abbrev pub Runs : (from : Table → State) → (ws : List ℕ) → (origin : ℕ) → Star → (tails : List ℕ) → (a b : RunState) → (missing scanned : ℕ) → Type 0
-Runs from ws origin o ts a b missing scanned = (t : Table) → Begun from t ws origin o ts (held a) → Ran t ws missing scanned (held b)
+-- THE RUN WITHIN A LIMIT HAS ENDED
+abbrev pub Ran-within : Table → (ws : List ℕ) → (limit missing scanned : ℕ) → State → Type 0
+Ran-within t ws limit = Ran t ws (limited t ws limit)
+
+-- A RUN from the fresh state or the start: in each table in which the arrays hold that, it ends as the run within the limit does.
+abbrev pub Runs : (from : Table → State) → (ws : List ℕ) → (limit origin : ℕ) → Star → (tails : List ℕ) → (a b : RunState) → (missing scanned : ℕ) → Type 0
+Runs from ws limit origin o ts a b missing scanned =
+    (t : Table) → Begun from t ws origin o ts (held a) → Ran-within t ws limit missing scanned (held b)
 
 -- no node remembers a child, as it is before the first scan
 pub record All-forgotten (n : ℕ) (remembered : List ℕ) : Type 0 where

@@ -1,4 +1,4 @@
-// The run: iterations until every wanted node has been reached, or the origin has no children.
+// The run: iterations until every wanted node has been reached, the origin's price is above a limit, or the origin has no children.
 ghost use mathlib.Core.Path.{_≡_};
 ghost use mathlib.Core.Bool.{true};
 ghost use mathlib.Core.List.{List};
@@ -9,8 +9,7 @@ ghost use Rattle.auction.specs.Auction.{fresh, start};
 ghost use Rattle.table.specs.Slices.{was};
 ghost use Rattle.steps.specs.Seen.{seen, lent, back, held, Sized};
 ghost use Rattle.steps.specs.Lists.{star, lent-star};
-ghost use Rattle.steps.specs.Steps.{Ran};
-ghost use Rattle.solver.specs.Runs.{Begun, Runs, All-forgotten, First-from};
+ghost use Rattle.solver.specs.Runs.{Begun, Ran-within, Runs, All-forgotten, First-from};
 use super::lists::link_arcs;
 use steps::bids::least_bid;
 use steps::reaching::reach;
@@ -24,6 +23,9 @@ use table::MOST_ARCS;
 use table::MOST_NODES;
 use table::NO_ARC;
 use table::wide;
+
+// A limit that no price is above.
+pub const NO_LIMIT: u64 = 18446744073709551615;
 
 // The index of the first wanted node, from an index on, that has not been reached.
 fn first_unreached(from: usize, wanted: &[u16], status: &[u8]) -> usize
@@ -41,12 +43,15 @@ fn first_unreached(from: usize, wanted: &[u16], status: &[u8]) -> usize
     w
 }
 
-// The iterations from the start, until every wanted node has been reached or the origin has no child. A node that remembers a child
-// goes on to it; one that does not scans its children. The loop has no cap: it ends because the auction does, and its measure is the
-// auction's own bound less the iterations made.
+// The iterations from the start, until every wanted node has been reached, the origin's price is above the limit, or the origin has no
+// child. A node that remembers a child goes on to it; one that does not scans its children. The limit is looked at where the path is as
+// long as before, since that is a contraction at the origin and no other iteration changes its price; the wanted nodes are looked at
+// where the path is longer, since no other iteration reaches a node. The loop has no cap: it ends because the auction does, and its
+// measure is the auction's own bound less the iterations made.
 fn iterate(
     begun: Progress,
     origin: usize,
+    limit: u64,
     wanted: &[u16],
     tails: &[u16],
     heads: &[u16],
@@ -64,7 +69,7 @@ fn iterate(
         (seen (now path) (now price) (now bound) (now kept) (now status) begun)) ⌝ }
     requires { ⌜ (length (now path) ≡ length (now first)) × Sized (length (now first)) (now price) (now bound) (now kept) (now status) ⌝ }
     requires { ⌜ All-forgotten (length (now first)) (now remembered) ⌝ }
-    ensures { λ r. ⌜ Runs start (was wanted) origin (lent-star heads lengths first next) (was tails)
+    ensures { λ r. ⌜ Runs start (was wanted) limit origin (lent-star heads lengths first next) (was tails)
         (lent path price bound kept status begun) (back path price bound kept status (r .progress)) (r .missing) (r .scans) ⌝ }
 {
     let mut g = begun;
@@ -116,8 +121,17 @@ fn iterate(
                 remembered,
                 status,
             );
+            if depth == g.depth && limit < price[v] {
+                return RunEnd {
+                    missing: w,
+                    scans: scans,
+                    progress: g,
+                };
+            }
         }
-        w = first_unreached(w, wanted, status);
+        if depth < g.depth {
+            w = first_unreached(w, wanted, status);
+        }
     }
     RunEnd {
         missing: w,
@@ -130,6 +144,7 @@ fn iterate(
 fn run_listed(
     begun: Progress,
     origin: usize,
+    limit: u64,
     wanted: &[u16],
     tails: &[u16],
     heads: &[u16],
@@ -147,7 +162,7 @@ fn run_listed(
         (seen (now path) (now price) (now bound) (now kept) (now status) begun)) ⌝ }
     requires { ⌜ (length (now path) ≡ length (now first)) × Sized (length (now first)) (now price) (now bound) (now kept) (now status) ⌝ }
     requires { ⌜ All-forgotten (length (now first)) (now remembered) ⌝ }
-    ensures { λ r. ⌜ Runs fresh (was wanted) origin (lent-star heads lengths first next) (was tails)
+    ensures { λ r. ⌜ Runs fresh (was wanted) limit origin (lent-star heads lengths first next) (was tails)
         (lent path price bound kept status begun) (back path price bound kept status (r .progress)) (r .missing) (r .scans) ⌝ }
 {
     reach(
@@ -165,6 +180,7 @@ fn run_listed(
     iterate(
         begun,
         origin,
+        limit,
         wanted,
         tails,
         heads,
@@ -180,11 +196,11 @@ fn run_listed(
     )
 }
 
-// The whole run, from the fresh state that is lent to the state where it ends, which is the auction's last. There are as many nodes as
-// lent entries.
+// The whole run within a limit, from the fresh state that is lent to the state where it ends. There are as many nodes as lent entries.
 pub fn run(
     begun: Progress,
     origin: u16,
+    limit: u64,
     tails: &[u16],
     heads: &[u16],
     lengths: &[u32],
@@ -200,7 +216,7 @@ pub fn run(
     requires { ⌜ (length (now path) ≡ length (now status)) × Sized (length (now status)) (now price) (now bound) (now kept) (now status) ⌝ }
     requires { ⌜ seen (now path) (now price) (now bound) (now kept) (now status) begun
         ≡ fresh (table-of (length (now status)) origin (now tails) (now heads) (now lengths)) ⌝ }
-    ensures { λ r. ⌜ Ran (table-of (length (was status)) origin (was tails) (was heads) (was lengths)) (was wanted) (r .missing) (r .scans)
+    ensures { λ r. ⌜ Ran-within (table-of (length (was status)) origin (was tails) (was heads) (was lengths)) (was wanted) limit (r .missing) (r .scans)
         (held (back path price bound kept status (r .progress))) ⌝ }
 {
     let n = status.len();
@@ -213,6 +229,7 @@ pub fn run(
     run_listed(
         begun,
         at,
+        limit,
         wanted,
         tails,
         heads,

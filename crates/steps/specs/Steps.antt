@@ -4,10 +4,9 @@ use mathlib.Core.Bool.{true}
 use mathlib.Core.List.{List}
 use mathlib.Core.Option.{Option, none, some}
 use Prim.Native.Nat.{ℕ, _+_, _≤_, _<_}
-use lib.Dec.{eqb}
 use lib.ListN.{length, getD}
 use Rattle.table.specs.Table.{Table, tail-at, head-at, length-at, no-arc}
-use Rattle.auction.specs.Auction.{State, Bid, bid, with-bid, to-child, price-at, iteration, offer, distance, lower-bid, auction, ended, iterations, was-reached, bound-at}
+use Rattle.auction.specs.Auction.{State, Bid, bid, with-bid, to-child, price-at, iteration, offer, distance, lower-bid, Ended, iterations, was-reached, bound-at}
 use Rattle.auction.specs.Scans.{scans}
 use Rattle.auction.specs.HandOver.{first-missing}
 use Rattle.steps.specs.declared.state.Progress.{Progress}
@@ -61,10 +60,11 @@ pub record Can-step (v origin value arc depth : ℕ) (heads path price bound : L
 abbrev pub Steps : (v origin : ℕ) → LeastBid → Star → (a b : RunState) → Type 0
 Steps v origin least o a b = (t : Table) → Outgoing t o → t .origin ≡ origin → iteration (bid-in least) t v (held a) ≡ some (held b)
 
--- THE RUN HAS ENDED; `missing` is the index of the first wanted node that was not reached, or their number where all were; so many scans were made
-pub record Ran (t : Table) (ws : List ℕ) (missing scanned : ℕ) (x : State) : Type 0 where
-  -- in the auction's last state, with routes to all exactly where none is missing
-  pub ended-so : auction t ws ≡ ended (eqb missing (length ws)) x
+-- A RUN HAS ENDED as `e` says; `missing` is the index of the first wanted node that was not reached, or their number where all were; so many scans
+-- were made
+pub record Ran (t : Table) (ws : List ℕ) (e : Ended) (missing scanned : ℕ) (x : State) : Type 0 where
+  -- in this state
+  pub last-so : e .last ≡ x
   -- the index is the first missing node's
   pub first-so : missing ≡ first-missing 0 ws x
   pub inside : missing ≤ length ws

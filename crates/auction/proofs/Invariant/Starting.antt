@@ -171,3 +171,6 @@ module _ (t : Table) (g : Good t) where
   pub started-iterations : iterations (start t) ≡ 0
   unfolding with-status fresh state iterations
   started-iterations = let m = begun .unmoved in omega (arith, m .contractions, m .extensions, m .deletions)
+
+  pub started-price : price-at (start t) (t .origin) ≡ 0
+  started-price = begun .reaching .price

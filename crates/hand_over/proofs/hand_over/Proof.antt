@@ -2,7 +2,7 @@
 use mathlib.Core.Path.{_≡_, refl, sym, subst}
 use Prim.Native.Nat.{ℕ}
 use native.Mathlib.Omega.{arith}
-use Rattle.auction.specs.Auction.{state, iterations}
+use Rattle.auction.specs.Auction.{state, iterations, auction}
 use Rattle.steps.specs.Seen.{seen}
 use mathlib.Core.Bool.{cond}
 use lib.Dec.{eqb}
@@ -93,7 +93,7 @@ same-length-4 c = handed c .fill-marks .kept .1 .1 .1 .1 .1 .0
 returns : tie.Need-returns
 unfolding answered iterations seen state
 returns c =
-    λ t ws path price nodes held many ran.
+    λ t ws path price nodes held many ran routed.
     let m = handed c in
     let r = with-tree m in
     let p = with-prices r in
@@ -102,7 +102,8 @@ returns c =
     let f = refused h in
     let a = start f .args in
     let g = a .end .progress in
-    assembled t ws (a .end .missing) (a .end .scans) _ ran (f .route-refusal .result) _ _ _ _ _ _ _ _ _ _
+    assembled t ws (a .end .missing) (a .end .scans) _ ran
+    (subst (λ (k : ℕ). auction t ws .routed ≡ eqb (a .end .missing) k) (sym many) routed) (f .route-refusal .result) _ _ _ _ _ _ _ _ _ _
     (subst (λ (k : ℕ). f .route-refusal .result ≡ cond (eqb (a .end .missing) k) no-refusal (refusal 8 (a .end .missing))) (sym many) (f .route-refusal .ensures))
     (h .before .count-reached .ensures (a .bound .now) (a .kept .now) t path price g nodes)
     (h .horizon-of .ensures .0 (a .kept .now) t path price g nodes) refl refl refl refl

@@ -10,7 +10,7 @@ use Rattle.steps.specs.declared.state.RunState.{RunState}
 use Rattle.steps.specs.Seen.{held, first-of, Sized}
 use Rattle.auction.specs.Plan.{routes-of}
 use Rattle.hand_over.specs.ReadOff.{Fitting}
-use Rattle.planner.proofs.Planning.{origin-low, fresh-so, part-fits, part-long}
+use Rattle.planner.proofs.Planning.{origin-low, fresh-so, part-fits, parts-long}
 use Rattle.planner.proofs.plan_table.Statement.{statement}
 use Rattle.planner.proofs.plan_table.Tie as tie
 
@@ -37,20 +37,11 @@ module _ (c : tie.After-fresh) where
   abbrev sized : Sized most-nodes (x .price) (x .bound) (x .kept) (x .status)
   sized = c .fresh .ensures .1 .1
 
-  path-part : n ≡ length (take n (x .path))
-  path-part = part-long (x .path) n (c .fresh .ensures .1 .0) (few s)
-
-  price-part : n ≡ length (take n (x .price))
-  price-part = part-long (x .price) n (sized .prices) (few s)
-
-  bound-part : n ≡ length (take n (x .bound))
-  bound-part = part-long (x .bound) n (sized .bounds) (few s)
-
-  kept-part : n ≡ length (take n (x .kept))
-  kept-part = part-long (x .kept) n (sized .kepts) (few s)
+  lent-long : let y = first-of n x in (length (y .path) ≡ n) × Sized n (y .price) (y .bound) (y .kept) (y .status)
+  lent-long = parts-long x n (c .fresh .ensures .1) (few s)
 
   status-part : n ≡ length (take n (x .status))
-  status-part = part-long (x .status) n (sized .statuses) (few s)
+  status-part = sym (lent-long .1 .statuses)
 
 module _ (c : tie.After-progress) where
   abbrev made : tie.After-fresh
@@ -78,25 +69,25 @@ array-borrow-prefix-path : tie.Need-array-borrow-prefix-path
 array-borrow-prefix-path c = let f = made c in part-fits (x f .path) (n f) (f .fresh .ensures .1 .0) (few (s f))
 
 slice-aggregate-run-lent : tie.Need-slice-aggregate-run-lent
-slice-aggregate-run-lent c = path-part (made (c .before))
+slice-aggregate-run-lent c = sym (lent-long (made (c .before)) .0)
 
 array-borrow-prefix-price : tie.Need-array-borrow-prefix-price
 array-borrow-prefix-price c = let f = made (c .before) in part-fits (x f .price) (n f) (sized f .prices) (few (s f))
 
 slice-aggregate-run-lent-2 : tie.Need-slice-aggregate-run-lent-2
-slice-aggregate-run-lent-2 c = price-part (made (c .before .before))
+slice-aggregate-run-lent-2 c = sym (lent-long (made (c .before .before)) .1 .prices)
 
 array-borrow-prefix-bound : tie.Need-array-borrow-prefix-bound
 array-borrow-prefix-bound c = let f = made (c .before .before) in part-fits (x f .bound) (n f) (sized f .bounds) (few (s f))
 
 slice-aggregate-run-lent-3 : tie.Need-slice-aggregate-run-lent-3
-slice-aggregate-run-lent-3 c = bound-part (made (c .before .before .before))
+slice-aggregate-run-lent-3 c = sym (lent-long (made (c .before .before .before)) .1 .bounds)
 
 array-borrow-prefix-kept : tie.Need-array-borrow-prefix-kept
 array-borrow-prefix-kept c = let f = made (c .before .before .before) in part-fits (x f .kept) (n f) (sized f .kepts) (few (s f))
 
 slice-aggregate-run-lent-4 : tie.Need-slice-aggregate-run-lent-4
-slice-aggregate-run-lent-4 c = kept-part (made (c .before .before .before .before))
+slice-aggregate-run-lent-4 c = sym (lent-long (made (c .before .before .before .before)) .1 .kepts)
 
 array-borrow-prefix-status : tie.Need-array-borrow-prefix-status
 array-borrow-prefix-status c = let f = made (c .before .before .before .before) in part-fits (x f .status) (n f) (sized f .statuses) (few (s f))
@@ -122,10 +113,7 @@ run-lent-requires c κs =
       (
         pre .1 .0,
         (
-          (
-            sym (path-part f),
-            record { prices = sym (price-part f); bounds = sym (bound-part f); kepts = sym (kept-part f); statuses = sym (status-part f) },
-          ),
+          lent-long f,
           (
             fresh-so (n f) (a .origin) (a .tails .now) (a .heads .now) (a .lengths .now) (a .wanted .now) (pre .0 .0) (pre .0 .1) (pre .1 .0)
                 (x f) (f .fresh .ensures .0),

@@ -2,13 +2,15 @@
 use mathlib.Core.Path.{_≡_, refl, sym, subst, _∙_}
 use mathlib.Core.List.{List}
 use Prim.Native.Nat.{ℕ}
+use native.Mathlib.Omega.{arith}
 use lib.ListN.{length}
 use Rattle.table.specs.Table.{Table, table-of}
-use Rattle.auction.specs.Auction.{iterations, state}
+use Rattle.auction.specs.Auction.{iterations, state, auction}
 use Rattle.steps.specs.Seen.{seen}
+use Rattle.steps.specs.Steps.{Ran}
 use Rattle.table.proofs.Columns.{nodes-so}
 use Rattle.hand_over.specs.ReadOff.{Fitting}
-use Rattle.planner.proofs.Planning.{known-so, ends-so, arcs-held, place-low}
+use Rattle.planner.proofs.Planning.{ran-unlimited, routed-so, known-so, ends-so, arcs-held, place-low}
 use Rattle.planner.proofs.run_lent.Statement.{statement}
 use Rattle.planner.proofs.run_lent.Tie as tie
 
@@ -33,28 +35,33 @@ module _ (c : tie.After-run) where
   t = table-of n (s .args .origin) (s .args .tails .now) (s .args .heads .now) (s .args .lengths .now)
 
   abbrev path : List ℕ
-  path = c .run .last .1 .1 .1 .1 .1 .1 .0
+  path = c .run .last .1 .1 .1 .1 .1 .1 .1 .0
 
   abbrev price : List ℕ
-  price = c .run .last .1 .1 .1 .1 .1 .1 .1 .0
+  price = c .run .last .1 .1 .1 .1 .1 .1 .1 .1 .0
 
   abbrev bound : List ℕ
-  bound = c .run .last .1 .1 .1 .1 .1 .1 .1 .1 .0
+  bound = c .run .last .1 .1 .1 .1 .1 .1 .1 .1 .1 .0
 
   abbrev kept : List ℕ
-  kept = c .run .last .1 .1 .1 .1 .1 .1 .1 .1 .1 .0
+  kept = c .run .last .1 .1 .1 .1 .1 .1 .1 .1 .1 .1 .0
 
   abbrev status : List ℕ
-  status = c .run .last .1 .1 .1 .1 .1 .1 .1 .1 .1 .1 .0
+  status = c .run .last .1 .1 .1 .1 .1 .1 .1 .1 .1 .1 .1 .0
 
   statuses : length status ≡ n
-  statuses = c .run .kept .1 .1 .1 .1 .1 .1 .1 .1 .1 .1 .0
+  statuses = c .run .kept .1 .1 .1 .1 .1 .1 .1 .1 .1 .1 .1 .0
 
   bounds : length bound ≡ length status
-  bounds = c .run .kept .1 .1 .1 .1 .1 .1 .1 .1 .0 ∙ s .pre .1 .1 .0 .1 .bounds ∙ sym statuses
+  bounds = c .run .kept .1 .1 .1 .1 .1 .1 .1 .1 .1 .0 ∙ s .pre .1 .1 .0 .1 .bounds ∙ sym statuses
+
+  -- the run is the plan's, since no price is above the limit
+  ran : Ran t (s .args .wanted .now) (auction t (s .args .wanted .now)) (c .run .result .missing) (c .run .result .scans)
+      (seen path price bound kept status (c .run .result .progress))
+  ran = ran-unlimited (s .pre .1 .0) _ (omega arith) (c .run .ensures)
 
   kepts : length kept ≡ length status
-  kepts = c .run .kept .1 .1 .1 .1 .1 .1 .1 .1 .1 .0 ∙ s .pre .1 .1 .0 .1 .kepts ∙ sym statuses
+  kepts = c .run .kept .1 .1 .1 .1 .1 .1 .1 .1 .1 .1 .0 ∙ s .pre .1 .1 .0 .1 .kepts ∙ sym statuses
 
 -- where the arrays are lent to the hand-over, and where the answer has been made
 module _ (c : tie.After-status) where
@@ -78,7 +85,7 @@ hand-over-requires c κs =
     let r = ended (c .before .before .before .before .before .before .before .before) in
     let a = s r .args in
     let pre = s r .pre in (
-      known-so (t r) (a .wanted .now) (r .run .result .missing) (r .run .result .scans) (path r) (price r) (bound r) (kept r) (status r) (r .run .result .progress) (r .run .ensures) (bounds r),
+      known-so (t r) (a .wanted .now) _ (r .run .result .missing) (r .run .result .scans) (path r) (price r) (bound r) (kept r) (status r) (r .run .result .progress) (ran r) (bounds r),
       (
         ends-so (n r) (a .origin) (a .tails .now) (a .heads .now) (a .lengths .now) (a .wanted .now) (pre .0 .0) (pre .0 .1) (pre .1 .0)
             (kept r) (status r) (kepts r) (sym (statuses r)),
@@ -95,19 +102,19 @@ hand-over-requires c κs =
 
 -- what is lent keeps its length: the arrays in the run, the buffers in the hand-over
 same-length : tie.Need-same-length
-same-length c = ended (lent (handed c)) .run .kept .1 .1 .1 .1 .1 .1 .0
+same-length c = ended (lent (handed c)) .run .kept .1 .1 .1 .1 .1 .1 .1 .0
 
 same-length-2 : tie.Need-same-length-2
-same-length-2 c = ended (lent (handed c)) .run .kept .1 .1 .1 .1 .1 .1 .1 .0
+same-length-2 c = ended (lent (handed c)) .run .kept .1 .1 .1 .1 .1 .1 .1 .1 .0
 
 same-length-3 : tie.Need-same-length-3
-same-length-3 c = ended (lent (handed c)) .run .kept .1 .1 .1 .1 .1 .1 .1 .1 .0
+same-length-3 c = ended (lent (handed c)) .run .kept .1 .1 .1 .1 .1 .1 .1 .1 .1 .0
 
 same-length-4 : tie.Need-same-length-4
-same-length-4 c = ended (lent (handed c)) .run .kept .1 .1 .1 .1 .1 .1 .1 .1 .1 .0
+same-length-4 c = ended (lent (handed c)) .run .kept .1 .1 .1 .1 .1 .1 .1 .1 .1 .1 .0
 
 same-length-5 : tie.Need-same-length-5
-same-length-5 c = ended (lent (handed c)) .run .kept .1 .1 .1 .1 .1 .1 .1 .1 .1 .1 .0
+same-length-5 c = ended (lent (handed c)) .run .kept .1 .1 .1 .1 .1 .1 .1 .1 .1 .1 .1 .0
 
 same-length-6 : tie.Need-same-length-6
 same-length-6 c = handed c .hand-over .kept .1 .1 .1 .1 .1 .1 .1 .1 .0
@@ -130,7 +137,7 @@ returns c =
     h .hand-over .ensures (t r) (a .wanted .now) (path r) (price r)
     (nodes-so (n r) (a .origin) (a .tails .now) (a .heads .now) (a .lengths .now) (pre .0 .0) (pre .0 .1) ∙ sym (statuses r))
     (arcs-held (n r) (a .origin) (a .tails .now) (a .heads .now) (a .lengths .now) (a .wanted .now) (pre .0 .0) (pre .0 .1) (pre .1 .0))
-    refl (r .run .ensures)
+    refl (ran r) (routed-so (pre .1 .0) (ran r))
 
 pub run-lent-spec : {M : Type 1} → statement M
 run-lent-spec =

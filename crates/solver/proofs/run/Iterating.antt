@@ -1,20 +1,25 @@
--- The run's loop: the arrays hold a state of the run, the index is that of the first wanted node missing there, and so many iterations have scanned.
--- Assumes nothing.
+-- The run's loop: the arrays hold a state of the run, the index is that of the first wanted node missing there, the origin's price is not above the limit,
+-- and so many iterations have scanned. Assumes nothing.
 use mathlib.Core.Path.{_≡_, refl, sym, ap, subst, _∙_}
-use mathlib.Core.Bool.{true, false}
+use mathlib.Core.Bool.{false}
 use mathlib.Core.List.{List}
-use mathlib.Core.Option.{none, some}
+use mathlib.Core.Option.{some}
 use Prim.Native.Nat.{ℕ, suc, _+_, _-_, _≤_, _<_}
 use native.Mathlib.Omega.{arith}
 use lib.ListN.{length, getD}
-use borrow.Author.Tests.{eq-eqb, ne-eqb}
+use lib.Dec.{ltb}
+use borrow.Author.Tests.{lt-ltb, le-ltb}
 use Rattle.table.specs.Table.{Table, no-arc, no-node}
-use Rattle.auction.specs.Auction.{State, state, best, next, terminal, bound-at, kept-at, was-reached, all-reached, iterations, start, extension}
+use Rattle.auction.specs.Auction.{State, Ended, state, ended, best, next, terminal, price-at, kept-at, all-reached, iterations, start, extension}
 use Rattle.auction.specs.Scans.{history, scan-count, scans}
 use Rattle.auction.specs.HandOver.{first-missing}
+use Rattle.auction.specs.Limit.{above, decided, limited}
+use Rattle.table.proofs.Basics.{either-first, either-second, neither}
 use Rattle.auction.proofs.Good.{good, wanted-in}
 use Rattle.auction.proofs.Steps.Effects.{reached-status, status-reached, kept-below}
-use Rattle.auction.proofs.Invariant.Starting.{started-iterations}
+use Rattle.auction.proofs.Steps.Keeps.{start-path, stays-at-origin, moves-keep-price, reaches-none}
+use Rattle.auction.proofs.Invariant.Sound.{terminal-status}
+use Rattle.auction.proofs.Invariant.Starting.{started-iterations, started-price}
 use Rattle.auction.proofs.Run.{Running, begins, goes-on, done, stuck, stepped}
 use Rattle.auction.proofs.Remembering.{scans-within}
 use Rattle.steps.specs.declared.state.Progress.{Progress}
@@ -22,19 +27,20 @@ use Rattle.steps.specs.declared.bids.LeastBid.{LeastBid}
 use Rattle.steps.specs.Seen.{bid-of, seen, arrays, Sized, greatest-sum, too-many}
 use Rattle.steps.specs.Lists.{star, Outgoing}
 use Rattle.steps.specs.Memory.{Has-before, Tails-known, Remembers, Remembered, those-reached}
-use Rattle.steps.specs.Steps.{bid-in, Leads, Becomes, Can-step, Steps, Ran}
-use Rattle.solver.specs.Runs.{Begun, All-forgotten, First-from}
+use Rattle.steps.specs.Steps.{bid-in, Leads, Becomes, Can-step, Steps}
+use Rattle.solver.specs.Runs.{Begun, Ran-within, All-forgotten, First-from}
+use Rattle.steps.proofs.Arrays.{seen-price}
 use Rattle.steps.proofs.steps.Stepping.{is-stop}
-use Rattle.solver.proofs.run.Wanted.{some-missing, none-missing, jump}
+use Rattle.solver.proofs.run.Wanted.{some-missing, none-missing, same-missing, jump}
 use Rattle.solver.proofs.run.Holding.{Holding}
-use Rattle.solver.proofs.run.Ready.{Ready, few-in-all, ready, room-for, bound-low, next-is, can-step, kept-arcs, kept-in, has-before}
+use Rattle.solver.proofs.run.Ready.{Ready, few-in-all, path-length, ready, room-for, bound-low, next-is, can-step, kept-arcs, kept-in, has-before}
 use Rattle.solver.proofs.run.Storing.{stores}
-use Rattle.solver.proofs.run.Recalling.{memory, start-path, holding-first, entry-kept, extends-by-entry, scans-no-more, holding-recalled, scans-once-more, holding-next}
+use Rattle.solver.proofs.run.Recalling.{memory, holding-first, entry-kept, extends-by-entry, scans-no-more, holding-recalled, scans-once-more, holding-next}
 
 -- THE LOOP
-pub record Round (t : Table) (ws : List ℕ) (w c : ℕ) (l : List ℕ) (x : State) : Type 0 where
+pub record Round (t : Table) (ws : List ℕ) (limit w c : ℕ) (l : List ℕ) (x : State) : Type 0 where
   -- x is a state of the run,
-  pub running : Running t ws x
+  pub running : Running t (decided t ws limit) x
   -- the index is that of the first wanted node that is missing there,
   pub missing : w ≡ first-missing 0 ws x
   -- so many iterations have scanned,
@@ -63,12 +69,36 @@ pub made-same : {ws : List ℕ} {o : ℕ} {ts hs ls first nexts : List ℕ} {x�
     Made ws o ts hs ls first nexts x₀ x p′ u′ b′ k′ l′ s′ g′ c′
 made-same ep eu eb ek el es eg ec m = rw (ep, eu, eb, ek, el, es, eg, ec) m
 
-pub record Iterating (ws : List ℕ) (o : ℕ) (ts hs ls first next : List ℕ) (x₀ : State) (p u b k l s : List ℕ) (g : Progress) (w c : ℕ) : Type 0 where
+-- the index is that of the first wanted node that is missing in state x
+pub record Missing (ws : List ℕ) (o : ℕ) (ts hs ls first next : List ℕ) (x₀ : State) (w : ℕ) (x : State) : Type 0 where
   pub low : w ≤ length ws
+  pub missing : (t : Table) → Begun start t ws o (star hs ls first next) ts x₀ → w ≡ first-missing 0 ws x
+
+-- AT THE LOOP'S HEAD
+pub record Iterating (ws : List ℕ) (limit o : ℕ) (ts hs ls first next : List ℕ) (x₀ : State) (p u b k l s : List ℕ) (g : Progress) (w c : ℕ) : Type 0 where
+  -- the index is that of a wanted node, or their number
+  pub low : w ≤ length ws
+  -- each array has an entry for each node
   pub path-long : length p ≡ length first
   pub remembered-long : length l ≡ length first
   pub sized : Sized (length first) u b k s
-  pub round : (t : Table) → Begun start t ws o (star hs ls first next) ts x₀ → Round t ws w c l (seen p u b k s g)
+  -- the origin's price is not above the limit
+  pub below : getD u o 0 ≤ limit
+  -- and in each table with which the run has begun they hold a state of it
+  pub round : (t : Table) → Begun start t ws o (star hs ls first next) ts x₀ → Round t ws limit w c l (seen p u b k s g)
+
+-- where the run ends in a state of it, all that is known there
+ran : {t : Table} {ws : List ℕ} (limit : ℕ) {w c : ℕ} {x : State} → Running t (decided t ws limit) x → limited t ws limit .last ≡ x → w ≡ first-missing 0 ws x →
+    w ≤ length ws → c ≡ scans (iterations x) t → Ran-within t ws limit w c x
+ran {t} limit {x = x} r last missing low scanned =
+    record {
+      last-so = last;
+      first-so = missing;
+      inside = low;
+      bounded = λ v e z. omega (arith, reached-status x v e, r .invariant .sound .nodes .unbounded v z);
+      few = omega (arith, r .few, few-in-all (t .n) (r .good .few-nodes));
+      scans-so = scanned;
+    }
 
 status-is : (p u b k s : List ℕ) (g : Progress) → seen p u b k s g .status ≡ s
 unfolding seen state
@@ -82,20 +112,29 @@ module _ {ws : List ℕ} {o : ℕ} {ts hs ls first nexts : List ℕ} where
       (j : ℕ) → j < length ws → getD ws j 0 < length status
   wanted-below t bg status l j h = omega (arith, wanted-in t ws (bg .good) j h, nodes-so t bg)
 
-  pub starts : (p u b k l s : List ℕ) (g : Progress) {w : ℕ} → length p ≡ length first → Sized (length first) u b k s → All-forgotten (length first) l →
-      First-from 0 ws s w → Iterating ws o ts hs ls first nexts (seen p u b k s g) p u b k l s g w 0
+  -- a price as the code reads it
+  price-read : {x₀ : State} (t : Table) → Begun start t ws o (star hs ls first nexts) ts x₀ → (p u b k s : List ℕ) (g : Progress) →
+      price-at (seen p u b k s g) (t .origin) ≡ getD u o 0
+  price-read t bg p u b k s g = seen-price p u b k s g (t .origin) ∙ ap (λ (v : ℕ). getD u v 0) (bg .origin-is)
+
+  pub starts : (p u b k l s : List ℕ) (g : Progress) {limit w : ℕ} → (t : Table) → Begun start t ws o (star hs ls first nexts) ts (seen p u b k s g) →
+      length p ≡ length first → Sized (length first) u b k s → All-forgotten (length first) l → First-from 0 ws s w →
+      Iterating ws limit o ts hs ls first nexts (seen p u b k s g) p u b k l s g w 0
   unfolding scans history scan-count
-  starts p u b k l s g {w} lp sized forgotten f =
+  starts p u b k l s g {limit} {w} t bg lp sized forgotten f =
       record {
         low = f .low;
         path-long = lp;
         remembered-long = forgotten .count;
         sized = sized;
+        below =
+            omega
+            (arith, sym (price-read t bg p u b k s g) ∙ ap (λ (x : State). price-at x (t .origin)) (bg .begun), started-price t (good t ws (bg .good)));
         round = λ t bg.
             let x = seen p u b k s g in
             let first-one : iterations x ≡ 0 = ap iterations (bg .begun) ∙ started-iterations t (good t ws (bg .good)) in
             record {
-              running = subst (λ (x : State). Running t ws x) (sym (bg .begun)) (begins (bg .good));
+              running = subst (λ (x : State). Running t (decided t ws limit) x) (sym (bg .begun)) (begins (good t ws (bg .good)));
               missing = f .first x (status-is p u b k s g);
               scanned = subst (λ (a : ℕ). 0 ≡ scans a t) (sym first-one) refl;
               holding =
@@ -104,9 +143,13 @@ module _ {ws : List ℕ} {o : ℕ} {ts hs ls first nexts : List ℕ} where
             };
       }
 
-  module _ {x₀ : State} {p u b k l s : List ℕ} {g : Progress} {w c : ℕ} (i : Iterating ws o ts hs ls first nexts x₀ p u b k l s g w c) where
-    still-missing : w < length ws → (t : Table) → Begun start t ws o (star hs ls first nexts) ts x₀ → all-reached ws (seen p u b k s g) ≡ false
-    still-missing h t bg = some-missing ws (seen p u b k s g) (omega (arith, i .round t bg .missing))
+  module _ {limit : ℕ} {x₀ : State} {p u b k l s : List ℕ} {g : Progress} {w c : ℕ} (i : Iterating ws limit o ts hs ls first nexts x₀ p u b k l s g w c) where
+    undecided : w < length ws → (t : Table) → Begun start t ws o (star hs ls first nexts) ts x₀ → decided t ws limit (seen p u b k s g) ≡ false
+    unfolding decided above
+    undecided h t bg =
+        let x = seen p u b k s g in
+        neither (all-reached ws x) (ltb limit (price-at x (t .origin))) (some-missing ws x (omega (arith, i .round t bg .missing)))
+        (le-ltb limit (price-at x (t .origin)) (omega (arith, price-read t bg p u b k s g, i .below)))
 
     -- what the loop's body needs
     module _ (t : Table) (bg : Begun start t ws o (star hs ls first nexts) ts x₀) where
@@ -138,7 +181,7 @@ module _ {ws : List ℕ} {o : ℕ} {ts hs ls first nexts : List ℕ} where
         pub may-step : (value arc : ℕ) → w < length ws → bid-of value arc ≡ best t v (seen p u b k s g) → (arc ≡ no-arc → v ≡ o → ⊥) →
             Can-step v o value arc (g .depth) hs p u b
         may-step value arc h bids go =
-            can-step p u b k s g (i .round t bg .running) v o value arc at (bg .origin-is) bids (bg .listed) (still-missing h t bg)
+            can-step p u b k s g (i .round t bg .running) v o value arc at (bg .origin-is) bids (bg .listed) (undecided h t bg)
             (omega (arith, i .path-long, nodes-so t bg)) (omega (arith, i .sized .bounds, nodes-so t bg)) go
 
         -- a node that remembers a child can go on to it
@@ -166,7 +209,7 @@ module _ {ws : List ℕ} {o : ℕ} {ts hs ls first nexts : List ℕ} where
                 (
                   bound-low p u b k s g (r .running) (getD l v 0) (kept .0) kept-here (omega (arith, i .sized .bounds, nodes-so t bg)),
                   (
-                    omega (arith, room-for p u b k s g (r .running) (still-missing h t bg) (getD l v 0) extends-to-entry, i .path-long, nodes-so t bg),
+                    omega (arith, room-for p u b k s g (r .running) (undecided h t bg) (getD l v 0) extends-to-entry, i .path-long, nodes-so t bg),
                     omega (arith, now-ready .few, few-in-all (length first) (now-ready .few-nodes)),
                   ),
                 ),
@@ -175,30 +218,76 @@ module _ {ws : List ℕ} {o : ℕ} {ts hs ls first nexts : List ℕ} where
     -- ONE ITERATION MORE, to the state y: it is the auction's next, and what the nodes remember and the scans are as they are after it
     module _ (h : w < length ws) where
       pub continues : {p′ u′ b′ k′ l′ s′ : List ℕ} {g′ : Progress} {w′ c′ : ℕ} →
-          Made ws o ts hs ls first nexts x₀ (seen p u b k s g) p′ u′ b′ k′ l′ s′ g′ c′ → First-from w ws s′ w′ →
-          Iterating ws o ts hs ls first nexts x₀ p′ u′ b′ k′ l′ s′ g′ w′ c′
-      continues {p′} {u′} {b′} {k′} {l′} {s′} {g′} {w′} {c′} made f =
+          Made ws o ts hs ls first nexts x₀ (seen p u b k s g) p′ u′ b′ k′ l′ s′ g′ c′ → getD u′ o 0 ≤ limit →
+          Missing ws o ts hs ls first nexts x₀ w′ (seen p′ u′ b′ k′ s′ g′) → Iterating ws limit o ts hs ls first nexts x₀ p′ u′ b′ k′ l′ s′ g′ w′ c′
+      continues {p′} {u′} {b′} {k′} {l′} {s′} {g′} {w′} {c′} made low there =
           record {
-            low = f .low;
+            low = there .low;
             path-long = made .path-long;
             remembered-long = made .remembered-long;
             sized = made .sized;
+            below = low;
             round = λ t bg.
                 let x = seen p u b k s g in
                 let y = seen p′ u′ b′ k′ s′ g′ in
                 let r = i .round t bg in
                 let n = made .to t bg in
-                let after = stepped t (r .running .good) x (r .running .invariant) y (n .is-next) in
-                let more = goes-on (r .running) y (still-missing h t bg) (n .is-next) in
+                let more = goes-on (r .running) y (undecided h t bg) (n .is-next) in
                 record {
                   running = more .0;
-                  missing =
-                      f .first y (status-is p′ u′ b′ k′ s′ g′)
-                      ∙ jump w ws x y (r .missing) (i .low) (λ j q. status-reached y j (after .stays j (reached-status x j q)));
+                  missing = there .missing t bg;
                   scanned = n .scanned ∙ ap (λ (a : ℕ). scans a t) (sym (more .1));
                   holding = subst (λ (a : ℕ). Holding t (memory a t) l′ y) (sym (more .1)) (n .holding);
                 };
           }
+
+      -- the node that is missing then is looked for from the one before on; where the path is not longer it is that one
+      module _ {p′ u′ b′ k′ l′ s′ : List ℕ} {g′ : Progress} {c′ : ℕ} (made : Made ws o ts hs ls first nexts x₀ (seen p u b k s g) p′ u′ b′ k′ l′ s′ g′ c′) where
+        pub looked-for : {w′ : ℕ} → First-from w ws s′ w′ → Missing ws o ts hs ls first nexts x₀ w′ (seen p′ u′ b′ k′ s′ g′)
+        looked-for f =
+            record {
+              low = f .low;
+              missing = λ t bg.
+                  let x = seen p u b k s g in
+                  let y = seen p′ u′ b′ k′ s′ g′ in
+                  let r = i .round t bg in
+                  let after = stepped t (r .running .good) x (r .running .invariant) y (made .to t bg .is-next) in
+                  f .first y (status-is p′ u′ b′ k′ s′ g′)
+                  ∙ jump w ws x y (r .missing) (i .low) (λ j q. status-reached y j (after .stays j (reached-status x j q)));
+            }
+
+        pub still-missing : g′ .depth ≤ g .depth → Missing ws o ts hs ls first nexts x₀ w (seen p′ u′ b′ k′ s′ g′)
+        still-missing short =
+            record {
+              low = i .low;
+              missing = λ t bg.
+                  let x = seen p u b k s g in
+                  let y = seen p′ u′ b′ k′ s′ g′ in
+                  let r = i .round t bg in
+                  let here = status-reached x (terminal x) (omega (arith, terminal-status (r .running .invariant .sound))) in
+                  r .missing
+                  ∙ sym
+                  (same-missing 0 ws x y
+                  (reaches-none t x y (made .to t bg .is-next) here (omega (arith, short, path-length p u b k s g, path-length p′ u′ b′ k′ s′ g′))));
+            }
+
+      -- where the path is as long as before the iteration was at the origin, and elsewhere the origin's price is as it was
+      module _ {p′ u′ b′ k′ l′ s′ : List ℕ} {g′ : Progress} {c′ : ℕ} (made : Made ws o ts hs ls first nexts x₀ (seen p u b k s g) p′ u′ b′ k′ l′ s′ g′ c′)
+          (t : Table) (bg : Begun start t ws o (star hs ls first nexts) ts x₀) where
+        pub at-origin : (v : ℕ) → v ≡ getD p (g .depth - 1) 0 → g .depth ≡ g′ .depth → v ≡ o
+        at-origin v ev same =
+            let x = seen p u b k s g in
+            let y = seen p′ u′ b′ k′ s′ g′ in
+            let long = path-length p′ u′ b′ k′ s′ g′ ∙ sym same ∙ sym (path-length p u b k s g) in
+            sym (at t bg v ev) ∙ stays-at-origin t x y (made .to t bg .is-next) (i .round t bg .running .within .path-some) long ∙ bg .origin-is
+
+        pub still-below : (g .depth ≡ g′ .depth → ⊥) → getD u′ o 0 ≤ limit
+        still-below d =
+            let x = seen p u b k s g in
+            let y = seen p′ u′ b′ k′ s′ g′ in
+            let long : length (y .path) ≡ length (x .path) → ⊥ = λ e. d (sym (path-length p u b k s g) ∙ sym e ∙ path-length p′ u′ b′ k′ s′ g′) in
+            let same = moves-keep-price t x y (made .to t bg .is-next) long in
+            omega (arith, same, price-read t bg p u b k s g, price-read t bg p′ u′ b′ k′ s′ g′, i .below)
 
       -- the iteration is counted
       pub counted : (p′ u′ b′ k′ l′ s′ : List ℕ) (g′ : Progress) (c′ : ℕ) → Made ws o ts hs ls first nexts x₀ (seen p u b k s g) p′ u′ b′ k′ l′ s′ g′ c′ →
@@ -206,7 +295,7 @@ module _ {ws : List ℕ} {o : ℕ} {ts hs ls first nexts : List ℕ} where
           g′ .contractions + g′ .extensions + g′ .deletions ≡ suc (g .contractions + g .extensions + g .deletions)
       unfolding iterations seen state
       counted p′ u′ b′ k′ l′ s′ g′ c′ made t bg =
-          goes-on (i .round t bg .running) (seen p′ u′ b′ k′ s′ g′) (still-missing h t bg) (made .to t bg .is-next) .1
+          goes-on (i .round t bg .running) (seen p′ u′ b′ k′ s′ g′) (undecided h t bg) (made .to t bg .is-next) .1
 
     module _ (v : ℕ) (ev : v ≡ getD p (g .depth - 1) 0) where
       -- by the child that the node remembers
@@ -275,39 +364,39 @@ module _ {ws : List ℕ} {o : ℕ} {ts hs ls first nexts : List ℕ} where
                 };
           }
 
-    counted-so : (t : Table) (bg : Begun start t ws o (star hs ls first nexts) ts x₀) → iterations (seen p u b k s g) < too-many
-    counted-so t bg = omega (arith, i .round t bg .running .few, few-in-all (t .n) (i .round t bg .running .good .few-nodes))
-
-    bounded-so : (t : Table) (bg : Begun start t ws o (star hs ls first nexts) ts x₀) (v : ℕ) → was-reached (seen p u b k s g) v ≡ true →
-        bound-at (seen p u b k s g) v ≡ none → ⊥
-    bounded-so t bg v e z =
-        omega (arith, reached-status (seen p u b k s g) v e, i .round t bg .running .invariant .sound .nodes .unbounded v z)
-
-    -- the two ends
-    pub ends : length ws ≤ w → (t : Table) → Begun start t ws o (star hs ls first nexts) ts x₀ → Ran t ws w c (seen p u b k s g)
+    -- THE ENDS: every wanted node has been reached,
+    pub ends : length ws ≤ w → (t : Table) → Begun start t ws o (star hs ls first nexts) ts x₀ → Ran-within t ws limit w c (seen p u b k s g)
+    unfolding limited decided above ended
     ends h t bg =
         let r = i .round t bg in
-        record {
-          ended-so = rw (eq-eqb w (length ws) (omega (arith, i .low))) (done (r .running) (none-missing ws (seen p u b k s g) (omega (arith, r .missing))));
-          first-so = r .missing;
-          inside = i .low;
-          bounded = bounded-so t bg;
-          few = counted-so t bg;
-          scans-so = r .scanned;
-        }
+        let x = seen p u b k s g in
+        let all = either-first (all-reached ws x) (ltb limit (price-at x (t .origin))) (none-missing ws x (omega (arith, r .missing))) in
+        ran limit (r .running) (ap (λ (e : Ended). e .last) (done (r .running) all)) (r .missing) (i .low) (r .scanned)
 
+    -- the origin has no children,
     pub stops : (v : ℕ) (least : LeastBid) → w < length ws → v ≡ getD p (g .depth - 1) 0 →
         ((t : Table) → Outgoing t (star hs ls first nexts) → bid-in least ≡ best t v (seen p u b k s g)) → least .arc ≡ no-arc → v ≡ o →
-        (t : Table) → Begun start t ws o (star hs ls first nexts) ts x₀ → Ran t ws w c (seen p u b k s g)
+        (t : Table) → Begun start t ws o (star hs ls first nexts) ts x₀ → Ran-within t ws limit w c (seen p u b k s g)
+    unfolding limited ended
     stops v least h ev bids ea eo t bg =
         let r = i .round t bg in
         let e = next-is p u b k s g (r .running) v o (least .value) (least .arc) (at t bg v ev) (bg .origin-is) (bids t (bg .listed))
         ∙ is-stop t v (least .value) (least .arc) (seen p u b k s g) ea (eo ∙ sym (bg .origin-is)) in
-        record {
-          ended-so = rw (ne-eqb w (length ws) (λ z. omega arith)) (stuck (r .running) (still-missing h t bg) e);
-          first-so = r .missing;
-          inside = i .low;
-          bounded = bounded-so t bg;
-          few = counted-so t bg;
-          scans-so = r .scanned;
-        }
+        ran limit (r .running) (ap (λ (e : Ended). e .last) (stuck (r .running) (undecided h t bg) e)) (r .missing) (i .low) (r .scanned)
+
+    -- or an iteration that leaves the path as long as it was has lifted the origin's price above the limit
+    pub passes : {p′ u′ b′ k′ l′ s′ : List ℕ} {g′ : Progress} {c′ : ℕ} → w < length ws →
+        Made ws o ts hs ls first nexts x₀ (seen p u b k s g) p′ u′ b′ k′ l′ s′ g′ c′ → g .depth ≡ g′ .depth → limit < getD u′ o 0 →
+        (t : Table) → Begun start t ws o (star hs ls first nexts) ts x₀ → Ran-within t ws limit w c′ (seen p′ u′ b′ k′ s′ g′)
+    unfolding limited decided above ended
+    passes {p′} {u′} {b′} {k′} {l′} {s′} {g′} h made same above t bg =
+        let r = i .round t bg in
+        let x = seen p u b k s g in
+        let y = seen p′ u′ b′ k′ s′ g′ in
+        let n = made .to t bg in
+        let more = goes-on (r .running) y (undecided h t bg) (n .is-next) in
+        let high : limit < price-at y (t .origin) = omega (arith, above, price-read t bg p′ u′ b′ k′ s′ g′) in
+        let there = still-missing h made (omega (arith, same)) in
+        let passed = either-second (all-reached ws y) (ltb limit (price-at y (t .origin))) (lt-ltb limit (price-at y (t .origin)) high) in
+        ran limit (more .0) (ap (λ (e : Ended). e .last) (done (more .0) passed)) (there .missing t bg) (there .low)
+        (n .scanned ∙ ap (λ (a : ℕ). scans a t) (sym (more .1)))

@@ -1,6 +1,6 @@
 -- What the code may rely on in a state of the run, read off the arrays. Assumes nothing.
 use mathlib.Core.Path.{_≡_, refl, sym, ap, subst, _∙_}
-use mathlib.Core.Bool.{false}
+use mathlib.Core.Bool.{Bool, false}
 use mathlib.Core.List.{List, [], _∷_}
 use mathlib.Core.Logic.{⊎-elim}
 use mathlib.Core.Option.{some}
@@ -9,11 +9,12 @@ use native.Mathlib.Omega.{arith}
 use native.Mathlib.Nat.{mul-le-mul-left}
 use lib.ListN.{length, getD}
 use Rattle.table.specs.Table.{Table, tail-at, head-at, no-arc, no-distance, most-nodes}
-use Rattle.auction.specs.Auction.{State, state, bid, best, next, iteration, terminal, kept-at, all-reached, iterations, most-iterations, extension}
+use Rattle.auction.specs.Auction.{State, state, bid, best, next, iteration, terminal, kept-at, iterations, most-iterations, extension}
 use Rattle.table.proofs.Basics.{same-or}
 use Rattle.auction.proofs.Good.{good}
 use Rattle.auction.proofs.Steps.Effects.{status-in, kept-below, known-distance}
 use Rattle.auction.proofs.Steps.Bids.{best-bid}
+use Rattle.auction.proofs.Steps.Keeps.{extension-keeps}
 use Rattle.auction.proofs.Invariant.Sound.{Chain}
 use Rattle.auction.proofs.Run.{Running, goes-on}
 use Rattle.steps.specs.declared.state.Progress.{Progress}
@@ -23,7 +24,6 @@ use Rattle.steps.specs.Memory.{Has-before, Kept-in, Kept-arcs}
 use Rattle.steps.specs.Steps.{Can-step}
 use Rattle.steps.proofs.Arrays.{seen-price, seen-bound, seen-kept, some-arc, some-bid, some-bound, no-bound}
 use Rattle.steps.proofs.steps.Stepping.{last-entry, as-many, is-extension}
-use Rattle.solver.proofs.run.Recalling.{extension-keeps}
 
 -- the bound in numbers
 pub few-in-all : (n : ℕ) → n ≤ most-nodes → most-iterations n < too-many
@@ -48,11 +48,11 @@ pub record Ready (n : ℕ) (path price : List ℕ) (g : Progress) (x : State) : 
   pub few : g .contractions + g .extensions + g .deletions ≤ most-iterations n
   pub few-nodes : n ≤ most-nodes
 
-module _ {t : Table} {ws : List ℕ} (p u b k s : List ℕ) (g : Progress) (r : Running t ws (seen p u b k s g)) where
-  pub path-length : length (seen p u b k s g .path) ≡ g .depth
-  unfolding seen state
-  path-length = as-many (g .depth) p
+pub path-length : (p u b k s : List ℕ) (g : Progress) → length (seen p u b k s g .path) ≡ g .depth
+unfolding seen state
+path-length p u b k s g = as-many (g .depth) p
 
+module _ {t : Table} {stop : State → Bool} (p u b k s : List ℕ) (g : Progress) (r : Running t stop (seen p u b k s g)) where
   terminal-read : 1 ≤ g .depth → terminal (seen p u b k s g) ≡ getD p (g .depth - 1) 0
   unfolding terminal seen state
   terminal-read h = last-entry (g .depth) p h
@@ -65,12 +65,12 @@ module _ {t : Table} {ws : List ℕ} (p u b k s : List ℕ) (g : Progress) (r : 
   unfolding terminal
   ready n en =
       let w = r .within in
-      let some-node : 1 ≤ g .depth = omega (arith, path-length, w .path-some) in
+      let some-node : 1 ≤ g .depth = omega (arith, path-length p u b k s g, w .path-some) in
       let at = terminal-read some-node in
-      let below = w .path-in 0 (omega (arith, path-length)) in
+      let below = w .path-in 0 (omega (arith, path-length p u b k s g)) in
       record {
         depth-some = some-node;
-        depth-short = omega (arith, path-length, w .path-short);
+        depth-short = omega (arith, path-length p u b k s g, w .path-short);
         terminal-is = at;
         terminal-in = omega (arith, at, below);
         prices-low = λ v. omega (arith, w .price-small v, seen-price p u b k s g v, r .good .few-nodes);
@@ -79,10 +79,10 @@ module _ {t : Table} {ws : List ℕ} (p u b k s : List ℕ) (g : Progress) (r : 
       }
 
   -- where the path is extended by a node there is room for it, and a node that keeps an arc has a bound
-  pub room-for : all-reached ws (seen p u b k s g) ≡ false → (j : ℕ) → next t (seen p u b k s g) ≡ some (extension t j (seen p u b k s g)) → g .depth < t .n
+  pub room-for : stop (seen p u b k s g) ≡ false → (j : ℕ) → next t (seen p u b k s g) ≡ some (extension t j (seen p u b k s g)) → g .depth < t .n
   room-for more j e =
       let after = goes-on r (extension t j (seen p u b k s g)) more e .0 .within .path-short in
-      omega (arith, path-length, ap length (extension-keeps t j (seen p u b k s g) .0), after)
+      omega (arith, path-length p u b k s g, ap length (extension-keeps t j (seen p u b k s g) .0), after)
 
   pub bound-low : (j i : ℕ) → kept-at (seen p u b k s g) j ≡ some i → length b ≡ t .n → getD b j 0 ≤ greatest-sum
   bound-low j i e long =
@@ -98,7 +98,7 @@ module _ {t : Table} {ws : List ℕ} (p u b k s : List ℕ) (g : Progress) (r : 
     unfolding next
     next-is = rw (at, bids)
 
-    module _ {hs ls first nexts : List ℕ} (here : Outgoing t (star hs ls first nexts)) (more : all-reached ws (seen p u b k s g) ≡ false) where
+    module _ {hs ls first nexts : List ℕ} (here : Outgoing t (star hs ls first nexts)) (more : stop (seen p u b k s g) ≡ false) where
       can-extend : (arc ≡ no-arc → ⊥) → value ≤ getD u v 0 → g .depth < t .n
       can-extend any h =
           room-for more (head-at t arc)
@@ -141,7 +141,7 @@ two-nodes t x (v ∷ []) c d = absurd (d c)
 two-nodes t x (v ∷ u ∷ more) c d = omega arith
 
 -- WHAT THE NODES REMEMBER, in numbers
-module _ {t : Table} {ws : List ℕ} (p u b k s l : List ℕ) (g : Progress) (r : Running t ws (seen p u b k s g)) where
+module _ {t : Table} {stop : State → Bool} (p u b k s l : List ℕ) (g : Progress) (r : Running t stop (seen p u b k s g)) where
   abbrev x : State
   x = seen p u b k s g
 
@@ -165,7 +165,7 @@ module _ {t : Table} {ws : List ℕ} (p u b k s l : List ℕ) (g : Progress) (r 
   pub has-before : (v o : ℕ) → terminal x ≡ v → t .origin ≡ o → length p ≡ t .n → length l ≡ t .n → (v ≡ o → ⊥) → Has-before (g .depth) p l
   unfolding terminal
   has-before v o at eo lp ll d =
-      let many = path-length p u b k s g r in
+      let many = path-length p u b k s g in
       let two = two-nodes t x (x .path) (r .invariant .sound .chain) (λ e. d (sym at ∙ e ∙ eo)) in
       let deep : 2 ≤ g .depth = omega (arith, many, two) in
       record {

@@ -5,12 +5,12 @@ use mathlib.Core.Bool.{true, false}
 use mathlib.Core.List.{List, [], _∷_}
 use mathlib.Core.Logic.{⊎-elim}
 use mathlib.Core.Option.{Option, none, some}
-use Prim.Native.Nat.{ℕ, zero, suc, _≤_, _<_}
+use Prim.Native.Nat.{ℕ, suc, _≤_, _<_}
 use native.Mathlib.Omega.{arith}
 use lib.ListN.{length, getD, set, length-set}
 use borrow.Author.Tests.{eq-eqb, ne-eqb}
-use Rattle.table.specs.Table.{Table, arc-count, head-at, no-node}
-use Rattle.auction.specs.Auction.{State, Bid, state, terminal, price-at, kept-at, status-at, was-reached, takes, offer, offers, with-kept, with-status, reach, longer, extension, deletion, contraction, best, next, after, without-terminal, fresh, start, reached, deleted}
+use Rattle.table.specs.Table.{Table, head-at, no-node}
+use Rattle.auction.specs.Auction.{State, Bid, state, terminal, price-at, kept-at, status-at, extension, deletion, contraction, best, next, after, without-terminal, reached, deleted}
 use Rattle.auction.specs.Scans.{scans-now, history, last-scan, scans}
 use Rattle.auction.specs.Promises.{Goes-by-memory}
 use Rattle.table.proofs.Basics.{same-or, true-or, not-both, refuted, some-same}
@@ -18,6 +18,7 @@ use Rattle.auction.proofs.Good.{Good}
 use Rattle.auction.proofs.Steps.Effects.{deletion-effect, repriced, status-in}
 use Rattle.auction.proofs.Steps.Bids.{best-bid}
 use Rattle.auction.proofs.Steps.Kinds.{Kind, deletes, contracts, extends, kind}
+use Rattle.auction.proofs.Steps.Keeps.{extension-keeps}
 use Rattle.auction.proofs.Invariant.Sound.{Nodes, Chain, terminal-status}
 use Rattle.auction.proofs.Invariant.Counting.{Invariant}
 use Rattle.auction.proofs.Run.{stepped}
@@ -25,31 +26,6 @@ use Rattle.auction.proofs.Scanning.{history-next, scan-here, scan-not, scans-mo
 use Rattle.auction.proofs.Remembering.{Earlier, since, by-memory}
 use Rattle.steps.specs.Memory.{Remembering, those-reached}
 use Rattle.solver.proofs.run.Holding.{Memory, Child-of, Holds, Led, Holding, All-earlier, Before, path-led, stored, not-stored, Extended, extended, contracted-origin, contracted, removed}
-
--- an extension changes no price and puts the child on the path
-offer-keeps : (t : Table) (v i : ℕ) (x : State) → (offer t v i x .path ≡ x .path) × (offer t v i x .price ≡ x .price)
-unfolding offer with-kept state
-offer-keeps t v i x =
-    ⊎-elim (λ (e : takes t v i x ≡ true). rw e (refl, refl)) (λ (e : takes t v i x ≡ false). rw e (refl, refl)) (true-or (takes t v i x))
-
-offers-keep : (k i : ℕ) (t : Table) (v : ℕ) (x : State) → (offers k i t v x .path ≡ x .path) × (offers k i t v x .price ≡ x .price)
-unfolding offers
-offers-keep zero i t v x = (refl, refl)
-offers-keep (suc k) i t v x =
-    let one = offer-keeps t v i x in
-    let more = offers-keep k (suc i) t v (offer t v i x) in
-    (more .0 ∙ one .0, more .1 ∙ one .1)
-
-pub extension-keeps : (t : Table) (j : ℕ) (x : State) → (extension t j x .path ≡ j ∷ x .path) × (extension t j x .price ≡ x .price)
-unfolding extension longer reach with-status state
-extension-keeps t j x =
-    ⊎-elim (λ (e : was-reached x j ≡ true). rw e (refl, refl))
-    (λ (e : was-reached x j ≡ false). rw e (offers-keep (arc-count t) 0 t j (with-status j reached (longer j x))))
-    (true-or (was-reached x j))
-
-pub start-path : (t : Table) → start t .path ≡ t .origin ∷ []
-unfolding start reach with-status fresh state
-start-path t = offers-keep (arc-count t) 0 t (t .origin) (with-status (t .origin) reached (fresh t)) .0
 
 -- after k iterations: the state of each node's last scan
 abbrev pub memory : (k : ℕ) → Table → Memory

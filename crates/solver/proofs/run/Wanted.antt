@@ -1,6 +1,6 @@
 -- The first wanted node that is missing: an index that only rises. Assumes nothing.
 use mathlib.Core.Path.{_≡_, refl, sym, ap, subst, _∙_}
-use mathlib.Core.Bool.{true, false}
+use mathlib.Core.Bool.{Bool, true, false, cond}
 use mathlib.Core.List.{List, [], _∷_}
 use mathlib.Core.Logic.{⊎-elim}
 use Prim.Native.Nat.{ℕ, zero, suc, _+_, _≤_, _<_}
@@ -92,6 +92,13 @@ some-missing ws x h = some-missing-from 0 ws x (omega arith)
 
 pub none-missing : (ws : List ℕ) (x : State) → length ws ≤ first-missing 0 ws x → all-reached ws x ≡ true
 none-missing ws x h = none-missing-from 0 ws x (omega arith)
+
+-- where the same nodes have been reached the same one is missing
+pub same-missing : (i : ℕ) (ws : List ℕ) (x y : State) → ((v : ℕ) → was-reached y v ≡ was-reached x v) → first-missing i ws y ≡ first-missing i ws x
+unfolding first-missing
+same-missing i [] x y e = refl
+same-missing i (w ∷ ws) x y e =
+    ap (λ (b : Bool). cond b (first-missing (suc i) ws y) i) (e w) ∙ ap (λ (m : ℕ). cond (was-reached x w) m i) (same-missing (suc i) ws x y e)
 
 -- AFTER AN ITERATION: the wanted nodes before the index stay reached
 reached-before : (i : ℕ) (ws : List ℕ) (x : State) (k : ℕ) → i + k < first-missing i ws x → was-reached x (getD ws k 0) ≡ true

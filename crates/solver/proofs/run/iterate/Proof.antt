@@ -1,27 +1,29 @@
 -- The arrays hold a state of the run; each iteration is counted, and the auction's bound on them is the measure. Assumes nothing.
-use mathlib.Core.Path.{_≡_}
+use mathlib.Core.Path.{_≡_, sym, ap, subst, _∙_}
+use mathlib.Core.List.{List}
 use mathlib.Core.Logic.{⊎-elim}
-use Prim.Native.Nat.{suc, _+_, _-_, _<_}
+use Prim.Native.Nat.{ℕ, suc, _+_, _-_, _≤_, _<_}
 use borrow.Author.Needs.{needs}
-use borrow.Author.Tests.{eqb-true, eqb-false}
+use borrow.Author.Tests.{eqb-true, eqb-false, ltb-true, ltb-false}
 use native.Mathlib.Omega.{arith}
-use lib.ListN.{length}
+use lib.ListN.{length, getD}
 use Rattle.table.specs.Table.{Table}
 use Rattle.auction.specs.Auction.{best, most-iterations}
+use Rattle.steps.specs.declared.state.Progress.{Progress}
 use Rattle.steps.specs.Seen.{seen}
 use Rattle.steps.specs.Lists.{star, Outgoing, Some-table}
 use Rattle.steps.specs.Steps.{bid-in}
 use Rattle.solver.proofs.run.Ready.{Ready, few-in-all}
-use Rattle.solver.proofs.run.Iterating.{Iterating, Made, made-same, starts, now-ready, node-before, tails-known, few-scans, wanted-below, may-extend, may-step, by-memory, by-scan, continues, counted, ends, stops}
+use Rattle.solver.proofs.run.Iterating.{Iterating, Made, made-same, starts, now-ready, node-before, tails-known, few-scans, wanted-below, may-extend, may-step, by-memory, by-scan, continues, looked-for, still-missing, at-origin, still-below, counted, ends, stops, passes}
 use Rattle.solver.proofs.run.iterate.Statement.{statement}
 use Rattle.solver.proofs.run.iterate.Tie as tie
 
 abbrev Inv-loop : tie.InvT-loop
-Inv-loop origin wanted tails heads lengths first next path₀ price₀ bound₀ kept₀ remembered₀ status₀ g₀ scans₀ w₀ path price bound kept remembered status g scans w =
-    Iterating wanted origin tails heads lengths first next (seen path₀ price₀ bound₀ kept₀ status₀ g₀) path price bound kept remembered status g w scans
+Inv-loop origin limit wanted tails heads lengths first next path₀ price₀ bound₀ kept₀ remembered₀ status₀ g₀ scans₀ w₀ path price bound kept remembered status g scans w =
+    Iterating wanted limit origin tails heads lengths first next (seen path₀ price₀ bound₀ kept₀ status₀ g₀) path price bound kept remembered status g w scans
 
 abbrev μ-loop : tie.MeasureT-loop
-μ-loop origin wanted tails heads lengths first next path₀ price₀ bound₀ kept₀ remembered₀ status₀ g₀ scans₀ w₀ path price bound kept remembered status g scans w =
+μ-loop origin limit wanted tails heads lengths first next path₀ price₀ bound₀ kept₀ remembered₀ status₀ g₀ scans₀ w₀ path price bound kept remembered status g scans w =
     suc (most-iterations (length first)) - (g .contractions + g .extensions + g .deletions)
 
 -- THE PLACES on the way, each named from the one after it: before the loop; at its head, where the arrays hold a state of the run; where the
@@ -82,6 +84,27 @@ module _ (c : tie.Joined2 Inv-loop μ-loop) where
   abbrev bid : tie.After-least-bid Inv-loop μ-loop
   bid = c .before .before
 
+-- where an iteration has been made by a scan, at the origin or elsewhere
+module _ (c : tie.After-struct-known2 Inv-loop μ-loop) where
+  abbrev after-step : tie.After-step Inv-loop μ-loop
+  after-step = c .before .before .before .before .before .before .before .before .before .before .before .before .before
+
+  abbrev scanned : tie.After-least-bid Inv-loop μ-loop
+  scanned = bid (after-step .before .before .before .before .before .before .before)
+
+  made-by-scan : let a = s (head (node scanned)) .args in let l = head (node scanned) .loop in let n = after-step .step .last .1 .1 .1 .1 .1 .1 .1 .1 .1 in
+      Made (a .wanted .now) (a .origin) (a .tails .now) (a .heads .now) (a .lengths .now) (a .first .now) (a .next .now)
+      (seen (a .path .now) (a .price .now) (a .bound .now) (a .kept .now) (a .status .now) (a .begun))
+      (seen (l .path) (l .price) (l .bound) (l .kept) (l .status) (l .g)) (n .0) (n .1 .0) (n .1 .1 .0) (n .1 .1 .1 .0) (n .1 .1 .1 .1 .0) (n .1 .1 .1 .1 .1 .0)
+      (after-step .step .result) (l .scans + 1)
+  made-by-scan =
+      let n = node scanned in
+      let called = after-step .step in
+      let kept = called .kept .1 .1 .1 .1 .1 .1 .1 .1 .1 in
+      by-scan (head n .loop .inv) (n .wide .result) (n .wide .ensures .0) (scanned .before .before .before .before .if1 .left) (scanned .least-bid .result) (bids scanned)
+      (scanned .least-bid .ensures .1) _ _ _ _ _ _ _ (called .ensures .0) (called .ensures .1) (kept .0) (kept .1 .0) (kept .1 .1 .0) (kept .1 .1 .1 .0)
+      (kept .1 .1 .1 .1 .0) (kept .1 .1 .1 .1 .1 .0)
+
 -- where an iteration has been made, by memory or by a scan
 module _ (c : tie.Joined1 Inv-loop μ-loop) where
   abbrev at : tie.After-wide Inv-loop μ-loop
@@ -103,10 +126,37 @@ module _ (c : tie.Joined1 Inv-loop μ-loop) where
       (kept .1 .1 .1 .0) (kept .1 .1 .1 .1 .0)))
       (λ w.
       let kept = w .13 .kept .1 .1 .1 .1 .1 .1 .1 .1 .1 in
-      made-same (w .26) (w .27) (w .28) (w .29) (w .30) (w .31) (w .32) (w .33)
+      made-same (w .28) (w .29) (w .30) (w .31) (w .32) (w .33) (w .34) (w .35)
       (by-scan (l .inv) v ev (w .0 .left) (w .4 .result) (λ t here. w .4 .ensures .0 t (l .path) (l .bound) (l .g) here) (w .4 .ensures .1) _ _ _ _ _ _ _
       (w .13 .ensures .0) (w .13 .ensures .1) (kept .0) (kept .1 .0) (kept .1 .1 .0) (kept .1 .1 .1 .0) (kept .1 .1 .1 .1 .0) (kept .1 .1 .1 .1 .1 .0)))
       (c .if1 .came)
+
+  -- and the origin's price is not above the limit
+  low : getD (c .if1 .price) (s (head at) .args .origin) 0 ≤ s (head at) .args .limit
+  low =
+      let l = head at .loop in
+      let o = s (head at) .args .origin in
+      let limit = s (head at) .args .limit in
+      let begun = s (head at) .pre .0 in
+      let more = within at .loop-test .taken in
+      ⊎-elim (λ w. subst (λ (u : List ℕ). getD u o 0 ≤ limit) (sym (w .18)) (l .inv .below))
+      (λ w.
+      ⊎-elim
+      (λ q.
+      let price = w .13 .last .1 .1 .1 .1 .1 .1 .1 .1 .1 .1 .0 in
+      let origin = at-origin (l .inv) more made (begun .0) (begun .1) (at .wide .result) (at .wide .ensures .0) (q .0 .taken ∙ sym (ap (λ (g : Progress). g .depth) (w .34))) in
+      subst (λ (u : List ℕ). getD u o 0 ≤ limit) (sym (w .29)) (subst (λ (v : ℕ). getD price v 0 ≤ limit) origin (ltb-false _ _ (q .2 .left))))
+      (λ q. still-below (l .inv) more made (begun .0) (begun .1) (λ e. q .left (e ∙ ap (λ (g : Progress). g .depth) (w .34))))
+      (w .27 .came))
+      (c .if1 .came)
+
+  -- and one iteration more is counted
+  less : suc (most-iterations (length (s (head at) .args .first .now))) - (c .if1 .g .contractions + c .if1 .g .extensions + c .if1 .g .deletions)
+      < suc (most-iterations (length (s (head at) .args .first .now))) - (head at .loop .g .contractions + head at .loop .g .extensions + head at .loop .g .deletions)
+  less =
+      let h = head at in
+      let more = counted (h .loop .inv) (within at .loop-test .taken) _ _ _ _ _ _ (c .if1 .g) _ made (s h .pre .0 .0) (s h .pre .0 .1) in
+      omega (arith, more, ready h .few)
 
 first-unreached-requires : tie.Need-first-unreached-requires Inv-loop μ-loop
 first-unreached-requires c κs =
@@ -116,8 +166,8 @@ loop-holds : tie.Need-loop-holds Inv-loop μ-loop
 loop-holds c =
     let b = start (lent (c .before .before)) in
     let a = b .args in
-    starts (a .path .now) (a .price .now) (a .bound .now) (a .kept .now) (a .remembered .now) (a .status .now) (a .begun) (b .pre .1 .0 .0) (b .pre .1 .0 .1)
-    (b .pre .1 .1) (c .first-unreached .ensures)
+    starts (a .path .now) (a .price .now) (a .bound .now) (a .kept .now) (a .remembered .now) (a .status .now) (a .begun) (b .pre .0 .0) (b .pre .0 .1)
+    (b .pre .1 .0 .0) (b .pre .1 .0 .1) (b .pre .1 .1) (c .first-unreached .ensures)
 
 sub-wide : tie.Need-sub-wide Inv-loop μ-loop
 sub-wide c = ready (c .before) .depth-some
@@ -223,44 +273,94 @@ step-requires c κs =
       ),
     )
 
+-- the limit is looked at
+mul-if5 : tie.Need-mul-if5 Inv-loop μ-loop
+mul-if5 c = omega (arith, node (scanned (c .before)) .wide .ensures .1)
+
+slice-read-if5 : tie.Need-slice-read-if5 Inv-loop μ-loop
+slice-read-if5 c =
+    let k = c .before .before in
+    omega (arith, terminal-in (node (scanned k)), made-by-scan k .sized .prices)
+
+same-length-7 : tie.Need-same-length-7 Inv-loop μ-loop
+same-length-7 c = let k = c .before .before .before in omega (arith, made-by-scan k .path-long, s (head (node (scanned k))) .pre .1 .0 .0)
+
+same-length-8 : tie.Need-same-length-8 Inv-loop μ-loop
+same-length-8 c = let k = c .before .before .before in omega (arith, made-by-scan k .sized .prices, s (head (node (scanned k))) .pre .1 .0 .1 .prices)
+
+same-length-9 : tie.Need-same-length-9 Inv-loop μ-loop
+same-length-9 c = let k = c .before .before .before in omega (arith, made-by-scan k .sized .bounds, s (head (node (scanned k))) .pre .1 .0 .1 .bounds)
+
+same-length-10 : tie.Need-same-length-10 Inv-loop μ-loop
+same-length-10 c = let k = c .before .before .before in omega (arith, made-by-scan k .sized .kepts, s (head (node (scanned k))) .pre .1 .0 .1 .kepts)
+
+same-length-11 : tie.Need-same-length-11 Inv-loop μ-loop
+same-length-11 c = let k = c .before .before .before in omega (arith, made-by-scan k .remembered-long, s (head (node (scanned k))) .pre .1 .1 .count)
+
+same-length-12 : tie.Need-same-length-12 Inv-loop μ-loop
+same-length-12 c = let k = c .before .before .before in omega (arith, made-by-scan k .sized .statuses, s (head (node (scanned k))) .pre .1 .0 .1 .statuses)
+
+returns-2 : tie.Need-returns-2 Inv-loop μ-loop
+returns-2 c =
+    let k = c .before .before .before in
+    let n = node (scanned k) in
+    let limit = s (head n) .args .limit in
+    let price = after-step k .step .last .1 .1 .1 .1 .1 .1 .1 .1 .1 .1 .0 in
+    let i = head n .loop .inv in
+    let more = within n .loop-test .taken in
+    let begun = s (head n) .pre .0 in
+    let same = c .before .before .if4 .taken in
+    let origin = at-origin i more (made-by-scan k) (begun .0) (begun .1) (n .wide .result) (n .wide .ensures .0) same in
+    passes i more (made-by-scan k) same (subst (λ (v : ℕ). limit < getD price v 0) origin (ltb-true _ _ (c .if5 .taken)))
+
 first-unreached-requires-2 : tie.Need-first-unreached-requires-2 Inv-loop μ-loop
 first-unreached-requires-2 c κs =
-    let j = c .before in
+    let j = c .before .before .before in
     let h = head (at j) in
     (h .loop .inv .low, wanted-below (s h .pre .0 .0) (s h .pre .0 .1) (j .if1 .status) (made j .sized .statuses))
 
+-- the path is longer
 loop-less : tie.Need-loop-less Inv-loop μ-loop
-loop-less c =
-    let j = c .before .before in
-    let h = head (at j) in
-    let more = counted (h .loop .inv) (within (at j) .loop-test .taken) _ _ _ _ _ _ (j .if1 .g) _ (made j) (s h .pre .0 .0) (s h .pre .0 .1) in
-    omega (arith, more, ready h .few)
+loop-less c = less (c .before .before .before .before)
 
 loop-again : tie.Need-loop-again Inv-loop μ-loop
 loop-again c =
+    let j = c .before .before .before .before in
+    let i = head (at j) .loop .inv in
+    let more = within (at j) .loop-test .taken in
+    continues i more (made j) (low j) (looked-for i more (made j) (c .first-unreached2 .ensures))
+
+-- it is not
+loop-less-2 : tie.Need-loop-less-2 Inv-loop μ-loop
+loop-less-2 c = less (c .before .before)
+
+loop-again-2 : tie.Need-loop-again-2 Inv-loop μ-loop
+loop-again-2 c =
     let j = c .before .before in
-    continues (head (at j) .loop .inv) (within (at j) .loop-test .taken) (made j) (c .first-unreached2 .ensures)
+    let i = head (at j) .loop .inv in
+    let more = within (at j) .loop-test .taken in
+    continues i more (made j) (low j) (still-missing i more (made j) (c .if6 .left))
 
-same-length-7 : tie.Need-same-length-7 Inv-loop μ-loop
-same-length-7 c = path-same (c .before)
+same-length-13 : tie.Need-same-length-13 Inv-loop μ-loop
+same-length-13 c = path-same (c .before)
 
-same-length-8 : tie.Need-same-length-8 Inv-loop μ-loop
-same-length-8 c = price-same (c .before)
+same-length-14 : tie.Need-same-length-14 Inv-loop μ-loop
+same-length-14 c = price-same (c .before)
 
-same-length-9 : tie.Need-same-length-9 Inv-loop μ-loop
-same-length-9 c = bound-same (c .before)
+same-length-15 : tie.Need-same-length-15 Inv-loop μ-loop
+same-length-15 c = bound-same (c .before)
 
-same-length-10 : tie.Need-same-length-10 Inv-loop μ-loop
-same-length-10 c = kept-same (c .before)
+same-length-16 : tie.Need-same-length-16 Inv-loop μ-loop
+same-length-16 c = kept-same (c .before)
 
-same-length-11 : tie.Need-same-length-11 Inv-loop μ-loop
-same-length-11 c = remembered-same (c .before)
+same-length-17 : tie.Need-same-length-17 Inv-loop μ-loop
+same-length-17 c = remembered-same (c .before)
 
-same-length-12 : tie.Need-same-length-12 Inv-loop μ-loop
-same-length-12 c = status-same (c .before)
+same-length-18 : tie.Need-same-length-18 Inv-loop μ-loop
+same-length-18 c = status-same (c .before)
 
-returns-2 : tie.Need-returns-2 Inv-loop μ-loop
-returns-2 c = ends (c .before .loop .inv) (c .loop-test .left)
+returns-3 : tie.Need-returns-3 Inv-loop μ-loop
+returns-3 c = ends (c .before .loop .inv) (c .loop-test .left)
 
 pub iterate-spec : {M : Type 1} → statement M
 iterate-spec =
@@ -287,13 +387,24 @@ iterate-spec =
     returns
     add-scans
     step-requires
-    first-unreached-requires-2
-    loop-less
-    loop-again
+    mul-if5
+    slice-read-if5
     same-length-7
     same-length-8
     same-length-9
     same-length-10
     same-length-11
     same-length-12
-    returns-2)
+    returns-2
+    first-unreached-requires-2
+    loop-less
+    loop-again
+    loop-less-2
+    loop-again-2
+    same-length-13
+    same-length-14
+    same-length-15
+    same-length-16
+    same-length-17
+    same-length-18
+    returns-3)
