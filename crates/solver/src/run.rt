@@ -44,10 +44,10 @@ fn first_unreached(from: usize, wanted: &[u16], status: &[u8]) -> usize
 }
 
 // The iterations from the start, until every wanted node has been reached, the origin's price is above the limit, or the origin has no
-// child. A node that remembers a child goes on to it; one that does not scans its children. The limit is looked at where the path is as
-// long as before, since that is a contraction at the origin and no other iteration changes its price; the wanted nodes are looked at
-// where the path is longer, since no other iteration reaches a node. The loop has no cap: it ends because the auction does, and its
-// measure is the auction's own bound less the iterations made.
+// child. A node that remembers a child goes on to it; one that does not scans its children. Where the path is as long as before, the
+// origin's price has become the least bid, and no other iteration changes it, so the limit is held against that bid; the wanted nodes are
+// looked at where the path is longer, since no other iteration reaches a node. The loop has no cap: it ends because the auction does, and
+// its measure is the auction's own bound less the iterations made.
 fn iterate(
     begun: Progress,
     origin: usize,
@@ -121,7 +121,7 @@ fn iterate(
                 remembered,
                 status,
             );
-            if depth == g.depth && limit < price[v] {
+            if limit < least.value && depth == g.depth {
                 return RunEnd {
                     missing: w,
                     scans: scans,

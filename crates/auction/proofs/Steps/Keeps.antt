@@ -6,12 +6,12 @@ use mathlib.Core.Logic.{⊎-elim}
 use mathlib.Core.Option.{some}
 use Prim.Native.Nat.{ℕ, zero, suc, _≤_, _<_}
 use native.Mathlib.Omega.{arith}
-use lib.Dec.{ltb, eqb}
+use lib.Dec.{ltb}
 use lib.ListN.{length, getD, set}
 use lib.Seq.{getD-set-same, getD-set-other}
-use borrow.Author.Tests.{ltb-true, eqb-true, eq-eqb}
+use borrow.Author.Tests.{ltb-true, eq-eqb, ne-eqb}
 use Rattle.table.specs.Table.{Table, arc-count, head-at}
-use Rattle.auction.specs.Auction.{State, state, terminal, price-at, status-at, was-reached, takes, offer, offers, with-kept, with-status, reach, longer, extension, without-terminal, deletion, contraction, next, fresh, start, unreached, reached, deleted}
+use Rattle.auction.specs.Auction.{State, Bid, state, terminal, price-at, status-at, was-reached, best, takes, offer, offers, with-kept, with-status, reach, longer, extension, without-terminal, deletion, contraction, next, fresh, start, unreached, reached, deleted}
 use Rattle.table.proofs.Basics.{same-or, true-or, inside}
 use Rattle.auction.proofs.Steps.Kinds.{Kind, deletes, contracts, extends, kind}
 
@@ -47,24 +47,38 @@ unfolding without-terminal
 shorter [] h e = omega (arith, h)
 shorter (v ∷ p) h e = omega (arith, e)
 
--- AN ITERATION that leaves the path as long as it was is at the origin,
+-- AN ITERATION that leaves the path as long as it was is a contraction at the origin, whose price becomes the best bid,
+pub record Lifted (t : Table) (x y : State) : Type 0 where
+  pub bid : Bid
+  pub is-best : best t (terminal x) x ≡ some bid
+  pub price-so : price-at y (t .origin) ≡ bid .value
+
 module _ (t : Table) (x y : State) (e : next t x ≡ some y) where
-  same-long : 1 ≤ length (x .path) → Kind t x y → length (y .path) ≡ length (x .path) → terminal x ≡ t .origin
-  unfolding deletion contraction state
-  same-long some-node (deletes none-there inner same) h =
+  same-long : 1 ≤ length (x .path) → t .origin < length (x .price) → Kind t x y → length (y .path) ≡ length (x .path) → Lifted t x y
+  unfolding price-at deletion contraction state
+  same-long some-node inside (deletes none-there inner same) h =
       absurd (shorter (x .path) some-node (ap (λ (z : State). length (z .path)) same ∙ h))
-  same-long some-node (contracts b there less same) h =
-      ⊎-elim (λ (q : eqb (terminal x) (t .origin) ≡ true). eqb-true (terminal x) (t .origin) q)
-      (λ (q : eqb (terminal x) (t .origin) ≡ false).
+  same-long some-node inside (contracts b there less same) h =
+      ⊎-elim
+      (λ (q : terminal x ≡ t .origin).
+      record {
+        bid = b;
+        is-best = there;
+        price-so =
+            ap (λ (z : State). getD (z .price) (t .origin) 0) (sym same)
+            ∙ ap (λ (v : ℕ). getD (set (x .price) v (b .value)) (t .origin) 0) q ∙ getD-set-same (x .price) (t .origin) (b .value) 0 inside;
+      })
+      (λ (q : terminal x ≡ t .origin → ⊥).
       absurd
       (shorter (x .path) some-node
-      (ap (λ (c : Bool). length (cond c (x .path) (without-terminal (x .path)))) (sym q) ∙ ap (λ (z : State). length (z .path)) same ∙ h)))
-      (true-or (eqb (terminal x) (t .origin)))
-  same-long some-node (extends b there equal same) h =
+      (ap (λ (c : Bool). length (cond c (x .path) (without-terminal (x .path)))) (sym (ne-eqb (terminal x) (t .origin) q))
+      ∙ ap (λ (z : State). length (z .path)) same ∙ h)))
+      (same-or (terminal x) (t .origin))
+  same-long some-node inside (extends b there equal same) h =
       absurd (omega (arith, h, ap (λ (z : State). length (z .path)) same, ap length (extension-keeps t (head-at t (b .by-arc)) x .0)))
 
-  pub stays-at-origin : 1 ≤ length (x .path) → length (y .path) ≡ length (x .path) → terminal x ≡ t .origin
-  stays-at-origin some-node = same-long some-node (kind t x y e)
+  pub lifts : 1 ≤ length (x .path) → t .origin < length (x .price) → length (y .path) ≡ length (x .path) → Lifted t x y
+  lifts some-node inside = same-long some-node inside (kind t x y e)
 
   -- and every other leaves the origin's price as it was
   changed-long : Kind t x y → (length (y .path) ≡ length (x .path) → ⊥) → price-at y (t .origin) ≡ price-at x (t .origin)

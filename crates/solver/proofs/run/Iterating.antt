@@ -3,6 +3,7 @@
 use mathlib.Core.Path.{_≡_, refl, sym, ap, subst, _∙_}
 use mathlib.Core.Bool.{false}
 use mathlib.Core.List.{List}
+use mathlib.Core.Logic.{⊎-elim}
 use mathlib.Core.Option.{some}
 use Prim.Native.Nat.{ℕ, suc, _+_, _-_, _≤_, _<_}
 use native.Mathlib.Omega.{arith}
@@ -10,14 +11,14 @@ use lib.ListN.{length, getD}
 use lib.Dec.{ltb}
 use borrow.Author.Tests.{lt-ltb, le-ltb}
 use Rattle.table.specs.Table.{Table, no-arc, no-node}
-use Rattle.auction.specs.Auction.{State, Ended, state, ended, best, next, terminal, price-at, kept-at, all-reached, iterations, start, extension}
+use Rattle.auction.specs.Auction.{State, Ended, Bid, state, ended, bid, best, next, terminal, price-at, kept-at, all-reached, iterations, start, extension}
 use Rattle.auction.specs.Scans.{history, scan-count, scans}
 use Rattle.auction.specs.HandOver.{first-missing}
 use Rattle.auction.specs.Limit.{above, decided, limited}
-use Rattle.table.proofs.Basics.{either-first, either-second, neither}
+use Rattle.table.proofs.Basics.{same-or, either-first, either-second, neither}
 use Rattle.auction.proofs.Good.{good, wanted-in}
 use Rattle.auction.proofs.Steps.Effects.{reached-status, status-reached, kept-below}
-use Rattle.auction.proofs.Steps.Keeps.{start-path, stays-at-origin, moves-keep-price, reaches-none}
+use Rattle.auction.proofs.Steps.Keeps.{start-path, lifts, moves-keep-price, reaches-none}
 use Rattle.auction.proofs.Invariant.Sound.{terminal-status}
 use Rattle.auction.proofs.Invariant.Starting.{started-iterations, started-price}
 use Rattle.auction.proofs.Run.{Running, begins, goes-on, done, stuck, stepped}
@@ -34,7 +35,7 @@ use Rattle.steps.proofs.steps.Stepping.{is-stop}
 use Rattle.solver.proofs.run.Wanted.{some-missing, none-missing, same-missing, jump}
 use Rattle.solver.proofs.run.Holding.{Holding}
 use Rattle.solver.proofs.run.Ready.{Ready, few-in-all, path-length, ready, room-for, bound-low, next-is, can-step, kept-arcs, kept-in, has-before}
-use Rattle.solver.proofs.run.Storing.{stores}
+use Rattle.solver.proofs.run.Storing.{bid-arc, stores}
 use Rattle.solver.proofs.run.Recalling.{memory, holding-first, entry-kept, extends-by-entry, scans-no-more, holding-recalled, scans-once-more, holding-next}
 
 -- THE LOOP
@@ -271,23 +272,31 @@ module _ {ws : List ℕ} {o : ℕ} {ts hs ls first nexts : List ℕ} where
                   (reaches-none t x y (made .to t bg .is-next) here (omega (arith, short, path-length p u b k s g, path-length p′ u′ b′ k′ s′ g′))));
             }
 
-      -- where the path is as long as before the iteration was at the origin, and elsewhere the origin's price is as it was
+      -- where the path is as long as before the origin's price has become the least bid, and elsewhere it is as it was
       module _ {p′ u′ b′ k′ l′ s′ : List ℕ} {g′ : Progress} {c′ : ℕ} (made : Made ws o ts hs ls first nexts x₀ (seen p u b k s g) p′ u′ b′ k′ l′ s′ g′ c′)
-          (t : Table) (bg : Begun start t ws o (star hs ls first nexts) ts x₀) where
-        pub at-origin : (v : ℕ) → v ≡ getD p (g .depth - 1) 0 → g .depth ≡ g′ .depth → v ≡ o
-        at-origin v ev same =
+          (t : Table) (bg : Begun start t ws o (star hs ls first nexts) ts x₀) (v : ℕ) (ev : v ≡ getD p (g .depth - 1) 0) (least : LeastBid)
+          (bids : bid-in least ≡ best t v (seen p u b k s g)) where
+        lifted : g .depth ≡ g′ .depth → getD u′ o 0 ≡ least .value
+        unfolding seen state bid
+        lifted same =
             let x = seen p u b k s g in
             let y = seen p′ u′ b′ k′ s′ g′ in
             let long = path-length p′ u′ b′ k′ s′ g′ ∙ sym same ∙ sym (path-length p u b k s g) in
-            sym (at t bg v ev) ∙ stays-at-origin t x y (made .to t bg .is-next) (i .round t bg .running .within .path-some) long ∙ bg .origin-is
+            let r = i .round t bg .running in
+            let to-bid = lifts t x y (made .to t bg .is-next) (r .within .path-some) (omega (arith, r .good .origin-in, nodes-so t bg, i .sized .prices)) long in
+            let is-least = bid-arc (least .value) (least .arc) (to-bid .bid) (bids ∙ ap (λ (a : ℕ). best t a x) (sym (at t bg v ev)) ∙ to-bid .is-best) .1 in
+            sym (price-read t bg p′ u′ b′ k′ s′ g′) ∙ to-bid .price-so ∙ ap (λ (d : Bid). d .value) (sym is-least)
 
-        pub still-below : (g .depth ≡ g′ .depth → ⊥) → getD u′ o 0 ≤ limit
+        pub still-below : (limit < least .value → g .depth ≡ g′ .depth → ⊥) → getD u′ o 0 ≤ limit
         still-below d =
             let x = seen p u b k s g in
             let y = seen p′ u′ b′ k′ s′ g′ in
-            let long : length (y .path) ≡ length (x .path) → ⊥ = λ e. d (sym (path-length p u b k s g) ∙ sym e ∙ path-length p′ u′ b′ k′ s′ g′) in
+            ⊎-elim (λ (same : g .depth ≡ g′ .depth). let low : limit < least .value → ⊥ = λ above. d above same in omega (arith, lifted same, low))
+            (λ (other : g .depth ≡ g′ .depth → ⊥).
+            let long : length (y .path) ≡ length (x .path) → ⊥ = λ e. other (sym (path-length p u b k s g) ∙ sym e ∙ path-length p′ u′ b′ k′ s′ g′) in
             let same = moves-keep-price t x y (made .to t bg .is-next) long in
-            omega (arith, same, price-read t bg p u b k s g, price-read t bg p′ u′ b′ k′ s′ g′, i .below)
+            omega (arith, same, price-read t bg p u b k s g, price-read t bg p′ u′ b′ k′ s′ g′, i .below))
+            (same-or (g .depth) (g′ .depth))
 
       -- the iteration is counted
       pub counted : (p′ u′ b′ k′ l′ s′ : List ℕ) (g′ : Progress) (c′ : ℕ) → Made ws o ts hs ls first nexts x₀ (seen p u b k s g) p′ u′ b′ k′ l′ s′ g′ c′ →
@@ -385,17 +394,19 @@ module _ {ws : List ℕ} {o : ℕ} {ts hs ls first nexts : List ℕ} where
         ran limit (r .running) (ap (λ (e : Ended). e .last) (stuck (r .running) (undecided h t bg) e)) (r .missing) (i .low) (r .scanned)
 
     -- or an iteration that leaves the path as long as it was has lifted the origin's price above the limit
-    pub passes : {p′ u′ b′ k′ l′ s′ : List ℕ} {g′ : Progress} {c′ : ℕ} → w < length ws →
-        Made ws o ts hs ls first nexts x₀ (seen p u b k s g) p′ u′ b′ k′ l′ s′ g′ c′ → g .depth ≡ g′ .depth → limit < getD u′ o 0 →
+    pub passes : {p′ u′ b′ k′ l′ s′ : List ℕ} {g′ : Progress} {c′ : ℕ} → (h : w < length ws) →
+        Made ws o ts hs ls first nexts x₀ (seen p u b k s g) p′ u′ b′ k′ l′ s′ g′ c′ → (v : ℕ) → v ≡ getD p (g .depth - 1) 0 → (least : LeastBid) →
+        ((t : Table) → Outgoing t (star hs ls first nexts) → bid-in least ≡ best t v (seen p u b k s g)) → limit < least .value → g .depth ≡ g′ .depth →
         (t : Table) → Begun start t ws o (star hs ls first nexts) ts x₀ → Ran-within t ws limit w c′ (seen p′ u′ b′ k′ s′ g′)
     unfolding limited decided above ended
-    passes {p′} {u′} {b′} {k′} {l′} {s′} {g′} h made same above t bg =
+    passes {p′} {u′} {b′} {k′} {l′} {s′} {g′} h made v ev least bids above same t bg =
         let r = i .round t bg in
         let x = seen p u b k s g in
         let y = seen p′ u′ b′ k′ s′ g′ in
         let n = made .to t bg in
         let more = goes-on (r .running) y (undecided h t bg) (n .is-next) in
-        let high : limit < price-at y (t .origin) = omega (arith, above, price-read t bg p′ u′ b′ k′ s′ g′) in
+        let high : limit < price-at y (t .origin) =
+        omega (arith, above, lifted h made t bg v ev least (bids t (bg .listed)) same, price-read t bg p′ u′ b′ k′ s′ g′) in
         let there = still-missing h made (omega (arith, same)) in
         let passed = either-second (all-reached ws y) (ltb limit (price-at y (t .origin))) (lt-ltb limit (price-at y (t .origin)) high) in
         ran limit (more .0) (ap (λ (e : Ended). e .last) (done (more .0) passed)) (there .missing t bg) (there .low)

@@ -25,7 +25,7 @@ no-bid-arc : (value arc : ℕ) → bid-of value arc ≡ none → arc ≡ no-arc
 no-bid-arc value arc e =
     ⊎-elim (λ (z : arc ≡ no-arc). z) (λ (z : arc ≡ no-arc → ⊥). absurd (some-none (some-bid value arc z) e)) (same-or arc no-arc)
 
-bid-arc : (value arc : ℕ) (b : Bid) → bid-of value arc ≡ some b → (arc ≡ no-arc → ⊥) × (bid value arc ≡ b)
+pub bid-arc : (value arc : ℕ) (b : Bid) → bid-of value arc ≡ some b → (arc ≡ no-arc → ⊥) × (bid value arc ≡ b)
 bid-arc value arc b e =
     let any : arc ≡ no-arc → ⊥ = λ z. some-none e (no-bid value arc z) in
     (any, some-same (some-bid value arc any) e)

@@ -4,7 +4,7 @@ use mathlib.Core.List.{List}
 use mathlib.Core.Logic.{⊎-elim}
 use Prim.Native.Nat.{ℕ, suc, _+_, _-_, _≤_, _<_}
 use borrow.Author.Needs.{needs}
-use borrow.Author.Tests.{eqb-true, eqb-false, ltb-true, ltb-false}
+use borrow.Author.Tests.{eqb-true, eqb-false}
 use native.Mathlib.Omega.{arith}
 use lib.ListN.{length, getD}
 use Rattle.table.specs.Table.{Table}
@@ -14,7 +14,7 @@ use Rattle.steps.specs.Seen.{seen}
 use Rattle.steps.specs.Lists.{star, Outgoing, Some-table}
 use Rattle.steps.specs.Steps.{bid-in}
 use Rattle.solver.proofs.run.Ready.{Ready, few-in-all}
-use Rattle.solver.proofs.run.Iterating.{Iterating, Made, made-same, starts, now-ready, node-before, tails-known, few-scans, wanted-below, may-extend, may-step, by-memory, by-scan, continues, looked-for, still-missing, at-origin, still-below, counted, ends, stops, passes}
+use Rattle.solver.proofs.run.Iterating.{Iterating, Made, made-same, starts, now-ready, node-before, tails-known, few-scans, wanted-below, may-extend, may-step, by-memory, by-scan, continues, looked-for, still-missing, still-below, counted, ends, stops, passes}
 use Rattle.solver.proofs.run.iterate.Statement.{statement}
 use Rattle.solver.proofs.run.iterate.Tie as tie
 
@@ -71,6 +71,15 @@ module _ (c : tie.After-wide Inv-loop μ-loop) where
   terminal-in : c .wide .result < length (s head .args .first .now)
   terminal-in = omega (arith, c .wide .ensures .0, ready head .terminal-in)
 
+  -- an iteration has been made from the state at the loop's head: these arrays hold the next one
+  abbrev Made-from : (path price bound kept remembered status : List ℕ) → Progress → (scans : ℕ) → Type 0
+  Made-from =
+      let a = s head .args in
+      let l = head .loop in
+      Made (a .wanted .now) (a .origin) (a .tails .now) (a .heads .now) (a .lengths .now) (a .first .now) (a .next .now)
+      (seen (a .path .now) (a .price .now) (a .bound .now) (a .kept .now) (a .status .now) (a .begun))
+      (seen (l .path) (l .price) (l .bound) (l .kept) (l .status) (l .g))
+
 -- what a scan finds
 module _ (c : tie.After-least-bid Inv-loop μ-loop) where
   abbrev node : tie.After-wide Inv-loop μ-loop
@@ -92,28 +101,24 @@ module _ (c : tie.After-struct-known2 Inv-loop μ-loop) where
   abbrev scanned : tie.After-least-bid Inv-loop μ-loop
   scanned = bid (after-step .before .before .before .before .before .before .before)
 
-  made-by-scan : let a = s (head (node scanned)) .args in let l = head (node scanned) .loop in let n = after-step .step .last .1 .1 .1 .1 .1 .1 .1 .1 .1 in
-      Made (a .wanted .now) (a .origin) (a .tails .now) (a .heads .now) (a .lengths .now) (a .first .now) (a .next .now)
-      (seen (a .path .now) (a .price .now) (a .bound .now) (a .kept .now) (a .status .now) (a .begun))
-      (seen (l .path) (l .price) (l .bound) (l .kept) (l .status) (l .g)) (n .0) (n .1 .0) (n .1 .1 .0) (n .1 .1 .1 .0) (n .1 .1 .1 .1 .0) (n .1 .1 .1 .1 .1 .0)
-      (after-step .step .result) (l .scans + 1)
+  made-by-scan : let n = after-step .step .last .1 .1 .1 .1 .1 .1 .1 .1 .1 in
+      Made-from (node scanned) (n .0) (n .1 .0) (n .1 .1 .0) (n .1 .1 .1 .0) (n .1 .1 .1 .1 .0) (n .1 .1 .1 .1 .1 .0) (after-step .step .result)
+      (head (node scanned) .loop .scans + 1)
   made-by-scan =
       let n = node scanned in
       let called = after-step .step in
+      let a = called .last .1 .1 .1 .1 .1 .1 .1 .1 .1 in
       let kept = called .kept .1 .1 .1 .1 .1 .1 .1 .1 .1 in
       by-scan (head n .loop .inv) (n .wide .result) (n .wide .ensures .0) (scanned .before .before .before .before .if1 .left) (scanned .least-bid .result) (bids scanned)
-      (scanned .least-bid .ensures .1) _ _ _ _ _ _ _ (called .ensures .0) (called .ensures .1) (kept .0) (kept .1 .0) (kept .1 .1 .0) (kept .1 .1 .1 .0)
-      (kept .1 .1 .1 .1 .0) (kept .1 .1 .1 .1 .1 .0)
+      (scanned .least-bid .ensures .1) (a .0) (a .1 .0) (a .1 .1 .0) (a .1 .1 .1 .0) (a .1 .1 .1 .1 .0) (a .1 .1 .1 .1 .1 .0) (called .result)
+      (called .ensures .0) (called .ensures .1) (kept .0) (kept .1 .0) (kept .1 .1 .0) (kept .1 .1 .1 .0) (kept .1 .1 .1 .1 .0) (kept .1 .1 .1 .1 .1 .0)
 
 -- where an iteration has been made, by memory or by a scan
 module _ (c : tie.Joined1 Inv-loop μ-loop) where
   abbrev at : tie.After-wide Inv-loop μ-loop
   at = c .before .before
 
-  made : let a = s (head at) .args in let l = head at .loop in let n = c .if1 in
-      Made (a .wanted .now) (a .origin) (a .tails .now) (a .heads .now) (a .lengths .now) (a .first .now) (a .next .now)
-      (seen (a .path .now) (a .price .now) (a .bound .now) (a .kept .now) (a .status .now) (a .begun))
-      (seen (l .path) (l .price) (l .bound) (l .kept) (l .status) (l .g)) (n .path) (n .price) (n .bound) (n .kept) (n .remembered) (n .status) (n .g) (n .scans)
+  made : let n = c .if1 in Made-from at (n .path) (n .price) (n .bound) (n .kept) (n .remembered) (n .status) (n .g) (n .scans)
   made =
       let l = head at .loop in
       let v = at .wide .result in
@@ -121,13 +126,16 @@ module _ (c : tie.Joined1 Inv-loop μ-loop) where
       ⊎-elim
       (λ w.
       let kept = w .6 .kept .1 .1 .1 .1 .1 .1 .1 in
+      let a = w .6 .last .1 .1 .1 .1 .1 .1 .1 in
       made-same (w .17) (w .18) (w .19) (w .20) (w .21) (w .22) (w .23) (w .24)
-      (by-memory (l .inv) v ev (w .0 .taken) _ _ _ _ _ _ (w .6 .ensures .0 (l .price)) (w .6 .ensures .1 (l .price)) (kept .0) (kept .1 .0) (kept .1 .1 .0)
-      (kept .1 .1 .1 .0) (kept .1 .1 .1 .1 .0)))
+      (by-memory (l .inv) v ev (w .0 .taken) (a .0) (a .1 .0) (a .1 .1 .0) (a .1 .1 .1 .0) (a .1 .1 .1 .1 .0) (w .6 .result)
+      (w .6 .ensures .0 (l .price)) (w .6 .ensures .1 (l .price)) (kept .0) (kept .1 .0) (kept .1 .1 .0) (kept .1 .1 .1 .0) (kept .1 .1 .1 .1 .0)))
       (λ w.
       let kept = w .13 .kept .1 .1 .1 .1 .1 .1 .1 .1 .1 in
+      let a = w .13 .last .1 .1 .1 .1 .1 .1 .1 .1 .1 in
       made-same (w .28) (w .29) (w .30) (w .31) (w .32) (w .33) (w .34) (w .35)
-      (by-scan (l .inv) v ev (w .0 .left) (w .4 .result) (λ t here. w .4 .ensures .0 t (l .path) (l .bound) (l .g) here) (w .4 .ensures .1) _ _ _ _ _ _ _
+      (by-scan (l .inv) v ev (w .0 .left) (w .4 .result) (λ t here. w .4 .ensures .0 t (l .path) (l .bound) (l .g) here) (w .4 .ensures .1)
+      (a .0) (a .1 .0) (a .1 .1 .0) (a .1 .1 .1 .0) (a .1 .1 .1 .1 .0) (a .1 .1 .1 .1 .1 .0) (w .13 .result)
       (w .13 .ensures .0) (w .13 .ensures .1) (kept .0) (kept .1 .0) (kept .1 .1 .0) (kept .1 .1 .1 .0) (kept .1 .1 .1 .1 .0) (kept .1 .1 .1 .1 .1 .0)))
       (c .if1 .came)
 
@@ -141,13 +149,10 @@ module _ (c : tie.Joined1 Inv-loop μ-loop) where
       let more = within at .loop-test .taken in
       ⊎-elim (λ w. subst (λ (u : List ℕ). getD u o 0 ≤ limit) (sym (w .18)) (l .inv .below))
       (λ w.
-      ⊎-elim
-      (λ q.
-      let price = w .13 .last .1 .1 .1 .1 .1 .1 .1 .1 .1 .1 .0 in
-      let origin = at-origin (l .inv) more made (begun .0) (begun .1) (at .wide .result) (at .wide .ensures .0) (q .0 .taken ∙ sym (ap (λ (g : Progress). g .depth) (w .34))) in
-      subst (λ (u : List ℕ). getD u o 0 ≤ limit) (sym (w .29)) (subst (λ (v : ℕ). getD price v 0 ≤ limit) origin (ltb-false _ _ (q .2 .left))))
-      (λ q. still-below (l .inv) more made (begun .0) (begun .1) (λ e. q .left (e ∙ ap (λ (g : Progress). g .depth) (w .34))))
-      (w .27 .came))
+      let depth = ap (λ (g : Progress). g .depth) (w .34) in
+      still-below (l .inv) more made (begun .0) (begun .1) (at .wide .result) (at .wide .ensures .0) (w .4 .result)
+      (w .4 .ensures .0 (begun .0) (l .path) (l .bound) (l .g) (begun .1 .listed))
+      (⊎-elim (λ q above same. eqb-false _ _ (q .2 .left) (same ∙ depth)) (λ q above same. omega (arith, above, q .left)) (w .27 .came)))
       (c .if1 .came)
 
   -- and one iteration more is counted
@@ -273,15 +278,6 @@ step-requires c κs =
       ),
     )
 
--- the limit is looked at
-mul-if5 : tie.Need-mul-if5 Inv-loop μ-loop
-mul-if5 c = omega (arith, node (scanned (c .before)) .wide .ensures .1)
-
-slice-read-if5 : tie.Need-slice-read-if5 Inv-loop μ-loop
-slice-read-if5 c =
-    let k = c .before .before in
-    omega (arith, terminal-in (node (scanned k)), made-by-scan k .sized .prices)
-
 same-length-7 : tie.Need-same-length-7 Inv-loop μ-loop
 same-length-7 c = let k = c .before .before .before in omega (arith, made-by-scan k .path-long, s (head (node (scanned k))) .pre .1 .0 .0)
 
@@ -304,14 +300,8 @@ returns-2 : tie.Need-returns-2 Inv-loop μ-loop
 returns-2 c =
     let k = c .before .before .before in
     let n = node (scanned k) in
-    let limit = s (head n) .args .limit in
-    let price = after-step k .step .last .1 .1 .1 .1 .1 .1 .1 .1 .1 .1 .0 in
-    let i = head n .loop .inv in
-    let more = within n .loop-test .taken in
-    let begun = s (head n) .pre .0 in
-    let same = c .before .before .if4 .taken in
-    let origin = at-origin i more (made-by-scan k) (begun .0) (begun .1) (n .wide .result) (n .wide .ensures .0) same in
-    passes i more (made-by-scan k) same (subst (λ (v : ℕ). limit < getD price v 0) origin (ltb-true _ _ (c .if5 .taken)))
+    passes (head n .loop .inv) (within n .loop-test .taken) (made-by-scan k) (n .wide .result) (n .wide .ensures .0) (scanned k .least-bid .result)
+    (bids (scanned k)) (c .before .before .if4 .taken) (eqb-true _ _ (c .if5 .taken))
 
 first-unreached-requires-2 : tie.Need-first-unreached-requires-2 Inv-loop μ-loop
 first-unreached-requires-2 c κs =
@@ -387,8 +377,6 @@ iterate-spec =
     returns
     add-scans
     step-requires
-    mul-if5
-    slice-read-if5
     same-length-7
     same-length-8
     same-length-9
