@@ -1,14 +1,14 @@
 // The library for firmware: the five entry points under C names, nothing else. include/kestrelore.h declares them; each has the contract of the function
 // that it hands on to.
 ghost use Rattle.planner.specs.Plan.{Plans};
-ghost use Rattle.planner.specs.Limit.{Answers-limit};
+ghost use Rattle.limit_answer.specs.Answer.{Answers-limit};
 ghost use Rattle.paths.specs.Listing.{Lists-path};
 ghost use Rattle.link_file.specs.Entries.{Reads-file, Writes-file};
 use hand_over::Planned;
+use limit_answer::Within;
 use link_file::TableRead;
 use link_file::Written;
 use paths::Listed;
-use planner::Within;
 
 // Plans the routes of a link table.
 #[no_mangle]

@@ -1,6 +1,4 @@
--- From the refusals to the run and from the run to the hand-over, without and with a limit; and the promises to a user.
+-- From the refusals to the run and from the run to the hand-over, without and with a limit; and the promise to a user.
 pub mod Planning
 pub mod Limiting
 pub mod Promised
-pub mod Limits
-pub mod Rows

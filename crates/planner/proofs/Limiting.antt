@@ -1,22 +1,20 @@
--- From the run within a limit to its answer, and from the refusals to the run. Assumes nothing.
+-- From the run within a limit to its answer, and what the code tests. Assumes nothing.
 use mathlib.Core.Path.{_≡_, refl, sym, ap, subst, _∙_}
 use mathlib.Core.Bool.{true, cond}
 use mathlib.Core.List.{List, [], _∷_}
-use Prim.Native.Nat.{ℕ, _^_}
+use Prim.Native.Nat.{ℕ}
 use lib.Dec.{eqb}
 use lib.ListN.{length}
-use borrow.Author.Tests.{eq-eqb, ne-eqb}
-use Rattle.table.specs.Table.{Table, table-of, is-table, Below}
+use borrow.Author.Tests.{eq-eqb}
+use Rattle.table.specs.Table.{Table}
 use Rattle.table.specs.declared.Refusal.{Refusal}
 use Rattle.table.specs.Refusals.{room, rooms-fit, table-refusal}
 use Rattle.table.proofs.Basics.{and-true}
 use Rattle.auction.specs.Auction.{State, all-reached, was-reached, iterations}
 use Rattle.auction.specs.Limit.{limited, limited-state}
 use Rattle.auction.specs.Plan.{rooms}
-use Rattle.auction.proofs.Made.{unrefused}
+use Rattle.limit_answer.specs.Answer.{within, limit-refusal, limit-of}
 use Rattle.solver.specs.Runs.{Ran-within}
-use Rattle.planner.specs.declared.Within.{Within}
-use Rattle.planner.specs.Limit.{within, limit-refusal, limit-of, within-limit}
 use Rattle.planner.proofs.Planning.{all-found}
 
 -- one wanted node
@@ -43,25 +41,3 @@ module _ (n o v : ℕ) (ts hs ls : List ℕ) where
   pub refusal-so : (f : Refusal) → f ≡ table-refusal n o ts hs ls (v ∷ []) (rooms n (length ts) n n n (length ts)) → f ≡ limit-refusal n o v ts hs ls
   unfolding limit-refusal table-refusal rooms-fit
   refusal-so f e = (rw (no-buffers n (length ts)) at e)
-
-  -- where none applies
-  pub record Fine : Type 0 where
-    pub heads-count : length hs ≡ length ts
-    pub lengths-count : length ls ≡ length ts
-    pub table-good : is-table (table-of n o ts hs ls) (v ∷ []) ≡ true
-
-  module _ (f : Refusal) (e : f ≡ limit-refusal n o v ts hs ls) where
-    pub fine : Below (2 ^ 32) ls → f .number ≡ 0 → Fine
-    unfolding limit-refusal
-    fine low z =
-        let u = unrefused n o ts hs ls (v ∷ []) [] low (ap (λ (g : Refusal). g .number) (sym e) ∙ z) in
-        record { heads-count = sym (u .heads-count); lengths-count = sym (u .heads-count ∙ u .lengths-count); table-good = u .table-good }
-
-    -- THE ANSWER
-    pub refused : (limit : ℕ) → (f .number ≡ 0 → ⊥) → within (f .number) (f .place) 0 0 ≡ within-limit n o v limit ts hs ls
-    unfolding within-limit
-    refused limit d = rw (← e, ne-eqb (f .number) 0 d)
-
-    pub asked : (limit : ℕ) → f .number ≡ 0 → (r : Within) → r ≡ limit-of (table-of n o ts hs ls) v limit → r ≡ within-limit n o v limit ts hs ls
-    unfolding within-limit
-    asked limit z r q = rw (← e, eq-eqb (f .number) 0 z) q

@@ -1,4 +1,2 @@
 pub mod Plan
-pub mod Limit
-pub mod Rows
 pub mod Promise

@@ -10,13 +10,14 @@ ghost use Rattle.table.specs.Table.{table-of, is-table};
 ghost use Rattle.auction.specs.Auction.{fresh};
 ghost use Rattle.steps.specs.Seen.{seen, Sized};
 ghost use Rattle.auction.specs.Plan.{routes-of};
+ghost use Rattle.limit_answer.specs.Answer.{limit-of, Answers-limit};
 ghost use Rattle.table.specs.Slices.{was, left};
 ghost use Rattle.hand_over.specs.Answered.{answered};
 ghost use Rattle.hand_over.specs.ReadOff.{Fitting};
 ghost use Rattle.planner.specs.Plan.{Plans};
-ghost use Rattle.planner.specs.Limit.{limit-of, Answers-limit};
 use hand_over::Planned;
 use hand_over::hand_over;
+use limit_answer::Within;
 use refusals::table_refusal;
 use solver::run::NO_LIMIT;
 use solver::run::run;
@@ -181,15 +182,6 @@ pub fn plan_routes(
     )
 }
 
-// Number and place of a refusal, number 0 where there is none; 1 where the node is within the limit, else 0; the iterations made.
-#[repr(C)]
-pub struct Within {
-    pub number: u32,
-    pub place: u32,
-    pub within: u32,
-    pub iterations: u64,
-}
-
 // 1 where no wanted node is missing, else 0.
 fn one_if_found(missing: usize, wanted: usize) -> u32
     ensures { λ r. ⌜ r ≡ cond (eqb missing wanted) 1 0 ⌝ }
@@ -245,7 +237,7 @@ fn limit_table(
 }
 
 // Whether a node is within a limit: whether some walk from the origin to it is no longer. The run ends as soon as the node is reached or
-// the origin's price is above the limit. The answer of specs/Limit.antt says what it holds, for every input.
+// the origin's price is above the limit. The answer of crates/limit_answer/specs/Answer.antt says what it holds, for every input.
 pub fn within_limit(
     n: u32,
     origin: u16,

@@ -5,17 +5,17 @@ use Prim.Native.Nat.{ℕ}
 use Rattle.table.specs.Table.{Table}
 use Rattle.auction.specs.HandOver.{Answer}
 use Rattle.auction.specs.Demands.{Demands}
-use Rattle.planner.specs.declared.Within.{Within}
-use Rattle.planner.specs.Promise.{Limit-kept}
+use Rattle.limit_answer.specs.declared.Within.{Within}
+use Rattle.limit_answer.specs.Promises.{Limit-kept}
 use Rattle.auction.proofs.Promised.{promised}
 use Rattle.auction.proofs.Demanded.{demands-met, counts-pinned, hollow-fails}
 use Rattle.auction.proofs.Limit.{limits}
 use Rattle.auction.proofs.Absent.{absent}
 use Rattle.auction.proofs.Stability.{stability}
 use Rattle.auction.proofs.Answers.{rack-holds}
+use Rattle.limit_answer.proofs.Promised.{limits-kept, limits-pinned, limits-refused}
+use Rattle.limit_answer.proofs.Rows as Limits
 use Rattle.planner.proofs.Promised.{plans-kept, refusals-touch-nothing}
-use Rattle.planner.proofs.Limits.{limits-kept, limits-pinned, limits-refused}
-use Rattle.planner.proofs.Rows as Limits
 use Rattle.paths.proofs.Promised.{routes-listed, plans-listed}
 use Rattle.paths.proofs.Examples as Paths
 use Rattle.link_format.proofs.ReadThenWrite.{accepted-files-write-back}

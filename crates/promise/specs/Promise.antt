@@ -6,8 +6,9 @@ use Rattle.auction.specs.Limit.{Within-limit, Limit-cuts, Unlimited}
 use Rattle.auction.specs.Absent.{Down-is-all-ones, Absent-nowhere, Absent-closed-up, Walks-without-absent, Steps-without-absent, Auction-without-absent, Limited-without-absent, Scans-without-absent, Plan-without-absent}
 use Rattle.auction.specs.Stability.{Same-choice, Route-stays, Wanted-route-stays, Link-added}
 use Rattle.auction.specs.Rack.{Rack-holds}
-use Rattle.planner.specs.Promise.{Plans-kept, Refusals-touch-nothing, Limits-kept, Limits-pinned, Limits-refused}
-use Rattle.planner.specs.Rows as Limits
+use Rattle.limit_answer.specs.Promises.{Limits-kept, Limits-pinned, Limits-refused}
+use Rattle.limit_answer.specs.Rows as Limits
+use Rattle.planner.specs.Promise.{Plans-kept, Refusals-touch-nothing}
 use Rattle.paths.specs.Promises.{Routes-listed, Plans-listed}
 use Rattle.paths.specs.Examples as Paths
 use Rattle.link_format.specs.Promises.{Accepted-files-write-back, Written-tables-read-back, Long-files-are-refused, Files-refused-by-number, Needless-is-not-canonical, Needless-header-is-not-canonical}

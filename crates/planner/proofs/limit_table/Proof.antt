@@ -10,7 +10,7 @@ use Rattle.table.specs.Table.{table-of, is-table, most-nodes}
 use Rattle.auction.specs.Auction.{state, fresh, iterations}
 use Rattle.steps.specs.declared.state.RunState.{RunState}
 use Rattle.steps.specs.Seen.{seen, held, first-of, Sized}
-use Rattle.planner.specs.Limit.{limit-of, within}
+use Rattle.limit_answer.specs.Answer.{limit-of, within}
 use Rattle.planner.proofs.Planning.{origin-low, nodes-low, fresh-so, part-fits, parts-long}
 use Rattle.planner.proofs.Limiting.{limit-so}
 use Rattle.planner.proofs.limit_table.Statement.{statement}

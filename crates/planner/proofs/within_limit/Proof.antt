@@ -1,9 +1,10 @@
 -- The run within the limit is made, or the table is refused. Assumes nothing.
-use mathlib.Core.Path.{_≡_, refl}
+use mathlib.Core.Path.{_≡_, refl, sym, _∙_}
 use Rattle.table.specs.Table.{Below}
 use Rattle.table.specs.declared.Refusal.{Refusal}
-use Rattle.planner.specs.Limit.{within, limit-refusal}
-use Rattle.planner.proofs.Limiting.{refusal-so, refused, asked, fine}
+use Rattle.limit_answer.specs.Answer.{within, limit-refusal}
+use Rattle.limit_answer.proofs.Refused.{fine, asked, refused}
+use Rattle.planner.proofs.Limiting.{refusal-so}
 use borrow.Author.Needs.{needs}
 use Rattle.planner.proofs.within_limit.Statement.{statement}
 use Rattle.planner.proofs.within_limit.Tie as tie
@@ -47,15 +48,15 @@ returns c =
     let g = c .before .before in
     let r = known g in
     let a = s r .args in
-    asked (a .n) (a .origin) (a .node) (a .tails .now) (a .heads .now) (a .lengths .now) (f r) (tested r) (a .limit) (g .if1 .taken) _
-    (c .limit-table .ensures (a .node) refl)
+    c .limit-table .ensures (a .node) refl
+    ∙ sym (asked (a .n) (a .origin) (a .node) (a .tails .now) (a .heads .now) (a .lengths .now) (f r) (tested r) (a .limit) (g .if1 .taken))
 
 returns-2 : tie.Need-returns-2
 unfolding within
 returns-2 c =
     let r = c .before .before in
     let a = s r .args in
-    refused (a .n) (a .origin) (a .node) (a .tails .now) (a .heads .now) (a .lengths .now) (f r) (tested r) (a .limit) (c .if1 .left)
+    sym (refused (a .n) (a .origin) (a .node) (a .tails .now) (a .heads .now) (a .lengths .now) (f r) (tested r) (a .limit) (c .if1 .left))
 
 pub within-limit-spec : {M : Type 1} → statement M
 within-limit-spec =

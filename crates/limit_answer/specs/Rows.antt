@@ -4,8 +4,8 @@ use mathlib.Core.Path.{_≡_}
 use mathlib.Core.List.{[], _∷_, map}
 use Prim.Native.Nat.{ℕ}
 use Rattle.table.specs.Table.{down}
-use Rattle.planner.specs.declared.Within.{Within}
-use Rattle.planner.specs.Limit.{within, within-limit}
+use Rattle.limit_answer.specs.declared.Within.{Within}
+use Rattle.limit_answer.specs.Answer.{within, within-limit}
 
 -- T: arcs 0 to 1, 0 to 2, 1 to 2, 2 to 3, 1 to 3; nodes 0 to 3 are at the distances 0, 2, 5 and 6
 unfoldable pub of-T : (n origin node limit : ℕ) → Within

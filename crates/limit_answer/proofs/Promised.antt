@@ -1,13 +1,11 @@
--- The promises of specs/Promise.antt about limits. Assumes nothing.
+-- The promises of specs/Promises.antt. Assumes nothing.
 use mathlib.Core.Path.{_≡_, refl, sym, ap, subst, _∙_}
 use mathlib.Core.Bool.{Bool, true, false, cond}
-use mathlib.Core.List.{List, [], _∷_}
+use mathlib.Core.List.{[], _∷_}
 use mathlib.Core.Logic.{_⊎_, inl, inr, ⊎-elim}
 use Prim.Native.Nat.{ℕ, _<_}
 use native.Mathlib.Omega.{arith}
-use borrow.Author.Tests.{eq-eqb, ne-eqb}
 use Rattle.table.specs.Table.{Table, table-of, is-table}
-use Rattle.table.specs.declared.Refusal.{Refusal}
 use Rattle.table.specs.Refusals.{rooms-fit}
 use Rattle.table.proofs.Basics.{same-or, not-both, some-none}
 use Rattle.auction.specs.Auction.{was-reached, iterations}
@@ -18,11 +16,10 @@ use Rattle.auction.specs.Limit.{limited-state, Within-limit, Limit-cuts}
 use Rattle.auction.proofs.Run.{none-after}
 use Rattle.auction.proofs.Limit.{within-limit, limit-cuts}
 use Rattle.auction.proofs.Made.{refusal-numbered}
-use Rattle.planner.specs.declared.Within.{Within}
-use Rattle.planner.specs.Limit.{within, limit-refusal, limit-of}
-use Rattle.planner.specs.Limit as specs
-use Rattle.planner.specs.Promise.{Limit-kept, Limits-kept, Limits-pinned, Limits-refused}
-use Rattle.planner.proofs.Limiting.{fine}
+use Rattle.limit_answer.specs.declared.Within.{Within}
+use Rattle.limit_answer.specs.Answer.{within, limit-refusal, limit-of}
+use Rattle.limit_answer.specs.Promises.{Limit-kept, Limits-kept, Limits-pinned, Limits-refused}
+use Rattle.limit_answer.proofs.Refused.{fine, asked, refused}
 
 -- 1 or 0, as a node was reached or not
 answer : Bool → ℕ
@@ -61,46 +58,34 @@ limit-kept t v limit e =
       no-later = cut .no-later;
     }
 
-module _ (n o v limit : ℕ) (ts hs ls : List ℕ) where
-  abbrev f : Refusal
-  f = limit-refusal n o v ts hs ls
-
-  unrefused-answer : f .number ≡ 0 → specs.within-limit n o v limit ts hs ls ≡ limit-of (table-of n o ts hs ls) v limit
-  unfolding specs.within-limit
-  unrefused-answer z = rw (eq-eqb (f .number) 0 z)
-
-  refused-answer : (f .number ≡ 0 → ⊥) → specs.within-limit n o v limit ts hs ls ≡ within (f .number) (f .place) 0 0
-  unfolding specs.within-limit
-  refused-answer d = rw (ne-eqb (f .number) 0 d)
-
 pub limits-kept : Limits-kept
 unfolding Limits-kept within
 limits-kept n o v limit ts hs ls r low e number =
     let t = table-of n o ts hs ls in
-    let g = f n o v limit ts hs ls in
+    let f = limit-refusal n o v ts hs ls in
     ⊎-elim
-    (λ (z : g .number ≡ 0).
-    subst (λ (a : Within). Limit-kept t v limit a) (sym (e ∙ unrefused-answer n o v limit ts hs ls z))
-    (limit-kept t v limit (fine n o v ts hs ls g refl low z .table-good)))
-    (λ (d : g .number ≡ 0 → ⊥). absurd (d (ap (λ (a : Within). a .number) (sym (e ∙ refused-answer n o v limit ts hs ls d)) ∙ number)))
-    (same-or (g .number) 0)
+    (λ (z : f .number ≡ 0).
+    subst (λ (a : Within). Limit-kept t v limit a) (sym (e ∙ asked n o v ts hs ls f refl limit z))
+    (limit-kept t v limit (fine n o v ts hs ls f refl low z .table-good)))
+    (λ (d : f .number ≡ 0 → ⊥). absurd (d (ap (λ (a : Within). a .number) (sym (e ∙ refused n o v ts hs ls f refl limit d)) ∙ number)))
+    (same-or (f .number) 0)
 
 pub limits-refused : Limits-refused
 unfolding Limits-refused within limit-of limit-refusal rooms-fit
 limits-refused n o v limit ts hs ls r e d =
-    let g = f n o v limit ts hs ls in
+    let f = limit-refusal n o v ts hs ls in
     let numbered = refusal-numbered n o ts hs ls (v ∷ []) [] in
     ⊎-elim
-    (λ (z : g .number ≡ 0). absurd (d (ap (λ (a : Within). a .number) (e ∙ unrefused-answer n o v limit ts hs ls z))))
-    (λ (q : g .number ≡ 0 → ⊥).
-    let so = e ∙ refused-answer n o v limit ts hs ls q in
-    let number : r .number ≡ g .number = ap (λ (a : Within). a .number) so in
+    (λ (z : f .number ≡ 0). absurd (d (ap (λ (a : Within). a .number) (e ∙ asked n o v ts hs ls f refl limit z))))
+    (λ (q : f .number ≡ 0 → ⊥).
+    let so = e ∙ refused n o v ts hs ls f refl limit q in
+    let number : r .number ≡ f .number = ap (λ (a : Within). a .number) so in
     record {
       low = omega (arith, number, numbered .0);
       no-buffers = λ z. not-both true refl (numbered .1 (sym number ∙ z));
       zeros = (ap (λ (a : Within). a .within) so, ap (λ (a : Within). a .iterations) so);
     })
-    (same-or (g .number) 0)
+    (same-or (f .number) 0)
 
 -- TWO ANSWERS: the one cannot be yes where the other is no, nor stop before the other
 module _ {t : Table} {v limit : ℕ} where

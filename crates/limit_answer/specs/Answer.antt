@@ -13,7 +13,7 @@ use Rattle.table.specs.Refusals.{table-refusal}
 use Rattle.table.specs.Slices.{Slice, was}
 use Rattle.auction.specs.Auction.{was-reached, iterations}
 use Rattle.auction.specs.Limit.{limited-state}
-use Rattle.planner.specs.declared.Within.{Within}
+use Rattle.limit_answer.specs.declared.Within.{Within}
 
 unfoldable pub within : (number place yes iterations : ℕ) → Within
 within n p y i = record { number = n; place = p; within = y; iterations = i }
