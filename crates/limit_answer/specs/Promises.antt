@@ -1,15 +1,16 @@
 -- WITHIN A LIMIT: the promise to a user. Whatever table, node and limit are handed to within_limit: where it answers number 0, `Limit-kept` holds of the
--- answer, which leaves no choice; on any other number the rest of the answer is 0. Assumes nothing.
+-- answer, which leaves no choice; on any other number the table is refused as the plan for this one wanted node is. Assumes nothing.
 use mathlib.Core.Path.{_≡_}
 use mathlib.Core.Bool.{true, false}
 use mathlib.Core.List.{List, [], _∷_}
 use mathlib.Core.Logic.{_⊎_}
 use mathlib.Core.Option.{none, some}
 use Prim.Native.Nat.{ℕ, _^_, _≤_, _<_}
+use lib.ListN.{length}
 use Rattle.table.specs.Table.{Table, table-of, is-walk, walk-length, Below}
 use Rattle.auction.specs.Auction.{State, next, after}
 use Rattle.auction.specs.Limit.{decided, Walk-within}
-use Rattle.auction.specs.Plan.{routes-of}
+use Rattle.auction.specs.Plan.{routes-of, plan}
 use Rattle.limit_answer.specs.declared.Within.{Within}
 use Rattle.limit_answer.specs.Answer.{within-limit}
 
@@ -38,12 +39,17 @@ unfoldable pub Limits-pinned : Type 0
 Limits-pinned =
     (t : Table) (v limit : ℕ) (a b : Within) → Limit-kept t v limit a → Limit-kept t v limit b → (a .within ≡ b .within) × (a .iterations ≡ b .iterations)
 
--- Any other number is one of 1, 2 and 4 to 7, and the rest of the answer is 0.
-pub record Limit-refused (r : Within) : Type 0 where
+-- Any other number is one of 1, 2 and 4 to 7.
+pub record Limit-refused (n o v : ℕ) (tails heads lengths : List ℕ) (r : Within) : Type 0 where
   pub low : r .number ≤ 7
   pub no-buffers : r .number ≡ 3 → ⊥
+  -- The node is tested like a wanted list of one: the plan for that list has this number and this place, whatever buffers are lent that fit.
+  pub as-wanted : (distances prices tree marks : List ℕ) → length distances ≡ n → length prices ≡ n → length tree ≡ n → length marks ≡ length tails →
+      let a = plan n o tails heads lengths (v ∷ []) distances prices tree marks in (r .number ≡ a .number) × (r .place ≡ a .place)
+  -- The rest of the answer is 0.
   pub zeros : (r .within ≡ 0) × (r .iterations ≡ 0)
 
 unfoldable pub Limits-refused : Type 0
 Limits-refused =
-    (n o v limit : ℕ) (tails heads lengths : List ℕ) (r : Within) → r ≡ within-limit n o v limit tails heads lengths → (r .number ≡ 0 → ⊥) → Limit-refused r
+    (n o v limit : ℕ) (tails heads lengths : List ℕ) (r : Within) → r ≡ within-limit n o v limit tails heads lengths → (r .number ≡ 0 → ⊥) →
+    Limit-refused n o v tails heads lengths r

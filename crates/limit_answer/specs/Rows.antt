@@ -49,6 +49,9 @@ pub record Rows : Type 0 where
   pub node-too-high : of-T 4 0 4 6 ≡ refused-by 5 0
   pub head-too-high : of-arc 0 2 4 1 9 ≡ refused-by 6 0
   pub length-zero : of-arc 0 1 0 1 9 ≡ refused-by 7 0
+  -- an arc's place is its position
+  pub second-head : within-limit 2 0 1 9 (0 ∷ 0 ∷ []) (1 ∷ 2 ∷ []) (4 ∷ 4 ∷ []) ≡ refused-by 6 1
+  pub second-length : within-limit 2 0 1 9 (0 ∷ 0 ∷ []) (1 ∷ 1 ∷ []) (4 ∷ 0 ∷ []) ≡ refused-by 7 1
   -- of two refusals the one with the lower number; also an arc that is down has to have good ends
   pub origin-before-node : of-T 4 4 4 6 ≡ refused-by 4 0
   pub node-before-arcs : of-arc 0 2 4 2 9 ≡ refused-by 5 0

@@ -1,19 +1,19 @@
 -- From the run within a limit to its answer, and what the code tests. Assumes nothing.
 use mathlib.Core.Path.{_≡_, refl, sym, ap, subst, _∙_}
-use mathlib.Core.Bool.{true, cond}
+use mathlib.Core.Bool.{cond}
 use mathlib.Core.List.{List, [], _∷_}
 use Prim.Native.Nat.{ℕ}
 use lib.Dec.{eqb}
 use lib.ListN.{length}
-use borrow.Author.Tests.{eq-eqb}
 use Rattle.table.specs.Table.{Table}
 use Rattle.table.specs.declared.Refusal.{Refusal}
-use Rattle.table.specs.Refusals.{room, rooms-fit, table-refusal}
+use Rattle.table.specs.Refusals.{table-refusal}
 use Rattle.table.proofs.Basics.{and-true}
 use Rattle.auction.specs.Auction.{State, all-reached, was-reached, iterations}
 use Rattle.auction.specs.Limit.{limited, limited-state}
 use Rattle.auction.specs.Plan.{rooms}
 use Rattle.limit_answer.specs.Answer.{within, limit-refusal, limit-of}
+use Rattle.limit_answer.proofs.Refused.{fitting, as-wanted}
 use Rattle.solver.specs.Runs.{Ran-within}
 use Rattle.planner.proofs.Planning.{all-found}
 
@@ -32,12 +32,7 @@ limit-so t ws v limit m c found i x e ran so count =
     ap (λ (z : State). was-reached z v) (ran-alone .last-so) ∙ sym (alone v x) ∙ all-found ran-alone ∙ ap (λ (l : List ℕ). eqb m (length l)) (sym e) in
     rw (so, count, reached, ran-alone .last-so)
 
--- THE REFUSALS: no buffers are lent
-no-buffers : (n m : ℕ) → rooms-fit (rooms n m n n n m) ≡ true
-unfolding rooms-fit rooms room
-no-buffers n m = rw (eq-eqb n n refl, eq-eqb m m refl)
-
-module _ (n o v : ℕ) (ts hs ls : List ℕ) where
-  pub refusal-so : (f : Refusal) → f ≡ table-refusal n o ts hs ls (v ∷ []) (rooms n (length ts) n n n (length ts)) → f ≡ limit-refusal n o v ts hs ls
-  unfolding limit-refusal table-refusal rooms-fit
-  refusal-so f e = (rw (no-buffers n (length ts)) at e)
+-- THE REFUSALS: no buffers are lent, so the code tests lengths that fit
+pub refusal-so : (n o v : ℕ) (ts hs ls : List ℕ) (f : Refusal) → f ≡ table-refusal n o ts hs ls (v ∷ []) (rooms n (length ts) n n n (length ts)) →
+    f ≡ limit-refusal n o v ts hs ls
+refusal-so n o v ts hs ls f e = e ∙ as-wanted n o v ts hs ls _ (fitting n (length ts) refl refl refl refl)

@@ -6,7 +6,7 @@ use Rattle.table.specs.Table.{Table}
 use Rattle.auction.specs.HandOver.{Answer}
 use Rattle.auction.specs.Demands.{Demands}
 use Rattle.limit_answer.specs.declared.Within.{Within}
-use Rattle.limit_answer.specs.Promises.{Limit-kept}
+use Rattle.limit_answer.specs.Promises.{Limit-kept, Limit-refused}
 use Rattle.auction.proofs.Promised.{promised}
 use Rattle.auction.proofs.Demanded.{demands-met, counts-pinned, hollow-fails}
 use Rattle.auction.proofs.Limit.{limits}
@@ -154,3 +154,6 @@ kept-limit t v limit r k =
       not-before = k .not-before;
       no-later = k .no-later;
     }
+
+pub refused-limit : (n o v : ℕ) (ts hs ls : List ℕ) (r : Within) → Limit-refused n o v ts hs ls r → Limit-refused n o v ts hs ls r
+refused-limit n o v ts hs ls r f = record { low = f .low; no-buffers = f .no-buffers; as-wanted = f .as-wanted; zeros = f .zeros }
