@@ -1,5 +1,5 @@
 -- The promises of specs/Limit.antt: where a run within a limit ends, the nodes reached are those within it. Assumes nothing.
-use mathlib.Core.Path.{_≡_, refl, ap, _∙_}
+use mathlib.Core.Path.{_≡_, refl, sym, ap, _∙_}
 use mathlib.Core.Bool.{Bool, true, false, _||_}
 use mathlib.Core.List.{List, [], _∷_}
 use mathlib.Core.Logic.{_⊎_, inl, inr, ⊎-elim}
@@ -12,7 +12,7 @@ use Rattle.auction.specs.Auction.{State, start, next, after, all-reached
 use Rattle.auction.specs.HandOver.{tree, returned}
 use Rattle.auction.specs.Promises.{last-state, Iterations-counted, Ends-by-itself}
 use Rattle.auction.specs.Limit.{above, decided, limited, limited-state, Walk-within, Within-limit, Limit-cuts, Unlimited, Limits}
-use Rattle.table.proofs.Basics.{true-or, below-or, both-true, not-both, either-true, either-false, or-false, some-none, some-same}
+use Rattle.table.proofs.Basics.{true-or, below-or, and-true, not-both, either-true, either-false, or-false, some-none, some-same}
 use Rattle.auction.proofs.Good.{Good, good}
 use Rattle.auction.proofs.Steps.Effects.{reached-status, unreached-status}
 use Rattle.auction.proofs.Invariant.Counting.{Invariant}
@@ -111,9 +111,9 @@ module _ (t : Table) (ws : List ℕ) (b : ℕ) where
         (below-or (iterations (last-state t ws)) (iterations x))
 
 -- one wanted node
-reached-alone : (v : ℕ) (x : State) → all-reached (v ∷ []) x ≡ true → was-reached x v ≡ true
+pub alone : (v : ℕ) (x : State) → all-reached (v ∷ []) x ≡ was-reached x v
 unfolding all-reached
-reached-alone v x e = both-true (was-reached x v) (all-reached [] x) e .0
+alone v x = and-true (was-reached x v)
 
 -- A NODE THAT IS NOT REACHED IS FARTHER: the origin's price, which no walk there is below, is above the limit, or it has no walk
 pub within-limit : Within-limit
@@ -129,7 +129,7 @@ within-limit t v b e =
       no = λ q walk w.
           ⊎-elim
           (λ (r : decided t ws b y ≡ true).
-          ⊎-elim (λ (a : all-reached ws y ≡ true). absurd (not-both (was-reached y v) (reached-alone v y a) q))
+          ⊎-elim (λ (a : all-reached ws y ≡ true). absurd (not-both (was-reached y v) (sym (alone v y) ∙ a) q))
           (λ (a : above t b y ≡ true). omega (arith, is-above t b y a, unreached-walk t g y d s walk v q w))
           (either-true (all-reached ws y) (above t b y) r))
           (λ (n : next t y ≡ none). absurd (not-both (was-reached y v) (walk-reached t g y d s (childless t y n) walk v w) q))

@@ -8,19 +8,14 @@ use lib.ListN.{length}
 use Rattle.table.specs.Table.{Table}
 use Rattle.table.specs.declared.Refusal.{Refusal}
 use Rattle.table.specs.Refusals.{table-refusal}
-use Rattle.table.proofs.Basics.{and-true}
-use Rattle.auction.specs.Auction.{State, all-reached, was-reached, iterations}
+use Rattle.auction.specs.Auction.{State, was-reached, iterations}
 use Rattle.auction.specs.Limit.{limited, limited-state}
 use Rattle.auction.specs.Plan.{rooms}
+use Rattle.auction.proofs.Limit.{alone}
 use Rattle.limit_answer.specs.Answer.{within, limit-refusal, limit-of}
 use Rattle.limit_answer.proofs.Refused.{fitting, as-wanted}
 use Rattle.solver.specs.Runs.{Ran-within}
 use Rattle.planner.proofs.Planning.{all-found}
-
--- one wanted node
-alone : (v : ℕ) (x : State) → all-reached (v ∷ []) x ≡ was-reached x v
-unfolding all-reached
-alone v x = and-true (was-reached x v)
 
 -- AFTER THE RUN
 pub limit-so : (t : Table) (ws : List ℕ) (v limit m c found i : ℕ) (x : State) → ws ≡ v ∷ [] → Ran-within t ws limit m c x → found ≡ cond (eqb m (length ws)) 1 0 →
