@@ -1,4 +1,4 @@
--- What a step leaves as it is. Assumes nothing.
+-- What a step leaves as it is, and which one changes the origin's price. Assumes nothing.
 use mathlib.Core.Path.{_≡_, refl, sym, ap, _∙_}
 use mathlib.Core.Bool.{Bool, true, false, cond}
 use mathlib.Core.List.{List, [], _∷_}

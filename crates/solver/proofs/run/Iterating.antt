@@ -394,7 +394,7 @@ module _ {ws : List ℕ} {o : ℕ} {ts hs ls first nexts : List ℕ} where
         ran limit (r .running) (ap (λ (e : Ended). e .last) (stuck (r .running) (undecided h t bg) e)) (r .missing) (i .low) (r .scanned)
 
     -- or an iteration that leaves the path as long as it was has lifted the origin's price above the limit
-    pub passes : {p′ u′ b′ k′ l′ s′ : List ℕ} {g′ : Progress} {c′ : ℕ} → (h : w < length ws) →
+    pub passes : {p′ u′ b′ k′ l′ s′ : List ℕ} {g′ : Progress} {c′ : ℕ} → w < length ws →
         Made ws o ts hs ls first nexts x₀ (seen p u b k s g) p′ u′ b′ k′ l′ s′ g′ c′ → (v : ℕ) → v ≡ getD p (g .depth - 1) 0 → (least : LeastBid) →
         ((t : Table) → Outgoing t (star hs ls first nexts) → bid-in least ≡ best t v (seen p u b k s g)) → limit < least .value → g .depth ≡ g′ .depth →
         (t : Table) → Begun start t ws o (star hs ls first nexts) ts x₀ → Ran-within t ws limit w c′ (seen p′ u′ b′ k′ s′ g′)
