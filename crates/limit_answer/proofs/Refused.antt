@@ -3,13 +3,12 @@ use mathlib.Core.Path.{_≡_, sym, ap, _∙_}
 use mathlib.Core.Bool.{true}
 use mathlib.Core.List.{List, [], _∷_}
 use Prim.Native.Nat.{ℕ, _^_}
-use lib.ListN.{length}
 use borrow.Author.Tests.{eq-eqb, ne-eqb}
-use Rattle.table.specs.Table.{table-of, is-table, Below}
+use Rattle.table.specs.Table.{table-of, Below}
 use Rattle.table.specs.declared.Refusal.{Refusal}
 use Rattle.table.specs.Refusals.{Room, room, rooms-fit, table-refusal}
 use Rattle.auction.specs.Plan.{rooms}
-use Rattle.auction.proofs.Made.{unrefused}
+use Rattle.auction.proofs.Made.{Unrefused, unrefused}
 use Rattle.limit_answer.specs.Answer.{within, limit-refusal, limit-of, within-limit}
 
 -- buffers that fit
@@ -23,18 +22,11 @@ module _ (n o v : ℕ) (ts hs ls : List ℕ) where
   unfolding limit-refusal table-refusal rooms-fit
   as-wanted rs fit = rw fit
 
-  -- where no refusal applies
-  pub record Fine : Type 0 where
-    pub heads-count : length hs ≡ length ts
-    pub lengths-count : length ls ≡ length ts
-    pub table-good : is-table (table-of n o ts hs ls) (v ∷ []) ≡ true
-
   module _ (f : Refusal) (e : f ≡ limit-refusal n o v ts hs ls) where
-    pub fine : Below (2 ^ 32) ls → f .number ≡ 0 → Fine
+    -- where none applies
+    pub fine : Below (2 ^ 32) ls → f .number ≡ 0 → Unrefused n o ts hs ls (v ∷ []) []
     unfolding limit-refusal
-    fine low z =
-        let u = unrefused n o ts hs ls (v ∷ []) [] low (ap (λ (g : Refusal). g .number) (sym e) ∙ z) in
-        record { heads-count = sym (u .heads-count); lengths-count = sym (u .heads-count ∙ u .lengths-count); table-good = u .table-good }
+    fine low z = unrefused n o ts hs ls (v ∷ []) [] low (ap (λ (g : Refusal). g .number) (sym e) ∙ z)
 
     -- THE ANSWER
     pub asked : (limit : ℕ) → f .number ≡ 0 → within-limit n o v limit ts hs ls ≡ limit-of (table-of n o ts hs ls) v limit

@@ -104,12 +104,6 @@ module _ (n o : ℕ) (ts hs ls ws : List ℕ) (eh : length hs ≡ length ts) (el
   pub nodes-low : n ≤ most-nodes
   nodes-low = omega (arith, good _ ws ok .few-nodes, nodes-so n o ts hs ls eh el)
 
-  -- the fresh state, as far as it is lent
-  pub fresh-so : (x : RunState) → ((t : Table) → t .origin ≡ o → t .origin < t .n → t .n ≤ most-nodes → held (first-of (t .n) x) ≡ fresh t) →
-      held (first-of n x) ≡ fresh (table-of n o ts hs ls)
-  unfolding table-of table
-  fresh-so x f = f (table-of n o ts hs ls) refl origin-low nodes-low
-
 -- a part of an array that is long enough
 pub part-fits : (l : List ℕ) (n : ℕ) → length l ≡ most-nodes → n ≤ most-nodes → n ≤ length l
 part-fits l n e h = omega arith
@@ -129,6 +123,29 @@ parts-long x n long h =
         statuses = part-long (x .status) n (sized .statuses) h;
       },
     )
+
+-- THE FRESH STATE, as far as it is lent: there are as many nodes as its parts have entries
+module _ (n o : ℕ) (ts hs ls ws : List ℕ) (eh : length hs ≡ length ts) (el : length ls ≡ length ts)
+    (ok : is-table (table-of n o ts hs ls) ws ≡ true) (x : RunState) where
+  pub lent-fresh : ((t : Table) → t .origin ≡ o → t .origin < t .n → t .n ≤ most-nodes → held (first-of (t .n) x) ≡ fresh t) →
+      (length (x .path) ≡ most-nodes) × Sized most-nodes (x .price) (x .bound) (x .kept) (x .status) →
+      let y = first-of n x in
+      let m = length (y .status) in
+      let t = table-of m o ts hs ls in
+      (is-table t ws ≡ true) × (((length (y .path) ≡ m) × Sized m (y .price) (y .bound) (y .kept) (y .status)) × (held y ≡ fresh t))
+  unfolding table-of table
+  lent-fresh is-fresh long =
+      let y = first-of n x in
+      let few = nodes-low n o ts hs ls ws eh el ok in
+      let lent-long = parts-long x n long few in
+      subst
+      (λ (m : ℕ).
+      let t = table-of m o ts hs ls in
+      (is-table t ws ≡ true) × (((length (y .path) ≡ m) × Sized m (y .price) (y .bound) (y .kept) (y .status)) × (held y ≡ fresh t)))
+      (sym (lent-long .1 .statuses)) (
+        ok,
+        (lent-long, is-fresh (table-of n o ts hs ls) refl (origin-low n o ts hs ls ws eh el ok) few),
+      )
 
 -- THE REFUSALS
 module _ (n o : ℕ) (ts hs ls ws ds ps tr ms : List ℕ) where

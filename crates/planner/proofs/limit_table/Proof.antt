@@ -1,17 +1,16 @@
 -- The fresh state's arrays are longer than the number of nodes: their first parts are lent to the run, and the answer is read off where it has ended.
 -- Assumes nothing.
-use mathlib.Core.Path.{_≡_, refl, sym, ap, subst, _∙_}
-use mathlib.Core.Bool.{true}
+use mathlib.Core.Path.{_≡_, refl, sym, ap, _∙_}
 use Prim.Native.Nat.{ℕ, _≤_}
 use borrow.Author.Needs.{needs}
 use native.Mathlib.Omega.{arith}
 use lib.ListN.{length, take}
-use Rattle.table.specs.Table.{table-of, is-table, most-nodes}
+use Rattle.table.specs.Table.{table-of, most-nodes}
 use Rattle.auction.specs.Auction.{state, fresh, iterations}
 use Rattle.steps.specs.declared.state.RunState.{RunState}
-use Rattle.steps.specs.Seen.{seen, held, first-of, Sized}
+use Rattle.steps.specs.Seen.{seen, first-of, Sized}
 use Rattle.limit_answer.specs.Answer.{limit-of, within}
-use Rattle.planner.proofs.Planning.{origin-low, nodes-low, fresh-so, part-fits, parts-long}
+use Rattle.planner.proofs.Planning.{origin-low, nodes-low, part-fits, parts-long, lent-fresh}
 use Rattle.planner.proofs.Limiting.{limit-so}
 use Rattle.planner.proofs.limit_table.Statement.{statement}
 use Rattle.planner.proofs.limit_table.Tie as tie
@@ -97,22 +96,10 @@ run-requires : tie.Need-run-requires
 run-requires c κs =
     let f = made (locals c) in
     let pre = s f .pre in
-    let a = s f .args in
-    let y = first-of (n f) (x f) in
-    subst
-    (λ (m : ℕ).
-    let t = table-of m (a .origin) (a .tails .now) (a .heads .now) (a .lengths .now) in
-    ((length (a .heads .now) ≡ length (a .tails .now)) × (length (a .lengths .now) ≡ length (a .tails .now)))
-    × ((is-table t (a .wanted .now) ≡ true) × (((length (y .path) ≡ m) × Sized m (y .price) (y .bound) (y .kept) (y .status)) × (held y ≡ fresh t))))
-    (status-part f) (
+    let a = s f .args in (
       pre .0,
-      (
-        pre .1,
-        (
-          lent-long f,
-          fresh-so (n f) (a .origin) (a .tails .now) (a .heads .now) (a .lengths .now) (a .wanted .now) (pre .0 .0) (pre .0 .1) (pre .1) (x f) (f .fresh .ensures .0),
-        ),
-      ),
+      lent-fresh (n f) (a .origin) (a .tails .now) (a .heads .now) (a .lengths .now) (a .wanted .now) (pre .0 .0) (pre .0 .1) (pre .1) (x f)
+          (f .fresh .ensures .0) (f .fresh .ensures .1),
     )
 
 one-if-found-requires : tie.Need-one-if-found-requires

@@ -1,16 +1,15 @@
 -- The fresh state's arrays are longer than the number of nodes: their first parts are lent. Assumes nothing.
 use mathlib.Core.Path.{_≡_, sym, ap, subst, _∙_}
-use mathlib.Core.Bool.{true}
 use Prim.Native.Nat.{ℕ, _≤_}
 use native.Mathlib.Omega.{arith}
 use lib.ListN.{length, take}
-use Rattle.table.specs.Table.{table-of, is-table, most-nodes}
+use Rattle.table.specs.Table.{table-of, most-nodes}
 use Rattle.auction.specs.Auction.{fresh}
 use Rattle.steps.specs.declared.state.RunState.{RunState}
-use Rattle.steps.specs.Seen.{held, first-of, Sized}
+use Rattle.steps.specs.Seen.{first-of, Sized}
 use Rattle.auction.specs.Plan.{routes-of}
 use Rattle.hand_over.specs.ReadOff.{Fitting}
-use Rattle.planner.proofs.Planning.{origin-low, fresh-so, part-fits, parts-long}
+use Rattle.planner.proofs.Planning.{origin-low, part-fits, parts-long, lent-fresh}
 use Rattle.planner.proofs.plan_table.Statement.{statement}
 use Rattle.planner.proofs.plan_table.Tie as tie
 
@@ -100,28 +99,10 @@ run-lent-requires c κs =
     let f = made (locals (c .before .before .before .before)) in
     let pre = s f .pre in
     let a = s f .args in
-    let y = first-of (n f) (x f) in
-    subst
-    (λ (m : ℕ).
-    let t = table-of m (a .origin) (a .tails .now) (a .heads .now) (a .lengths .now) in
-    ((length (a .heads .now) ≡ length (a .tails .now)) × (length (a .lengths .now) ≡ length (a .tails .now)))
-    × ((is-table t (a .wanted .now) ≡ true)
-    × (((length (y .path) ≡ m) × Sized m (y .price) (y .bound) (y .kept) (y .status))
-    × ((held y ≡ fresh t) × Fitting m (length (a .heads .now)) (a .distances .now) (a .prices .now) (a .tree .now) (a .marks .now)))))
-    (status-part f) (
-      pre .0,
-      (
-        pre .1 .0,
-        (
-          lent-long f,
-          (
-            fresh-so (n f) (a .origin) (a .tails .now) (a .heads .now) (a .lengths .now) (a .wanted .now) (pre .0 .0) (pre .0 .1) (pre .1 .0)
-                (x f) (f .fresh .ensures .0),
-            pre .1 .1,
-          ),
-        ),
-      ),
-    )
+    let lent-so = lent-fresh (n f) (a .origin) (a .tails .now) (a .heads .now) (a .lengths .now) (a .wanted .now) (pre .0 .0) (pre .0 .1) (pre .1 .0)
+    (x f) (f .fresh .ensures .0) (f .fresh .ensures .1) in
+    let fitting = subst (λ (m : ℕ). Fitting m (length (a .heads .now)) (a .distances .now) (a .prices .now) (a .tree .now) (a .marks .now)) (status-part f) (pre .1 .1) in
+    (pre .0, (lent-so .0, (lent-so .1 .0, (lent-so .1 .1, fitting))))
 
 -- each buffer keeps its length
 same-length : tie.Need-same-length

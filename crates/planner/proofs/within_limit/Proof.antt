@@ -41,7 +41,7 @@ limit-table-requires c κs =
     let a = s r .args in
     let lengths-fit = r .before .before .shared-slice-known3 .given in
     let u = fine (a .n) (a .origin) (a .node) (a .tails .now) (a .heads .now) (a .lengths .now) (f r) (tested r) (λ i. lengths-fit i .fits) (g .if1 .taken) in
-    ((u .heads-count, u .lengths-count), u .table-good)
+    ((sym (u .heads-count), sym (u .heads-count ∙ u .lengths-count)), u .table-good)
 
 returns : tie.Need-returns
 returns c =
