@@ -6,7 +6,7 @@ use borrow.Author.Needs.{needs}
 use native.Mathlib.Omega.{arith}
 use lib.ListN.{length, take}
 use Rattle.table.specs.Table.{table-of, most-nodes}
-use Rattle.auction.specs.Auction.{state, fresh, iterations}
+use Rattle.auction.specs.Auction.{state, iterations}
 use Rattle.steps.specs.declared.state.RunState.{RunState}
 use Rattle.steps.specs.Seen.{seen, first-of, Sized}
 use Rattle.limit_answer.specs.Answer.{limit-of, within}

@@ -4,7 +4,6 @@ use Prim.Native.Nat.{ℕ, _≤_}
 use native.Mathlib.Omega.{arith}
 use lib.ListN.{length, take}
 use Rattle.table.specs.Table.{table-of, most-nodes}
-use Rattle.auction.specs.Auction.{fresh}
 use Rattle.steps.specs.declared.state.RunState.{RunState}
 use Rattle.steps.specs.Seen.{first-of, Sized}
 use Rattle.auction.specs.Plan.{routes-of}
