@@ -1,8 +1,9 @@
-// The library for firmware: the five entry points under C names, nothing else. include/kestrelore.h declares them; each has the contract of the function
+// The library for firmware: the seven entry points under C names, nothing else. include/kestrelore.h declares them; each has the contract of the function
 // that it hands on to.
-ghost use Rattle.planner.specs.Plan.{Plans};
+ghost use Rattle.planner.specs.Plan.{Plans, Plans-to-collector};
 ghost use Rattle.limit_answer.specs.Answer.{Answers-limit};
 ghost use Rattle.paths.specs.Listing.{Lists-path};
+ghost use Rattle.paths.specs.Collecting.{Lists-to-collector};
 ghost use Rattle.link_file.specs.Entries.{Reads-file, Writes-file};
 use hand_over::Planned;
 use limit_answer::Within;
@@ -40,6 +41,36 @@ pub extern "C" fn kestrelore_plan_routes(
     )
 }
 
+// Plans the routes of a link table from the senders to a collector.
+#[no_mangle]
+pub extern "C" fn kestrelore_plan_to_collector(
+    n: u32,
+    collector: u16,
+    tails: &[u16],
+    heads: &[u16],
+    lengths: &[u32],
+    senders: &[u16],
+    distances: &mut [u64],
+    prices: &mut [u64],
+    tree: &mut [u16],
+    marks: &mut [u8],
+) -> Planned
+    ensures { λ r. ⌜ Plans-to-collector n collector tails heads lengths senders distances prices tree marks r ⌝ }
+{
+    planner::plan_to_collector(
+        n,
+        collector,
+        tails,
+        heads,
+        lengths,
+        senders,
+        distances,
+        prices,
+        tree,
+        marks,
+    )
+}
+
 // Whether a node is within a limit.
 #[no_mangle]
 pub extern "C" fn kestrelore_within_limit(
@@ -69,6 +100,21 @@ pub extern "C" fn kestrelore_list_path(
     ensures { λ r. ⌜ Lists-path origin node tails heads tree output r ⌝ }
 {
     paths::list_path(origin, node, tails, heads, tree, output)
+}
+
+// Lists the nodes of a path to a collector.
+#[no_mangle]
+pub extern "C" fn kestrelore_list_to_collector(
+    collector: u16,
+    node: u16,
+    tails: &[u16],
+    heads: &[u16],
+    tree: &[u16],
+    output: &mut [u16],
+) -> Listed
+    ensures { λ r. ⌜ Lists-to-collector collector node tails heads tree output r ⌝ }
+{
+    paths::list_to_collector(collector, node, tails, heads, tree, output)
 }
 
 // Reads a link file.

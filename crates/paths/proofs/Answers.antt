@@ -1,15 +1,17 @@
--- The ways out of a listing, by how many nodes the path has. Assumes nothing.
-use mathlib.Core.Path.{_≡_, refl, ap, _∙_}
+-- The ways out of a listing, by how many nodes the path has; what is answered and what is left in the output. Assumes nothing.
+use mathlib.Core.Path.{_≡_, refl, sym, ap, _∙_}
 use mathlib.Core.List.{List, [], _++_}
-use mathlib.Core.Logic.{⊎-elim}
+use mathlib.Core.Logic.{_⊎_, inl, inr, ⊎-elim}
 use mathlib.Core.Option.{none, some}
 use Prim.Native.Nat.{ℕ, _≤_, _<_}
 use native.Mathlib.Omega.{arith}
-use lib.ListN.{length, drop}
+use lib.ListN.{length, drop, length-reverse}
 use borrow.Author.Tests.{eq-eqb, ne-eqb, lt-ltb, le-ltb}
-use Rattle.table.proofs.Basics.{option-or}
-use Rattle.paths.specs.Listing.{Tree, node-count, path, nodes-of, Listing, refused, listed, early-of, into, listing, Lists}
+use Rattle.table.proofs.Basics.{same-or, below-or, option-or}
+use Rattle.paths.specs.Listing.{Tree, node-count, path, nodes-of, Listing, refused, listed, early-of, into, listing, Tested, Lists}
+use Rattle.paths.specs.Collecting.{turned-round}
 use Rattle.paths.specs.declared.Listed.{Listed}
+use Rattle.paths.proofs.Early.{passed}
 use Rattle.paths.proofs.Writing.{path-size, is-some}
 
 -- a path has at most n nodes
@@ -55,14 +57,76 @@ module _ (o v : ℕ) (k : Tree) (room : ℕ) where
       pub fits : length (nodes-of (path o v k)) ≤ room → listing o v k room ≡ listed (nodes-of (path o v k))
       fits h = follows ∙ ap (into room) (is-some (path o v k) some-node) ∙ fitting room (nodes-of (path o v k)) h
 
--- what the contract asks, on a refusal and of a path
-module _ (l : Listing) (answer : Listed) (before : List ℕ) where
-  pub refuses : (number : ℕ) → l ≡ refused number → answer .number ≡ number → answer .place ≡ 0 → answer .count ≡ 0 → Lists l answer before before
-  unfolding refused
-  refuses number e a b d =
-      record { number = rw e a; place = b; count = rw e d; output = rw e refl }
+-- A LISTING IS REFUSED, and then it lists nothing, or it is of a path that the output has room for
+pub record Accepted (o v : ℕ) (k : Tree) (room : ℕ) : Type 0 where
+  pub node-in : v < node-count k
+  pub some-node : 0 < length (nodes-of (path o v k))
+  pub has-room : length (nodes-of (path o v k)) ≤ room
+  pub number : listing o v k room .number ≡ 0
+  pub nodes : listing o v k room .nodes ≡ nodes-of (path o v k)
 
-  pub gives : (vs after : List ℕ) → l ≡ listed vs → answer .number ≡ 0 → answer .place ≡ 0 → answer .count ≡ length vs →
-      after ≡ vs ++ drop (length vs) before → Lists l answer before after
+module _ (o v : ℕ) (k : Tree) (room : ℕ) where
+  abbrev Refused : Type 0
+  Refused = (listing o v k room .number ≡ 0 → ⊥) × (listing o v k room .nodes ≡ [])
+
+  refused-by : (number : ℕ) → (number ≡ 0 → ⊥) → listing o v k room ≡ refused number → Refused
+  unfolding refused
+  refused-by number d e = (λ z. d (sym (ap (λ (l : Listing). l .number) e) ∙ z), ap (λ (l : Listing). l .nodes) e)
+
+  outcome : Refused ⊎ Accepted o v k room
+  unfolding early-of listed
+  outcome =
+      let size = length (nodes-of (path o v k)) in
+      ⊎-elim
+      (λ (early : early-of o v k ≡ 0).
+      ⊎-elim (λ (z : size ≡ 0). inl (refused-by 14 (λ e. omega arith) (without-path o v k room early z)))
+      (λ (d : size ≡ 0 → ⊥).
+      ⊎-elim (λ (h : room < size). inl (refused-by 13 (λ e. omega arith) (without-room o v k room early (omega arith) h)))
+      (λ (h : size ≤ room).
+      inr
+      (record {
+        node-in = passed (node-count k) (length (k .tails)) (length (k .heads)) o v early .node-in;
+        some-node = omega arith;
+        has-room = h;
+        number = ap (λ (l : Listing). l .number) (fits o v k room early (omega arith) h);
+        nodes = ap (λ (l : Listing). l .nodes) (fits o v k room early (omega arith) h);
+      }))
+      (below-or room size))
+      (same-or size 0))
+      (λ (d : early-of o v k ≡ 0 → ⊥). inl (refused-by (early-of o v k) d (refused-early o v k room d)))
+      (same-or (early-of o v k) 0)
+
+  pub accepted : listing o v k room .number ≡ 0 → Accepted o v k room
+  accepted e = ⊎-elim (λ r. absurd (r .0 e)) (λ a. a) outcome
+
+  pub lists-nothing : (listing o v k room .number ≡ 0 → ⊥) → listing o v k room .nodes ≡ []
+  lists-nothing d = ⊎-elim (λ r. r .1) (λ a. absurd (d (a .number))) outcome
+
+-- what is answered, on a refusal and of a path
+module _ (l : Listing) (answer : Listed) where
+  pub refuses : (number : ℕ) → l ≡ refused number → answer .number ≡ number → answer .place ≡ 0 → answer .count ≡ 0 → Tested l answer
+  unfolding refused
+  refuses number e a b d = record { number = rw e a; place = b; count = rw e d }
+
+  pub gives : (vs : List ℕ) → l ≡ listed vs → answer .number ≡ 0 → answer .place ≡ 0 → answer .count ≡ length vs → Tested l answer
   unfolding listed
-  gives vs after e a b d f = record { number = rw e a; place = b; count = rw e d; output = rw e f }
+  gives vs e a b d = record { number = rw e a; place = b; count = rw e d }
+
+-- the same of the listing turned round
+pub turned : {l : Listing} {answer : Listed} → Tested l answer → Tested (turned-round l) answer
+unfolding turned-round
+turned {l} answered = record { number = answered .number; place = answered .place; count = answered .count ∙ sym (length-reverse (l .nodes)) }
+
+-- and what is left in the output
+module _ {l : Listing} {answer : Listed} (answered : Tested l answer) (before : List ℕ) where
+  pub untouched : l .nodes ≡ [] → Lists l answer before before
+  untouched e = record { number = answered .number; place = answered .place; count = answered .count; output = rw e refl }
+
+  pub written : (vs after : List ℕ) → l .nodes ≡ vs → after ≡ vs ++ drop (answer .count) before → Lists l answer before after
+  written vs after e f =
+      record {
+        number = answered .number;
+        place = answered .place;
+        count = answered .count;
+        output = f ∙ ap (λ (m : ℕ). vs ++ drop m before) (answered .count) ∙ ap (λ (us : List ℕ). us ++ drop (length (l .nodes)) before) (sym e);
+      }

@@ -1,11 +1,12 @@
 -- The rows of specs/Examples.antt hold by computing them. Assumes nothing.
 use mathlib.Core.Path.{refl}
-use Rattle.paths.specs.Examples.{Examples, on-T, tree-of-T, cut, cycle}
+use Rattle.paths.specs.Examples.{Examples, on-T, tree-of-T, cut, tree-to-3, cycle, cycle-on}
 use Rattle.table.specs.Refusals.{count-bad, columns-bad}
 use Rattle.paths.specs.Listing.{listing, early-of, early-number, into, refused, listed, path, back-to, leads-back, node-before, entry}
+use Rattle.paths.specs.Collecting.{turned-round, listing-to-collector}
 
 pub examples : Examples
-unfolding listing early-of early-number count-bad columns-bad into refused listed path back-to leads-back node-before entry on-T tree-of-T cut cycle
+unfolding listing early-of early-number count-bad columns-bad into refused listed path back-to leads-back node-before entry turned-round listing-to-collector on-T tree-of-T cut tree-to-3 cycle cycle-on
 examples =
     record {
       path-of-3 = refl;
@@ -22,4 +23,19 @@ examples =
       unequal-columns = refl;
       origin-too-high = refl;
       node-too-high = refl;
+      from-0 = refl;
+      from-1 = refl;
+      from-2 = refl;
+      the-collector = refl;
+      buffer-3 = refl;
+      no-entry-on = refl;
+      another-tail = refl;
+      head-too-high = refl;
+      in-a-cycle-on = refl;
+      in-a-cycle-on-and-no-room = refl;
+      tree-from-0 = refl;
+      no-nodes-on = refl;
+      unequal-columns-on = refl;
+      collector-too-high = refl;
+      sender-too-high = refl;
     }

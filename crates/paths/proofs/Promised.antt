@@ -1,8 +1,10 @@
 -- The promises of specs/Promises.antt, each proved under its own name in small letters. Assumes nothing.
-use mathlib.Core.Path.{sym, subst}
-use Rattle.table.specs.Table.{table, table-of, is-walk}
+use mathlib.Core.Path.{sym, ap, subst, _∙_}
+use mathlib.Core.List.{List, reverse}
+use Prim.Native.Nat.{ℕ}
+use Rattle.table.specs.Table.{Table, table, table-of, is-walk}
 use Rattle.auction.specs.HandOver.{Answer, handed-over, tree}
-use Rattle.auction.specs.Plan.{routes-of}
+use Rattle.auction.specs.Plan.{plan, routes-of}
 use Rattle.auction.specs.Promises.{last-state, route, Walk-shortest}
 use Rattle.auction.specs.Demands.{Given, walk-of}
 use Rattle.auction.proofs.Good.{good}
@@ -11,9 +13,15 @@ use Rattle.auction.proofs.Made.{made}
 use Rattle.auction.proofs.Sums.{entries-length}
 use Rattle.auction.proofs.Promised.{walk-shortest}
 use Rattle.auction.proofs.Demanded.{given-reached}
+use Rattle.collector.specs.Exchanged.{exchanged, Exchanged-is-table, Exchanged-columns}
+use Rattle.collector.specs.Plan.{plan-to-collector}
+use Rattle.collector.specs.Promises.{walk-from, Collector-served}
+use Rattle.collector.proofs.Exchange.{exchanged-is-table, exchanged-columns}
+use Rattle.collector.proofs.Promised.{good-here, collector-served}
 use Rattle.paths.specs.Listing.{tree-in}
-use Rattle.paths.specs.Promises.{Routes-listed, Plans-listed, Gives, nodes-of-walk}
+use Rattle.paths.specs.Promises.{Routes-listed, Plans-listed, Senders-listed, Gives, Gives-in, nodes-of-walk}
 use Rattle.paths.proofs.Listable.{walk-listed}
+use Rattle.paths.proofs.Senders.{nodes-turned, turned-gives}
 
 -- the walk returned ends at a node and has fewer than n arcs
 pub routes-listed : Routes-listed
@@ -35,3 +43,19 @@ plans-listed n o tails heads lengths wanted distances prices tree marks v fits n
     subst (λ (a : Answer). Gives o v (tree-in tails heads (a .tree)) (nodes-of-walk t (walk-of t a v))) (sym (m .routes))
     (routes-listed n o tails heads lengths wanted v (fine .heads-count) (fine .lengths-count) (fine .table-good)
     (subst (λ (a : Answer). Given a v) (m .routes) given))
+
+-- a plan to a collector is the plan of the exchanged table
+pub senders-listed : Senders-listed
+unfolding Senders-listed Plans-listed Collector-served Exchanged-columns Exchanged-is-table plan-to-collector walk-from
+senders-listed n c tails heads lengths senders distances prices tree marks v fits number given =
+    let t = table-of n c tails heads lengths in
+    let x = table-of n c heads tails lengths in
+    let a = plan n c heads tails lengths senders distances prices tree marks in
+    let same = exchanged-columns n c tails heads lengths in
+    let here = good-here n c tails heads lengths senders (made n c heads tails lengths senders distances prices tree marks fits number .fine .table-good) in
+    let walk = collector-served n c tails heads lengths senders distances prices tree marks fits number .planned .walk v given in
+    subst (λ (vs : List ℕ). Gives-in c v (tree-in tails heads (a .tree)) vs)
+    (ap (λ (y : Table). reverse (nodes-of-walk y (walk-of y a v))) same
+    ∙ nodes-turned t (good t senders here) (good (exchanged t) senders (exchanged-is-table t senders ∙ here)) (walk-of (exchanged t) a v) v walk)
+    (turned-gives c v (tree-in tails heads (a .tree)) (nodes-of-walk x (walk-of x a v))
+    (plans-listed n c heads tails lengths senders distances prices tree marks v fits number given))

@@ -1,3 +1,4 @@
 pub mod Listing
+pub mod Collecting
 pub mod Promises
 pub mod Examples

@@ -9,7 +9,10 @@ use lib.ListN.{length}
 use Rattle.table.specs.Table.{Table, table-of, is-table, head-at, Below}
 use Rattle.auction.specs.Plan.{plan, routes-of}
 use Rattle.auction.specs.Demands.{Given, walk-of}
+use Rattle.collector.specs.Plan.{plan-to-collector}
+use Rattle.collector.specs.Promises.{walk-from}
 use Rattle.paths.specs.Listing.{Tree, tree-in, node-count, refused, listed, listing}
+use Rattle.paths.specs.Collecting.{listing-to-collector}
 
 -- the heads of a walk's arcs
 unfoldable pub heads-along : Table → (walk : List ℕ) → List ℕ
@@ -43,3 +46,24 @@ Plans-listed =
     let t = table-of n o tails heads lengths in
     let a = plan n o tails heads lengths wanted distances prices tree marks in
     Below (2 ^ 32) lengths → (a .number ≡ 0) ⊎ (a .number ≡ 8) → Given a v → Gives o v (tree-in tails heads (a .tree)) (nodes-of-walk t (walk-of t a v))
+
+-- TO A COLLECTOR
+
+-- the nodes of a walk from a node: the node, and then each arc's head
+unfoldable pub nodes-from : Table → (v : ℕ) → (walk : List ℕ) → List ℕ
+nodes-from t v is = v ∷ heads-along t is
+
+-- The same as `Gives`, of listing to a collector.
+pub record Gives-in (collector node : ℕ) (k : Tree) (nodes : List ℕ) : Type 0 where
+  pub within : length nodes ≤ node-count k
+  pub roomy : (room : ℕ) → length nodes ≤ room → listing-to-collector collector node k room ≡ listed nodes
+  pub short : (room : ℕ) → room < length nodes → listing-to-collector collector node k room ≡ refused 13
+
+-- On the tree buffer of every plan to a collector whose answer is 0 or 8 each node that was given a walk lists, and gives the nodes of that walk, from the
+-- node to the collector.
+unfoldable pub Senders-listed : Type 0
+Senders-listed =
+    (n c : ℕ) (tails heads lengths senders distances prices tree marks : List ℕ) (v : ℕ) →
+    let t = table-of n c tails heads lengths in
+    let a = plan-to-collector n c tails heads lengths senders distances prices tree marks in
+    Below (2 ^ 32) lengths → (a .number ≡ 0) ⊎ (a .number ≡ 8) → Given a v → Gives-in c v (tree-in tails heads (a .tree)) (nodes-from t v (walk-from t a v))

@@ -1,15 +1,17 @@
-// Listing a path: the nodes from the origin to a node, read off a tree column. specs/Listing.antt says what a listing gives.
+// Listing a path: the nodes from the origin to a node, read off a tree column, or those from a node to a collector. specs/Listing.antt says what a listing
+// gives, specs/Collecting.antt what one to a collector does.
 //
 // The path is followed twice: once to count its nodes, which finds refusal 14 before anything is written, and once to write them, from the last to
-// the first.
+// the first; to a collector, for which tails and heads are exchanged, from the first to the last.
 ghost use mathlib.Core.Path.{_≡_};
 ghost use mathlib.Core.Bool.{true};
-ghost use mathlib.Core.List.{_++_};
+ghost use mathlib.Core.List.{_++_, reverse};
 ghost use Prim.Native.Nat.{_≤_, _<_};
 ghost use lib.ListN.{length, getD, drop};
 ghost use Rattle.table.specs.Table.{no-arc};
 ghost use Rattle.table.specs.Slices.{was, left};
-ghost use Rattle.paths.specs.Listing.{tree-in, lent-tree, node-before, leads-back, path, nodes-of, early-number, Lists-path};
+ghost use Rattle.paths.specs.Listing.{tree-in, lent-tree, node-before, leads-back, path, nodes-of, early-number, listing, Tested, Lists-path};
+ghost use Rattle.paths.specs.Collecting.{Lists-to-collector};
 use table::Refusal;
 use table::bad_columns;
 use table::bad_count;
@@ -122,6 +124,34 @@ fn write_nodes(
     output[0] = v;
 }
 
+// Writes the path's nodes at the output's start, from the node to the collector: with tails and heads exchanged, the node before is the one that comes next.
+// The collector and the tails only say which path it is.
+fn write_onward(
+    count: usize,
+    collector: u16,
+    node: u16,
+    tails: &[u16],
+    heads: &[u16],
+    tree: &[u16],
+    output: &mut [u16],
+)
+    requires { ⌜ node < length (now tree) ⌝ }
+    requires { ⌜ count ≡ length (nodes-of (path collector node (tree-in (now heads) (now tails) (now tree)))) ⌝ }
+    requires { ⌜ 0 < count ⌝ }
+    requires { ⌜ count ≤ length (now output) ⌝ }
+    ensures { λ _. ⌜ left output ≡ reverse (nodes-of (path collector node (lent-tree heads tails tree))) ++ drop count (was output) ⌝ }
+{
+    let last = count - 1;
+    let mut v = node;
+    let mut at = 0;
+    while at < last {
+        output[at] = v;
+        v = node_before(v, heads, tails, tree);
+        at += 1;
+    }
+    output[last] = v;
+}
+
 // A refusal: no place, and nothing listed.
 fn refused(number: u32) -> Listed
     ensures { λ r. ⌜ (r .number ≡ number) × (r .place ≡ 0) × (r .count ≡ 0) ⌝ }
@@ -133,7 +163,36 @@ fn refused(number: u32) -> Listed
     }
 }
 
-// The nodes from the origin to a node, at the start of the output. The refusals are tested in the order 1, 2, 4, 5, 14, 13.
+// The answer to a listing, before anything is written. The refusals are tested in the order 1, 2, 4, 5, 14, 13.
+fn test_listing(
+    origin: u16,
+    node: u16,
+    tails: &[u16],
+    heads: &[u16],
+    tree: &[u16],
+    room: usize,
+) -> Listed
+    ensures { λ r. ⌜ Tested (listing origin node (lent-tree tails heads tree) room) r ⌝ }
+{
+    let number = early_number(tree.len(), tails.len(), heads.len(), origin, node);
+    if number != Refusal::NONE {
+        return refused(number);
+    }
+    let count = count_nodes(origin, node, tails, heads, tree);
+    if count == 0 {
+        return refused(Refusal::NO_PATH);
+    }
+    if room < count {
+        return refused(Refusal::ROOM);
+    }
+    Listed {
+        number: Refusal::NONE,
+        place: 0,
+        count: count as u32,
+    }
+}
+
+// The nodes from the origin to a node, at the start of the output.
 pub fn list_path(
     origin: u16,
     node: u16,
@@ -144,22 +203,29 @@ pub fn list_path(
 ) -> Listed
     ensures { λ r. ⌜ Lists-path origin node tails heads tree output r ⌝ }
 {
-    let number = early_number(tree.len(), tails.len(), heads.len(), origin, node);
-    if number != Refusal::NONE {
-        return refused(number);
+    let listed = test_listing(origin, node, tails, heads, tree, output.len());
+    if listed.number == Refusal::NONE {
+        let count = listed.count as usize;
+        write_nodes(count, origin, node, tails, heads, tree, output);
     }
-    let count = count_nodes(origin, node, tails, heads, tree);
-    if count == 0 {
-        return refused(Refusal::NO_PATH);
+    listed
+}
+
+// The nodes from a node to the collector, at the start of the output.
+pub fn list_to_collector(
+    collector: u16,
+    node: u16,
+    tails: &[u16],
+    heads: &[u16],
+    tree: &[u16],
+    output: &mut [u16],
+) -> Listed
+    ensures { λ r. ⌜ Lists-to-collector collector node tails heads tree output r ⌝ }
+{
+    let listed = test_listing(collector, node, heads, tails, tree, output.len());
+    if listed.number == Refusal::NONE {
+        let count = listed.count as usize;
+        write_onward(count, collector, node, tails, heads, tree, output);
     }
-    if output.len() < count {
-        return refused(Refusal::ROOM);
-    }
-    let listed = count as u32;
-    write_nodes(count, origin, node, tails, heads, tree, output);
-    Listed {
-        number: Refusal::NONE,
-        place: 0,
-        count: listed,
-    }
+    listed
 }

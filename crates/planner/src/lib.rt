@@ -1,5 +1,5 @@
-// Planning: the refusals of a table, the run, and the four buffers that are handed over; and the run within a limit, which hands over an
-// answer alone.
+// Planning: the refusals of a table, the run, and the four buffers that are handed over; the same to a collector, with tails and heads exchanged; and the
+// run within a limit, which hands over an answer alone.
 ghost use mathlib.Core.Path.{_≡_};
 ghost use mathlib.Core.Bool.{true, cond};
 ghost use mathlib.Core.List.{[], _∷_};
@@ -14,7 +14,7 @@ ghost use Rattle.limit_answer.specs.Answer.{limit-of, Answers-limit};
 ghost use Rattle.table.specs.Slices.{was, left};
 ghost use Rattle.hand_over.specs.Answered.{answered};
 ghost use Rattle.hand_over.specs.ReadOff.{Fitting};
-ghost use Rattle.planner.specs.Plan.{Plans};
+ghost use Rattle.planner.specs.Plan.{Plans, Plans-to-collector};
 use hand_over::Planned;
 use hand_over::hand_over;
 use limit_answer::Within;
@@ -175,6 +175,36 @@ pub fn plan_routes(
         heads,
         lengths,
         wanted,
+        distances,
+        prices,
+        tree,
+        marks,
+    )
+}
+
+// Plans the routes of a link table from the senders to a collector: the routes from the collector to the senders in the table with each arc's tail and head
+// exchanged, told by the table's own positions. The plan of crates/collector/specs/Plan.antt says what is answered and held, for every input.
+pub fn plan_to_collector(
+    n: u32,
+    collector: u16,
+    tails: &[u16],
+    heads: &[u16],
+    lengths: &[u32],
+    senders: &[u16],
+    distances: &mut [u64],
+    prices: &mut [u64],
+    tree: &mut [u16],
+    marks: &mut [u8],
+) -> Planned
+    ensures { λ r. ⌜ Plans-to-collector n collector tails heads lengths senders distances prices tree marks r ⌝ }
+{
+    plan_routes(
+        n,
+        collector,
+        heads,
+        tails,
+        lengths,
+        senders,
         distances,
         prices,
         tree,

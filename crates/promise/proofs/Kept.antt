@@ -1,5 +1,5 @@
--- The page of specs/Promise.antt, each promise by the proof that its crate has of it; and what is demanded of a plan and of a limit's answer once more,
--- field by field, so that none of it can go missing. Assumes nothing.
+-- The page of specs/Promise.antt, each promise by the proof that its crate has of it; and what is demanded of a plan, of a limit's answer and of a plan to a
+-- collector once more, field by field, so that none of it can go missing. Assumes nothing.
 use mathlib.Core.List.{List}
 use Prim.Native.Nat.{ℕ}
 use Rattle.table.specs.Table.{Table}
@@ -15,8 +15,12 @@ use Rattle.auction.proofs.Stability.{stability}
 use Rattle.auction.proofs.Answers.{rack-holds}
 use Rattle.limit_answer.proofs.Promised.{limits-kept, limits-pinned, limits-refused}
 use Rattle.limit_answer.proofs.Rows as Limits
+use Rattle.collector.specs.Promises.{Collects}
+use Rattle.collector.proofs.Exchange.{exchanged-walks, exchanged-twice, exchanged-is-table, exchanged-columns}
+use Rattle.collector.proofs.Promised.{collects-by-exchange, collector-served, collector-refusals}
+use Rattle.collector.proofs.Rows as Collector
 use Rattle.planner.proofs.Promised.{plans-kept, refusals-touch-nothing}
-use Rattle.paths.proofs.Promised.{routes-listed, plans-listed}
+use Rattle.paths.proofs.Promised.{routes-listed, plans-listed, senders-listed}
 use Rattle.paths.proofs.Examples as Paths
 use Rattle.link_format.proofs.ReadThenWrite.{accepted-files-write-back}
 use Rattle.link_format.proofs.WriteThenRead.{written-tables-read-back, long-files-are-refused}
@@ -62,6 +66,13 @@ kept =
       within-limit = limits .within-limit;
       limit-cuts = limits .limit-cuts;
       unlimited = limits .unlimited;
+      collector-served = collector-served;
+      collector-refusals = collector-refusals;
+      collects-by-exchange = collects-by-exchange;
+      exchanged-walks = exchanged-walks;
+      exchanged-twice = exchanged-twice;
+      exchanged-is-table = exchanged-is-table;
+      exchanged-columns = exchanged-columns;
       unrefused-is-table = promised .unrefused-is-table;
       table-is-unrefused = promised .table-is-unrefused;
       longest-of-32-bits = promised .longest-of-32-bits;
@@ -81,6 +92,7 @@ kept =
       link-added = stability .link-added;
       routes-listed = routes-listed;
       plans-listed = plans-listed;
+      senders-listed = senders-listed;
       accepted-files-write-back = accepted-files-write-back;
       written-tables-read-back = written-tables-read-back;
       read-then-write = read-then-write;
@@ -98,6 +110,7 @@ kept =
       pieces-printed = pieces-printed;
       rack = rack-holds;
       limits = Limits.rows;
+      collectors = Collector.rows-hold;
       listings = Paths.examples;
       files = rows;
       sheets = Sheets.examples;
@@ -157,3 +170,26 @@ kept-limit t v limit r k =
 
 pub refused-limit : (n o v : ℕ) (ts hs ls : List ℕ) (r : Within) → Limit-refused n o v ts hs ls r → Limit-refused n o v ts hs ls r
 refused-limit n o v ts hs ls r f = record { low = f .low; no-buffers = f .no-buffers; as-wanted = f .as-wanted; zeros = f .zeros }
+
+pub collected : (t : Table) (senders : List ℕ) (a : Answer) → Collects t senders a → Collects t senders a
+collected t senders a c =
+    record {
+      given = c .given;
+      walk = c .walk;
+      short = c .short;
+      as-long = c .as-long;
+      least = c .least;
+      attains = c .attains;
+      earliest = c .earliest;
+      far-end = c .far-end;
+      no-link = c .no-link;
+      prices-fit = c .prices-fit;
+      prices-equal = c .prices-equal;
+      prices-show = c .prices-show;
+      numbers = c .numbers;
+      route = c .route;
+      no-route = c .no-route;
+      few = c .few;
+      fewer = c .fewer;
+      planned = c .planned;
+    }

@@ -8,8 +8,11 @@ use Rattle.auction.specs.Stability.{Same-choice, Route-stays, Wanted-route-stay
 use Rattle.auction.specs.Rack.{Rack-holds}
 use Rattle.limit_answer.specs.Promises.{Limits-kept, Limits-pinned, Limits-refused}
 use Rattle.limit_answer.specs.Rows as Limits
+use Rattle.collector.specs.Exchanged.{Exchanged-walks, Exchanged-twice, Exchanged-is-table, Exchanged-columns}
+use Rattle.collector.specs.Promises.{Collects-by-exchange, Collector-served, Collector-refusals}
+use Rattle.collector.specs.Rows as Collector
 use Rattle.planner.specs.Promise.{Plans-kept, Refusals-touch-nothing}
-use Rattle.paths.specs.Promises.{Routes-listed, Plans-listed}
+use Rattle.paths.specs.Promises.{Routes-listed, Plans-listed, Senders-listed}
 use Rattle.paths.specs.Examples as Paths
 use Rattle.link_format.specs.Promises.{Accepted-files-write-back, Written-tables-read-back, Long-files-are-refused, Files-refused-by-number, Needless-is-not-canonical, Needless-header-is-not-canonical}
 use Rattle.link_format.specs.Rows as Files
@@ -57,6 +60,15 @@ pub record Promise : Type 0 where
   pub within-limit : Within-limit
   pub limit-cuts : Limit-cuts
   pub unlimited : Unlimited
+  -- EVERYONE TO THE COLLECTOR: each sender that has a walk to the collector is given a shortest one, by the earliest listed link; all by one result about the
+  -- table with tails and heads exchanged
+  pub collector-served : Collector-served
+  pub collector-refusals : Collector-refusals
+  pub collects-by-exchange : Collects-by-exchange
+  pub exchanged-walks : Exchanged-walks
+  pub exchanged-twice : Exchanged-twice
+  pub exchanged-is-table : Exchanged-is-table
+  pub exchanged-columns : Exchanged-columns
   -- WHAT IS REFUSED: the tables that are not refused are just those of which all this is promised
   pub unrefused-is-table : Unrefused-is-table
   pub table-is-unrefused : Table-is-unrefused
@@ -78,9 +90,10 @@ pub record Promise : Type 0 where
   pub route-stays : Route-stays
   pub wanted-route-stays : Wanted-route-stays
   pub link-added : Link-added
-  -- LISTING: a path lists the nodes of the walk returned
+  -- LISTING: a path lists the nodes of the walk returned, or from a sender those of its walk to the collector
   pub routes-listed : Routes-listed
   pub plans-listed : Plans-listed
+  pub senders-listed : Senders-listed
   -- THE LINK FILE: every accepted file writes back unchanged, every written table reads back as it was
   pub accepted-files-write-back : Accepted-files-write-back
   pub written-tables-read-back : Written-tables-read-back
@@ -98,9 +111,10 @@ pub record Promise : Type 0 where
   pub in-order : In-order
   pub order-unseen : Order-unseen
   pub pieces-printed : Pieces-printed
-  -- THE ROWS: tables, limits, listings, files and sheets, computed
+  -- THE ROWS: tables, limits, plans to a collector, listings, files and sheets, computed
   pub rack : Rack-holds
   pub limits : Limits.Rows
+  pub collectors : Collector.Rows-hold
   pub listings : Paths.Examples
   pub files : Files.Rows
   pub sheets : Sheets.Examples

@@ -1,17 +1,16 @@
--- `paths::list_path` meets its contract: each way out of the code is one of the definition. Assumes nothing.
-use mathlib.Core.Path.{_≡_, refl, sym, _∙_}
+-- `paths::list_path` meets its contract: the tests give the answer, and the path is written where they are passed. Assumes nothing.
+use mathlib.Core.Path.{ap, sym, _∙_}
 use Prim.Native.Nat.{ℕ}
 use borrow.Author.Needs.{needs}
 use native.Mathlib.Omega.{arith}
 use lib.ListN.{length}
-use Rattle.paths.specs.Listing.{Tree, tree-in, node-count, path, nodes-of, listing, early-of}
-use Rattle.paths.proofs.Early.{Passed, passed}
-use Rattle.paths.proofs.Answers.{at-most-n, refused-early, without-path, without-room, fits, refuses, gives}
+use Rattle.paths.specs.Listing.{Tree, tree-in, path, nodes-of, listing, Tested}
+use Rattle.paths.proofs.Answers.{Accepted, accepted, lists-nothing, untouched, written}
 use Rattle.paths.proofs.list_path.Statement.{statement}
 use Rattle.paths.proofs.list_path.Tie as tie
 
--- from where the refusals 1, 2, 4 and 5 have been tested: the arguments, and the tree that they are
-module _ (c : tie.After-early-number) where
+-- from where the tests have been made: the arguments, the tree that they are, and the answer
+module _ (c : tie.After-test-listing) where
   abbrev start : tie.Start
   start = c .before .before .before .before .before
 
@@ -27,101 +26,48 @@ module _ (c : tie.After-early-number) where
   abbrev room : ℕ
   room = length (start .args .output .now)
 
+  answered : Tested (listing origin node subject room) (c .test-listing .result)
+  answered = c .test-listing .ensures
+
 -- where they have been passed
-module _ (c : tie.Else1) where
-  abbrev tested : tie.After-early-number
-  tested = c .before
+module _ (c : tie.Then1) where
+  abbrev tested : tie.After-test-listing
+  tested = c .before .before
 
-  early : early-of (origin tested) (node tested) (subject tested) ≡ 0
-  unfolding early-of
-  early = sym (tested .early-number .ensures) ∙ c .if1 .left
+  fine : Accepted (origin tested) (node tested) (subject tested) (room tested)
+  fine = accepted (origin tested) (node tested) (subject tested) (room tested) (sym (answered tested .number) ∙ c .if1 .taken)
 
-  sound : Passed (node-count (subject tested)) (length (subject tested .tails)) (length (subject tested .heads)) (node tested)
-  unfolding early-of
-  sound = passed (node-count (subject tested)) (length (subject tested .tails)) (length (subject tested .heads)) (origin tested) (node tested) early
+test-listing-requires : tie.Need-test-listing-requires
+test-listing-requires c κs = search needs
 
-early-number-requires : tie.Need-early-number-requires
-early-number-requires c κs = search needs
-
-refused-requires : tie.Need-refused-requires
-refused-requires c κs = search needs
-
-returns : tie.Need-returns
-unfolding early-of
-returns c =
-    let tests = c .before .before in
-    let answer = c .refused .ensures in
-    let number = tests .early-number .ensures in
-    refuses (listing (origin tests) (node tests) (subject tests) (room tests)) (c .refused .result) _ (early-of (origin tests) (node tests) (subject tests))
-    (refused-early (origin tests) (node tests) (subject tests) (room tests) (λ e. c .before .if1 .taken (number ∙ e))) (answer .0 ∙ number) (answer .1) (answer .2)
-
-count-nodes-requires : tie.Need-count-nodes-requires
-count-nodes-requires c κs = (sound c .node-in, sound c .equal)
-
-refused-requires-2 : tie.Need-refused-requires-2
-refused-requires-2 c κs = search needs
-
-returns-2 : tie.Need-returns-2
-returns-2 c =
-    let counted = c .before .before in
-    let fine = counted .before in
-    let s = tested fine in
-    let answer = c .refused2 .ensures in
-    refuses (listing (origin s) (node s) (subject s) (room s)) (c .refused2 .result) _ 14
-    (without-path (origin s) (node s) (subject s) (room s) (early fine) (sym (counted .count-nodes .ensures) ∙ c .before .if2 .taken))
-    (answer .0) (answer .1) (answer .2)
-
-refused-requires-3 : tie.Need-refused-requires-3
-refused-requires-3 c κs = search needs
-
-returns-3 : tie.Need-returns-3
-returns-3 c =
-    let counted = c .before .before .before in
-    let fine = counted .before in
-    let s = tested fine in
-    let answer = c .refused3 .ensures in
-    refuses (listing (origin s) (node s) (subject s) (room s)) (c .refused3 .result) _ 13
-    (without-room (origin s) (node s) (subject s) (room s) (early fine) (omega (arith, counted .count-nodes .ensures)) (omega (arith, counted .count-nodes .ensures)))
-    (answer .0) (answer .1) (answer .2)
-
-cast-listed : tie.Need-cast-listed
-cast-listed c =
-    let counted = c .before .before in
-    let s = tested (counted .before) in
-    omega (arith, counted .count-nodes .ensures, sound (counted .before) .few-nodes, at-most-n (origin s) (node s) (subject s))
+cast-count : tie.Need-cast-count
+cast-count c = search needs
 
 write-nodes-requires : tie.Need-write-nodes-requires
 write-nodes-requires c κs =
-    let counted = c .before .before .before in
-    (sound (counted .before) .node-in, (counted .count-nodes .ensures, (omega arith, omega arith)))
+    let passed = c .before .before in
+    let t = tested passed in
+    let a = fine passed in
+    let count = answered t .count ∙ ap length (a .nodes) in
+    (a .node-in, (count, (omega (arith, count, a .some-node), omega (arith, count, a .has-room))))
 
 same-length : tie.Need-same-length
 same-length c = search needs
 
-returns-4 : tie.Need-returns-4
-returns-4 c =
-    let written = c .before .before in
-    let counted = written .before .before .before .before in
-    let fine = counted .before in
-    let s = tested fine in
-    let size = counted .count-nodes .ensures in
-    gives (listing (origin s) (node s) (subject s) (room s)) _ _ (nodes-of (path (origin s) (node s) (subject s))) _
-    (fits (origin s) (node s) (subject s) (room s) (early fine) (omega (arith, size)) (omega (arith, size))) refl refl size
-    (rw size at (written .write-nodes .ensures))
+returns : tie.Need-returns
+returns c =
+    let wrote = c .before .before in
+    let passed = wrote .before .before .before in
+    let t = tested passed in
+    let a = fine passed in
+    written (answered t) _ (nodes-of (path (origin t) (node t) (subject t))) _ (a .nodes) (wrote .write-nodes .ensures)
+
+returns-2 : tie.Need-returns-2
+returns-2 c =
+    let t = c .before .before in
+    untouched (answered t) _ (lists-nothing (origin t) (node t) (subject t) (room t) (λ e. c .if1 .left (answered t .number ∙ e)))
 
 pub list-path-spec : {M : Type 1} → statement M
 list-path-spec =
     tie.close
-    (tie.spec
-    early-number-requires
-    refused-requires
-    returns
-    count-nodes-requires
-    refused-requires-2
-    returns-2
-    refused-requires-3
-    returns-3
-    cast-listed
-    write-nodes-requires
-    same-length
-    returns-4)
+    (tie.spec test-listing-requires cast-count write-nodes-requires same-length returns returns-2)

@@ -1,0 +1,4 @@
+pub mod Exchanged
+pub mod Plan
+pub mod Promises
+pub mod Rows
