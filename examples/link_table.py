@@ -175,11 +175,14 @@ def read_bytes(words):
         return source.read()
 
 
-def command(doc, convert):
-    """Writes what convert makes of the file that is named, or of standard input; a fault goes to standard error, with status 1."""
+def command(doc, convert, options={}):
+    """Writes what convert makes of the file that is named, or of standard input; a fault goes to standard error, with status 1.
+    An option that stands first has a convert of its own."""
     for usual in signal.SIGPIPE, signal.SIGINT:
         signal.signal(usual, signal.SIG_DFL)
     words = sys.argv[1:]
+    if words and words[0] in options:
+        convert = options[words.pop(0)]
     if words in (["-h"], ["--help"]):
         print(doc.strip())
         return
