@@ -1,5 +1,6 @@
 /*
- * Kestrelore: shortest routes from one origin over a table of links.
+ * Kestrelore: shortest routes over a table of links, from one origin to the wanted nodes, or from
+ * many senders to one collector.
  *
  * A table has n nodes, numbered from 0, and m arcs in three columns of equal length: the tail
  * and the head (node numbers) and the length of each arc. An arc's position counts from 0.
@@ -7,7 +8,8 @@
  *   n                1 to KESTRELORE_MOST_NODES
  *   arcs             0 to KESTRELORE_MOST_ARCS; parallel arcs and loops are allowed
  *   length           1 to 4,294,967,294; KESTRELORE_DOWN says that the link is down
- *   wanted nodes     0 to KESTRELORE_MOST_WANTED; repeats and the origin may stand among them
+ *   wanted nodes     0 to KESTRELORE_MOST_WANTED; repeats and the origin may stand among them.
+ *                    Senders likewise, with the collector for the origin
  *
  * Every function ends on every input. A list is a pointer and the number of its elements; the
  * pointer is not null and is aligned for its elements, also where the number is 0, and an output
@@ -31,7 +33,7 @@
 extern "C" {
 #endif
 
-#define KESTRELORE_VERSION "0.3.0"
+#define KESTRELORE_VERSION "0.4.0"
 
 /* The most nodes, arcs and wanted nodes of a table, and the bytes of the longest link file. */
 #define KESTRELORE_MOST_NODES 1024
@@ -46,7 +48,7 @@ extern "C" {
  */
 #define KESTRELORE_DOWN UINT32_C(4294967295)
 
-/* The entry of a tree column at the origin and at nodes that were not reached. */
+/* The entry of a tree column at the origin or collector and at nodes that were not reached. */
 #define KESTRELORE_NO_ARC UINT16_C(65535)
 
 /* The distance of nodes that were not reached. */
@@ -64,14 +66,15 @@ typedef enum kestrelore_refusal {
                                      6,001 begins (place 6000) */
     KESTRELORE_BUFFERS = 3,       /* an output list of the plan is not n or m long; a reader's list is
                                      too short */
-    KESTRELORE_ORIGIN = 4,        /* the origin is not below n */
-    KESTRELORE_WANTED = 5,        /* more than 1,024 wanted nodes (place 1024); a wanted node is not
-                                     below n (its index); a node to list, or to ask for, is not below
-                                     n (place 0) */
+    KESTRELORE_ORIGIN = 4,        /* the origin, or the collector, is not below n */
+    KESTRELORE_WANTED = 5,        /* more than 1,024 wanted nodes or senders (place 1024); one of them
+                                     is not below n (its index); a node to list, or to ask for, is not
+                                     below n (place 0) */
     KESTRELORE_ARC_END = 6,       /* an arc's tail or head is not below n (its position) */
     KESTRELORE_ARC_LENGTH = 7,    /* an arc's length is 0 (its position) */
-    KESTRELORE_NO_ROUTE = 8,      /* a wanted node has no walk from the origin (the first such index);
-                                     also where only links that are down lead there */
+    KESTRELORE_NO_ROUTE = 8,      /* a wanted node has no walk from the origin, or a sender none to the
+                                     collector (the first such index); also where only links that are
+                                     down lead there */
     KESTRELORE_CUT = 9,           /* the file is cut inside a field, or empty (the file's length) */
     KESTRELORE_BIT_MAP = 10,      /* a bit map has one of bits 3 to 7, or a needed field is absent (the
                                      bit map's offset) */
@@ -79,14 +82,15 @@ typedef enum kestrelore_refusal {
     KESTRELORE_NEEDLESS = 12,     /* a field is present that says what its absence would say (the
                                      offset of its bit map) */
     KESTRELORE_ROOM = 13,         /* the output list is too short */
-    KESTRELORE_NO_PATH = 14       /* the tree column does not lead back to the origin */
+    KESTRELORE_NO_PATH = 14       /* the tree column does not lead back to the origin, or not on to the
+                                     collector */
 } kestrelore_refusal;
 
 /* What planning answers. */
 typedef struct kestrelore_planned {
     uint32_t number;       /* 0 to 8 */
     uint32_t place;
-    uint32_t reached;      /* how many nodes were reached, the origin included */
+    uint32_t reached;      /* how many nodes were reached, the origin or collector included */
     uint64_t horizon;      /* the largest distance reached */
     uint64_t iterations;   /* contractions + extensions + deletions */
     uint64_t contractions;
@@ -157,6 +161,36 @@ kestrelore_planned kestrelore_plan_routes(
     uint8_t *marks, size_t marks_count);
 
 /*
+ * Plans shortest routes from the senders to a collector.
+ *
+ * The plan is kestrelore_plan_routes' of the table with each arc's tail and head exchanged, from the
+ * collector to the senders, and every arc keeps its position. So lists, tests, answer and counts are
+ * the same, 4 is about the collector, 5 and 8 are about the senders, and the lists say:
+ *
+ *   distances  of a reached node the least length of all walks from it to the collector; else
+ *              KESTRELORE_NO_DISTANCE
+ *   prices     of a reached node horizon - distance; else 0. On every arc that is not down the
+ *              head's price is at most the length + the tail's price, with equality along the walks
+ *              given
+ *   tree       of a reached node the position of the first arc of its walk: the earliest listed of
+ *              the arcs out of it that attain the distance; KESTRELORE_NO_ARC at the collector and
+ *              elsewhere
+ *   marks      3: the tree arc of a reached node. 1: any other arc out of a reached node, or into one
+ *              and not kept; and every arc that is down. 2: kept out of an unreached node. 0: both
+ *              ends unreached
+ */
+kestrelore_planned kestrelore_plan_to_collector(
+    uint32_t n, uint16_t collector,
+    const uint16_t *tails, size_t tails_count,
+    const uint16_t *heads, size_t heads_count,
+    const uint32_t *lengths, size_t lengths_count,
+    const uint16_t *senders, size_t senders_count,
+    uint64_t *distances, size_t distances_count,
+    uint64_t *prices, size_t prices_count,
+    uint16_t *tree, size_t tree_count,
+    uint8_t *marks, size_t marks_count);
+
+/*
  * Tells whether a node is within a limit: some walk from the origin to it is at most that long.
  *
  * The run is that of a plan for the wanted list of this one node, but it ends as soon as the origin's
@@ -179,6 +213,20 @@ kestrelore_within kestrelore_within_limit(
  */
 kestrelore_listed kestrelore_list_path(
     uint16_t origin, uint16_t node,
+    const uint16_t *tails, size_t tails_count,
+    const uint16_t *heads, size_t heads_count,
+    const uint16_t *tree, size_t tree_count,
+    uint16_t *output, size_t output_count);
+
+/*
+ * Lists the nodes of the walk from a node to the collector, from the node to the collector, by the
+ * tree column of a plan to the collector.
+ *
+ * As kestrelore_list_path; an entry leads on where it is below m, the arc's tail is the node, and its
+ * head is below n (14). 4 is about the collector.
+ */
+kestrelore_listed kestrelore_list_to_collector(
+    uint16_t collector, uint16_t node,
     const uint16_t *tails, size_t tails_count,
     const uint16_t *heads, size_t heads_count,
     const uint16_t *tree, size_t tree_count,
