@@ -311,7 +311,7 @@ module _ (t : Table) (a : Arc) where
   abbrev t′ : Table
   t′ = with-link t a
 
-  one-more : arc-count t′ ≡ suc (arc-count t)
+  pub one-more : arc-count t′ ≡ suc (arc-count t)
   unfolding with-link table arc-count
   one-more = omega (arith, length-append (t .arcs) (a ∷ []))
 
@@ -335,7 +335,7 @@ module _ (t : Table) (a : Arc) where
   unfolding length-at
   old-length i h = ap (λ (b : Arc). b .arc-length) (old-arc i h)
 
-  new-link : (arc-at t′ (arc-count t) .tail ≡ a .tail) × (head-at t′ (arc-count t) ≡ a .head) × (length-at t′ (arc-count t) ≡ a .arc-length)
+  pub new-link : (arc-at t′ (arc-count t) .tail ≡ a .tail) × (head-at t′ (arc-count t) ≡ a .head) × (length-at t′ (arc-count t) ≡ a .arc-length)
   unfolding head-at length-at
   new-link = (ap (λ (b : Arc). b .tail) new-arc, ap (λ (b : Arc). b .head) new-arc, ap (λ (b : Arc). b .arc-length) new-arc)
 

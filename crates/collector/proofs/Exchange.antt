@@ -12,7 +12,7 @@ use Rattle.table.proofs.Basics.{true-both}
 use Rattle.table.proofs.Present.{present-tail, leaves-present}
 use Rattle.auction.proofs.Good.{Good, good}
 use Rattle.auction.proofs.Back.{first}
-use Rattle.collector.specs.Exchanged.{exchanged-arc, exchanged, Backwards, Exchanged-walks, Exchanged-twice, Exchanged-is-table, Exchanged-columns}
+use Rattle.collector.specs.Exchanged.{exchanged-arc, exchanged, Exchanged-walks, Exchanged-twice, Exchanged-is-table, Exchanged-columns}
 
 -- THE TABLE
 twice : (arcs : List Arc) → map exchanged-arc (map exchanged-arc arcs) ≡ arcs
@@ -55,6 +55,15 @@ module _ (t : Table) (i : ℕ) where
   unfolding arc-at exchanged table exchanged-arc arc
   arc-so = List·getD-map exchanged-arc (t .arcs) i (arc no-arc no-arc 0)
 
+  -- its tail there is its head, and its head there its tail
+  pub end-kept : arc-at (exchanged t) i .tail ≡ head-at t i
+  unfolding head-at exchanged-arc arc
+  end-kept = ap (λ a. a .tail) arc-so
+
+  pub head-kept : head-at (exchanged t) i ≡ arc-at t i .tail
+  unfolding head-at exchanged-arc arc
+  head-kept = ap (λ a. a .head) arc-so
+
   pub length-kept : length-at (exchanged t) i ≡ length-at t i
   unfolding length-at exchanged-arc arc
   length-kept = ap (λ a. a .arc-length) arc-so
@@ -66,12 +75,10 @@ module _ (t : Table) (i : ℕ) where
   -- a present arc leaves its head there, and leads to its tail
   module _ (p : present-at t i ≡ true) where
     pub leaves-head : tail-at (exchanged t) i ≡ head-at t i
-    unfolding head-at exchanged-arc arc
-    leaves-head = present-tail (exchanged t) i (present-kept ∙ p) ∙ ap (λ a. a .tail) arc-so
+    leaves-head = present-tail (exchanged t) i (present-kept ∙ p) ∙ end-kept
 
     pub leads-to-tail : head-at (exchanged t) i ≡ tail-at t i
-    unfolding head-at exchanged-arc arc
-    leads-to-tail = ap (λ a. a .head) arc-so ∙ sym (present-tail t i p)
+    leads-to-tail = head-kept ∙ sym (present-tail t i p)
 
 -- WALK BY WALK, on a table that is not refused
 module _ (t : Table) (g : Good t) where
@@ -99,10 +106,15 @@ module _ (t : Table) (g : Good t) where
   unfolding leads
   turned-walk is v w low e = turned is [] v w v low e (eq-eqb v v refl)
 
-turned-length : (t : Table) (is onward : List ℕ) → walk-length (exchanged t) is + walk-length t onward ≡ walk-length t (reverseAux is onward)
+-- and they are as long
+length-on : (t : Table) (is onward : List ℕ) → walk-length (exchanged t) is + walk-length t onward ≡ walk-length t (reverseAux is onward)
 unfolding walk-length
-turned-length t [] onward = omega arith
-turned-length t (i ∷ is) onward = omega (arith, turned-length t is (i ∷ onward), length-kept t i)
+length-on t [] onward = omega arith
+length-on t (i ∷ is) onward = omega (arith, length-on t is (i ∷ onward), length-kept t i)
+
+pub turned-length : (t : Table) (is : List ℕ) → walk-length (exchanged t) is ≡ walk-length t (reverse is)
+unfolding walk-length
+turned-length t is = omega (arith, length-on t is [])
 
 -- two tests, each true where the other is
 pub same-test : (a b : Bool) → (a ≡ true → b ≡ true) → (b ≡ true → a ≡ true) → a ≡ b
@@ -111,7 +123,7 @@ same-test false true f g = g refl
 same-test false false f g = refl
 
 pub exchanged-walks : Exchanged-walks
-unfolding Exchanged-walks Exchanged-twice Exchanged-is-table walk-length exchanged table
+unfolding Exchanged-walks Exchanged-twice Exchanged-is-table exchanged table
 exchanged-walks t ws v w is e low-v low-w =
     let g = good t ws e in
     let x = exchanged t in
@@ -122,5 +134,5 @@ exchanged-walks t ws v w is e low-v low-w =
     (turned-walk x h (reverse is) w v low-w (subst (λ (y : Table). leads y w (reverse is) v ≡ true) (sym (exchanged-twice t)) q)) in
     record {
       walk = same-test (leads x v is w) (leads t w (reverse is) v) (turned-walk t g is v w low-v) back;
-      as-long = omega (arith, turned-length t is []);
+      as-long = turned-length t is;
     }

@@ -1,16 +1,16 @@
 -- The promises of specs/Promises.antt, each from the planner's promise about the exchanged table and the one result about its walks. Assumes nothing.
 use mathlib.Core.Path.{_≡_, refl, sym, ap, subst, _∙_}
-use mathlib.Core.Bool.{true, _&&_}
+use mathlib.Core.Bool.{true}
 use mathlib.Core.List.{List, [], _∷_, reverseAux, reverse, reverse-reverse}
-use mathlib.Core.Logic.{_⊎_, ⊎-elim}
-use Prim.Native.Nat.{ℕ, _+_, _≤_, _<_}
+use mathlib.Core.Logic.{⊎-elim}
+use Prim.Native.Nat.{ℕ, _+_, _<_}
 use native.Mathlib.Omega.{arith}
 use lib.Dec.{eqb}
 use lib.ListN.{length, getD, length-reverse}
-use borrow.Author.Tests.{eqb-true, eq-eqb, ne-eqb}
-use Rattle.table.specs.Table.{Table, table, table-of, is-table, arc-count, present-at, tail-at, head-at, length-at, leads, is-walk, walk-length}
+use borrow.Author.Tests.{ne-eqb}
+use Rattle.table.specs.Table.{Table, table, table-of, is-table, present-at, tail-at, head-at, length-at, leads, is-walk, walk-length}
 use Rattle.table.specs.declared.Refusal.{Refusal}
-use Rattle.table.proofs.Basics.{both-true, true-both, same-or}
+use Rattle.table.proofs.Basics.{both-true, true-both}
 use Rattle.table.proofs.Present.{leaves-present}
 use Rattle.auction.specs.HandOver.{Answer}
 use Rattle.auction.specs.Plan.{plan-refusal, refused-plan, routes-of, plan}
@@ -44,14 +44,14 @@ module _ (t : Table) (senders : List ℕ) (table-good : is-table t senders ≡ t
     unfolding Exchanged-walks
     backwards is = exchanged-walks t senders (collector t) v is table-good (here-good .origin-in) low
 
-    walks-in : (is : List ℕ) → is-walk there is v ≡ is-walk-in t (reverse is) v
+    pub walks-in : (is : List ℕ) → is-walk there is v ≡ is-walk-in t (reverse is) v
     unfolding is-walk is-walk-in exchanged table
     walks-in is = backwards is .walk
 
-    walks-out : (is : List ℕ) → is-walk there (reverse is) v ≡ is-walk-in t is v
+    pub walks-out : (is : List ℕ) → is-walk there (reverse is) v ≡ is-walk-in t is v
     walks-out is = walks-in (reverse is) ∙ ap (λ (l : List ℕ). is-walk-in t l v) (reverse-reverse is)
 
-    lengths-out : (is : List ℕ) → walk-length there (reverse is) ≡ walk-length t is
+    pub lengths-out : (is : List ℕ) → walk-length there (reverse is) ≡ walk-length t is
     lengths-out is = backwards (reverse is) .as-long ∙ ap (walk-length t) (reverse-reverse is)
 
     has-walk-in : Has-walk there v → Has-walk-in t v
@@ -59,7 +59,7 @@ module _ (t : Table) (senders : List ℕ) (table-good : is-table t senders ≡ t
     has-walk-in h = (reverse (h .0), sym (walks-in (h .0)) ∙ h .1)
 
   -- a walk there ends at a node
-  end-there : (is : List ℕ) (v : ℕ) → is-walk there is v ≡ true → v < t .n
+  pub end-there : (is : List ℕ) (v : ℕ) → is-walk there is v ≡ true → v < t .n
   unfolding exchanged table
   end-there is v w = walk-end there there-good is v w
 

@@ -1,6 +1,6 @@
 -- A table is refused as its exchanged table is: by the same number, at the same place. Assumes nothing.
 use mathlib.Core.Path.{_≡_, refl, sym, ap, _∙_}
-use mathlib.Core.Bool.{Bool, true, false, _&&_, _||_, not, cond, or-comm}
+use mathlib.Core.Bool.{true, false, _&&_, not, or-comm}
 use mathlib.Core.List.{List, [], _∷_, map}
 use mathlib.Core.Logic.{⊎-elim}
 use Prim.Native.Nat.{ℕ, suc}
@@ -8,7 +8,6 @@ use lib.Dec.{ltb, leb, eqb}
 use lib.ListN.{length}
 use borrow.Author.Tests.{eqb-true, ne-eqb, not-false}
 use Rattle.table.specs.Table.{Arc, arc, arcs-of, most-arcs}
-use Rattle.table.specs.declared.Refusal.{Refusal}
 use Rattle.table.specs.Refusals.{columns-bad, arc-fault, arcs-from, arcs-refusal, table-refusal}
 use Rattle.table.proofs.Basics.{true-or, same-or, both-true, either-false}
 use Rattle.auction.specs.Plan.{plan-refusal}

@@ -1,12 +1,12 @@
 -- Listing to a collector: the nodes of a walk of the exchanged table, backwards, are those of the walk to the collector. Assumes nothing.
-use mathlib.Core.Path.{_≡_, sym, ap, subst, _∙_}
+use mathlib.Core.Path.{_≡_, sym, ap, _∙_}
 use mathlib.Core.Bool.{true}
 use mathlib.Core.List.{List, [], _∷_, reverseAux, reverse}
 use Prim.Native.Nat.{ℕ, _<_}
 use native.Mathlib.Omega.{arith}
-use lib.ListN.{length, length-reverse}
+use lib.ListN.{length-reverse}
 use borrow.Author.Tests.{eqb-true}
-use Rattle.table.specs.Table.{Table, table, tail-at, head-at, leads, is-walk}
+use Rattle.table.specs.Table.{Table, table, head-at, leads, is-walk}
 use Rattle.auction.proofs.Good.{Good}
 use Rattle.auction.proofs.Back.{first}
 use Rattle.collector.specs.Exchanged.{exchanged}

@@ -18,6 +18,7 @@ use Rattle.limit_answer.proofs.Rows as Limits
 use Rattle.collector.specs.Promises.{Collects}
 use Rattle.collector.proofs.Exchange.{exchanged-walks, exchanged-twice, exchanged-is-table, exchanged-columns}
 use Rattle.collector.proofs.Promised.{collects-by-exchange, collector-served, collector-refusals}
+use Rattle.collector.proofs.Stability.{same-choice-in, route-stays-in, sender-route-stays, link-added-in}
 use Rattle.collector.proofs.Rows as Collector
 use Rattle.planner.proofs.Promised.{plans-kept, refusals-touch-nothing}
 use Rattle.paths.proofs.Promised.{routes-listed, plans-listed, senders-listed}
@@ -90,6 +91,10 @@ kept =
       route-stays = stability .route-stays;
       wanted-route-stays = stability .wanted-route-stays;
       link-added = stability .link-added;
+      same-choice-in = same-choice-in;
+      route-stays-in = route-stays-in;
+      sender-route-stays = sender-route-stays;
+      link-added-in = link-added-in;
       routes-listed = routes-listed;
       plans-listed = plans-listed;
       senders-listed = senders-listed;

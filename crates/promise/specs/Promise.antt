@@ -10,6 +10,7 @@ use Rattle.limit_answer.specs.Promises.{Limits-kept, Limits-pinned, Limits-refu
 use Rattle.limit_answer.specs.Rows as Limits
 use Rattle.collector.specs.Exchanged.{Exchanged-walks, Exchanged-twice, Exchanged-is-table, Exchanged-columns}
 use Rattle.collector.specs.Promises.{Collects-by-exchange, Collector-served, Collector-refusals}
+use Rattle.collector.specs.Stability.{Same-choice-in, Route-stays-in, Sender-route-stays, Link-added-in}
 use Rattle.collector.specs.Rows as Collector
 use Rattle.planner.specs.Promise.{Plans-kept, Refusals-touch-nothing}
 use Rattle.paths.specs.Promises.{Routes-listed, Plans-listed, Senders-listed}
@@ -90,6 +91,11 @@ pub record Promise : Type 0 where
   pub route-stays : Route-stays
   pub wanted-route-stays : Wanted-route-stays
   pub link-added : Link-added
+  -- and the same on the way to a collector
+  pub same-choice-in : Same-choice-in
+  pub route-stays-in : Route-stays-in
+  pub sender-route-stays : Sender-route-stays
+  pub link-added-in : Link-added-in
   -- LISTING: a path lists the nodes of the walk returned, or from a sender those of its walk to the collector
   pub routes-listed : Routes-listed
   pub plans-listed : Plans-listed
