@@ -95,6 +95,18 @@ extern "C" {
         marks: *mut u8, marks_count: usize,
     ) -> Planned;
 
+    fn kestrelore_plan_to_collector(
+        n: u32, collector: u16,
+        tails: *const u16, tails_count: usize,
+        heads: *const u16, heads_count: usize,
+        lengths: *const u32, lengths_count: usize,
+        senders: *const u16, senders_count: usize,
+        distances: *mut u64, distances_count: usize,
+        prices: *mut u64, prices_count: usize,
+        tree: *mut u16, tree_count: usize,
+        marks: *mut u8, marks_count: usize,
+    ) -> Planned;
+
     fn kestrelore_within_limit(
         n: u32, origin: u16, node: u16, limit: u64,
         tails: *const u16, tails_count: usize,
@@ -104,6 +116,14 @@ extern "C" {
 
     fn kestrelore_list_path(
         origin: u16, node: u16,
+        tails: *const u16, tails_count: usize,
+        heads: *const u16, heads_count: usize,
+        tree: *const u16, tree_count: usize,
+        output: *mut u16, output_count: usize,
+    ) -> Listed;
+
+    fn kestrelore_list_to_collector(
+        collector: u16, node: u16,
         tails: *const u16, tails_count: usize,
         heads: *const u16, heads_count: usize,
         tree: *const u16, tree_count: usize,
@@ -172,6 +192,10 @@ pub fn plan_routes_by(function: PlanRoutes, n: u32, origin: u16, columns: Column
     }
 }
 
+pub fn plan_to_collector(n: u32, collector: u16, columns: Columns, senders: &[u16], out: PlanBuffers) -> Planned {
+    plan_routes_by(kestrelore_plan_to_collector, n, collector, columns, senders, out)
+}
+
 pub fn within_limit(n: u32, origin: u16, node: u16, limit: u64, columns: Columns) -> Within {
     unsafe {
         kestrelore_within_limit(
@@ -187,6 +211,18 @@ pub fn list_path(origin: u16, node: u16, tails: &[u16], heads: &[u16], tree: &[u
     unsafe {
         kestrelore_list_path(
             origin, node,
+            tails.as_ptr(), tails.len(),
+            heads.as_ptr(), heads.len(),
+            tree.as_ptr(), tree.len(),
+            output.as_mut_ptr(), output.len(),
+        )
+    }
+}
+
+pub fn list_to_collector(collector: u16, node: u16, tails: &[u16], heads: &[u16], tree: &[u16], output: &mut [u16]) -> Listed {
+    unsafe {
+        kestrelore_list_to_collector(
+            collector, node,
             tails.as_ptr(), tails.len(),
             heads.as_ptr(), heads.len(),
             tree.as_ptr(), tree.len(),

@@ -27,7 +27,18 @@ fn rest_untouched<T: Element>(name: &str, buffer: &Lent<T>, start: usize) -> Ver
     if buffer.rest_untouched(start) { Ok(()) } else { Err(format!("{name}: touched from element {start} on")) }
 }
 
-// Planning.
+// Planning, from the origin and to a collector.
+
+/// A planning function, and the check of its finished plans without any auction.
+struct Planning {
+    plan: fn(&dyn Entries, &Table, PlanBuffers) -> Planned,
+    check: fn(&Table, &Planned, &Filled) -> Verdict,
+}
+
+const FROM_ORIGIN: Planning =
+    Planning { plan: |entries, table, out| entries.plan(table, out), check: optimality::check };
+const TO_COLLECTOR: Planning =
+    Planning { plan: |entries, table, out| entries.plan_to_collector(table, out), check: optimality::check_to_collector };
 
 struct LentPlan {
     distances: Lent<u64>,
@@ -44,21 +55,63 @@ pub fn right_sizes(table: &Table) -> Sizes {
     [n, n, n, table.tails.len()]
 }
 
-fn plan_lent(entries: &dyn Entries, table: &Table, sizes: Sizes) -> (Planned, LentPlan) {
-    let [distances, prices, tree, marks] = sizes;
-    let mut lent = LentPlan {
-        distances: Lent::new(distances),
-        prices: Lent::new(prices),
-        tree: Lent::new(tree),
-        marks: Lent::new(marks),
-    };
-    let answer = entries.plan(table, PlanBuffers {
-        distances: lent.distances.part(),
-        prices: lent.prices.part(),
-        tree: lent.tree.part(),
-        marks: lent.marks.part(),
-    });
-    (answer, lent)
+impl Planning {
+    fn lent(&self, entries: &dyn Entries, table: &Table, sizes: Sizes) -> (Planned, LentPlan) {
+        let [distances, prices, tree, marks] = sizes;
+        let mut lent = LentPlan {
+            distances: Lent::new(distances),
+            prices: Lent::new(prices),
+            tree: Lent::new(tree),
+            marks: Lent::new(marks),
+        };
+        let out = PlanBuffers {
+            distances: lent.distances.part(),
+            prices: lent.prices.part(),
+            tree: lent.tree.part(),
+            marks: lent.marks.part(),
+        };
+        ((self.plan)(entries, table, out), lent)
+    }
+
+    /// Plans with buffers of the right sizes.
+    fn filled(&self, entries: &dyn Entries, table: &Table) -> (Planned, Filled) {
+        let (answer, lent) = self.lent(entries, table, right_sizes(table));
+        (answer, lent.filled())
+    }
+
+    fn compare(&self, entries: &dyn Entries, table: &Table, sizes: Sizes) -> Verdict {
+        let before = table.clone();
+        let (answer, lent) = self.lent(entries, table, sizes);
+        let (expected, model) = self.lent(&RIGHT, table, sizes);
+        same_answer(&answer, &expected)?;
+        same("distances", &lent.distances, &model.distances)?;
+        same("prices", &lent.prices, &model.prices)?;
+        same("tree", &lent.tree, &model.tree)?;
+        same("marks", &lent.marks, &model.marks)?;
+        same_answer(table, &before)?;
+        if answer.number == 0 || answer.number == 8 {
+            return (self.check)(table, &answer, &lent.filled());
+        }
+        rest_untouched("distances", &lent.distances, 0)?;
+        rest_untouched("prices", &lent.prices, 0)?;
+        rest_untouched("tree", &lent.tree, 0)?;
+        rest_untouched("marks", &lent.marks, 0)
+    }
+
+    /// Compares with buffers of the right sizes; a failing table is made smaller before it is shown.
+    fn compare_fitting(&self, entries: &dyn Entries, table: &Table) -> Verdict {
+        let fails = |table: &Table| self.compare(entries, table, right_sizes(table)).is_err();
+        if !fails(table) {
+            return Ok(());
+        }
+        let small = smaller_table(table, &fails);
+        self.compare_sized(entries, &small, right_sizes(&small))
+    }
+
+    fn compare_sized(&self, entries: &dyn Entries, table: &Table, sizes: Sizes) -> Verdict {
+        let with_table = |fault| format!("{fault}\n  buffers {sizes:?}, {}", table_words(table));
+        self.compare(entries, table, sizes).map_err(with_table)
+    }
 }
 
 impl LentPlan {
@@ -72,43 +125,28 @@ impl LentPlan {
     }
 }
 
-/// Plans with buffers of the right sizes.
 pub fn plan_filled(entries: &dyn Entries, table: &Table) -> (Planned, Filled) {
-    let (answer, lent) = plan_lent(entries, table, right_sizes(table));
-    (answer, lent.filled())
+    FROM_ORIGIN.filled(entries, table)
 }
 
-fn compare_plan(entries: &dyn Entries, table: &Table, sizes: Sizes) -> Verdict {
-    let before = table.clone();
-    let (answer, lent) = plan_lent(entries, table, sizes);
-    let (expected, model) = plan_lent(&RIGHT, table, sizes);
-    same_answer(&answer, &expected)?;
-    same("distances", &lent.distances, &model.distances)?;
-    same("prices", &lent.prices, &model.prices)?;
-    same("tree", &lent.tree, &model.tree)?;
-    same("marks", &lent.marks, &model.marks)?;
-    same_answer(table, &before)?;
-    if answer.number == 0 || answer.number == 8 {
-        return optimality::check(table, &answer, &lent.filled());
-    }
-    rest_untouched("distances", &lent.distances, 0)?;
-    rest_untouched("prices", &lent.prices, 0)?;
-    rest_untouched("tree", &lent.tree, 0)?;
-    rest_untouched("marks", &lent.marks, 0)
-}
-
-/// Compares a plan with buffers of the right sizes; a failing table is made smaller before it is shown.
 pub fn plan(entries: &dyn Entries, table: &Table) -> Verdict {
-    let fails = |table: &Table| compare_plan(entries, table, right_sizes(table)).is_err();
-    if !fails(table) {
-        return Ok(());
-    }
-    let small = smaller_table(table, &fails);
-    plan_sized(entries, &small, right_sizes(&small))
+    FROM_ORIGIN.compare_fitting(entries, table)
 }
 
 pub fn plan_sized(entries: &dyn Entries, table: &Table, sizes: Sizes) -> Verdict {
-    compare_plan(entries, table, sizes).map_err(|fault| format!("{fault}\n  buffers {sizes:?}, {}", table_words(table)))
+    FROM_ORIGIN.compare_sized(entries, table, sizes)
+}
+
+pub fn plan_to_collector_filled(entries: &dyn Entries, table: &Table) -> (Planned, Filled) {
+    TO_COLLECTOR.filled(entries, table)
+}
+
+pub fn plan_to_collector(entries: &dyn Entries, table: &Table) -> Verdict {
+    TO_COLLECTOR.compare_fitting(entries, table)
+}
+
+pub fn plan_to_collector_sized(entries: &dyn Entries, table: &Table, sizes: Sizes) -> Verdict {
+    TO_COLLECTOR.compare_sized(entries, table, sizes)
 }
 
 /// Drops arcs and wanted nodes while the table still fails; unequal columns stay as they are.
@@ -190,13 +228,23 @@ pub fn within(entries: &dyn Entries, table: &Table, node: u16, limit: u64) -> Ve
     compare_within(entries, &small, node, limit).map_err(with_table)
 }
 
-// Listing a path.
+// Listing a path, from the origin and to a collector.
+
+type ListPath = fn(&dyn Entries, &Listing, &mut [u16]) -> Listed;
 
 pub fn list(entries: &dyn Entries, listing: &Listing, room: usize) -> Verdict {
+    list_by(|entries, listing, output| entries.list(listing, output), entries, listing, room)
+}
+
+pub fn list_to_collector(entries: &dyn Entries, listing: &Listing, room: usize) -> Verdict {
+    list_by(|entries, listing, output| entries.list_to_collector(listing, output), entries, listing, room)
+}
+
+fn list_by(list: ListPath, entries: &dyn Entries, listing: &Listing, room: usize) -> Verdict {
     let mut output = Lent::new(room);
     let mut model = Lent::new(room);
-    let answer = entries.list(listing, output.part());
-    let expected = RIGHT.list(listing, model.part());
+    let answer = list(entries, listing, output.part());
+    let expected = list(&RIGHT, listing, model.part());
     same_answer(&answer, &expected)
         .and_then(|()| same("output", &output, &model))
         .and_then(|()| rest_untouched("output", &output, expected.count as usize))

@@ -112,6 +112,10 @@ fn main() -> ExitCode {
         let name = format!("the distances alone notice {fault:?}");
         tests.push(cases(name, move |random| wrong::noticed_by_distances(fault, random)));
     }
+    for fault in wrong::AGAINST_COLLECTOR {
+        let name = format!("the optimality check of plans to a collector alone notices {fault:?}");
+        tests.push(cases(name, move |random| wrong::noticed_to_collector(fault, random)));
+    }
     let passed = run_all(&tests, seed);
     let failed = tests.len() - passed;
     println!("{passed} passed, {failed} failed");

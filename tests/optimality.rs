@@ -1,10 +1,12 @@
 //! Checks a finished plan without any auction: least distances over all walks by relaxing every arc
 //! until nothing changes, then each promise about distances, links, prices, walks and "no route"; and
-//! by the same distances whether a node is within a limit.
+//! by the same distances whether a node is within a limit. A plan to a collector is checked on the
+//! table as it stands: the collector is its origin, and the senders are its wanted nodes.
 
 use crate::rules::*;
 
 /// The four buffers of a plan, filled.
+#[derive(Debug, PartialEq)]
 pub struct Filled {
     pub distances: Vec<u64>,
     pub prices: Vec<u64>,
@@ -19,16 +21,27 @@ fn present_arcs(table: &Table) -> Vec<(usize, Arc)> {
 
 /// The least length of all walks from the origin to each node; none where there is no walk.
 pub fn least_distances(table: &Table) -> Vec<Option<u64>> {
+    least_over(table, |(tail, head, _)| (tail, head))
+}
+
+/// The least length of all walks from each node to the collector; none where there is no walk.
+fn least_to_collector(table: &Table) -> Vec<Option<u64>> {
+    least_over(table, |(tail, head, _)| (head, tail))
+}
+
+/// From 0 at the origin, relaxes every arc from its near end to its far end until nothing changes.
+fn least_over(table: &Table, near_and_far: fn(Arc) -> (u16, u16)) -> Vec<Option<u64>> {
     let mut least: Vec<Option<u64>> = vec![None; table.n as usize];
     least[table.origin as usize] = Some(0);
     let mut changed = true;
     while changed {
         changed = false;
-        for (_, (tail, head, length)) in present_arcs(table) {
-            let through = least[tail as usize].map(|distance| distance + length as u64);
-            let known = least[head as usize];
+        for (_, arc) in present_arcs(table) {
+            let (near, far) = near_and_far(arc);
+            let through = least[near as usize].map(|distance| distance + arc.2 as u64);
+            let known = least[far as usize];
             if through.is_some() && (known.is_none() || through < known) {
-                least[head as usize] = through;
+                least[far as usize] = through;
                 changed = true;
             }
         }
@@ -44,7 +57,7 @@ fn demand(holds: bool, what: impl Fn() -> String) -> Result<(), String> {
 pub fn check(table: &Table, plan: &Planned, filled: &Filled) -> Result<(), String> {
     let least = least_distances(table);
     check_answer(table, plan, filled, &least)?;
-    check_nodes(table, plan, filled, &least)?;
+    check_nodes(table, plan, filled, &least, &earliest_arcs(table, &least))?;
     check_prices(table, filled)?;
     (0..table.n as usize)
         .filter(|&node| filled.distances[node] != NO_DISTANCE)
@@ -82,7 +95,8 @@ fn check_answer(table: &Table, plan: &Planned, filled: &Filled, least: &[Option<
     demand(down.all(|position| filled.marks[position] == 1), || "an arc is down and its mark is not 1".to_string())
 }
 
-fn check_nodes(table: &Table, plan: &Planned, filled: &Filled, least: &[Option<u64>]) -> Result<(), String> {
+/// For each node but the origin the earliest listed arc into it that attains the least distance.
+fn earliest_arcs(table: &Table, least: &[Option<u64>]) -> Vec<u16> {
     let mut earliest = vec![NO_ARC; table.n as usize];
     for (position, (tail, head, length)) in present_arcs(table).into_iter().rev() {
         let attained = least[tail as usize].map(|distance| distance + length as u64);
@@ -90,6 +104,12 @@ fn check_nodes(table: &Table, plan: &Planned, filled: &Filled, least: &[Option<u
             earliest[head as usize] = position as u16;
         }
     }
+    earliest
+}
+
+fn check_nodes(
+    table: &Table, plan: &Planned, filled: &Filled, least: &[Option<u64>], earliest: &[u16],
+) -> Result<(), String> {
     for node in 0..table.n as usize {
         let distance = filled.distances[node];
         if distance == NO_DISTANCE {
@@ -133,4 +153,92 @@ fn check_walk(table: &Table, filled: &Filled, node: usize) -> Result<(), String>
         at = tail;
     }
     Err(format!("node {node}: its tree arcs do not lead to the origin"))
+}
+
+// To the collector.
+
+/// Checks a plan to a collector whose number is 0 or 8.
+pub fn check_to_collector(table: &Table, plan: &Planned, filled: &Filled) -> Result<(), String> {
+    let least = least_to_collector(table);
+    check_answer(table, plan, filled, &least)?;
+    check_nodes(table, plan, filled, &least, &earliest_arcs_out(table, &least))?;
+    check_prices_to_collector(table, filled)?;
+    check_marks_to_collector(table, filled)?;
+    (0..table.n as u16)
+        .filter(|&node| filled.distances[node as usize] != NO_DISTANCE)
+        .try_for_each(|node| walk_to_collector(table, filled, node).map(drop))
+}
+
+/// Checks the nodes that were listed from a reached node: those of its walk.
+pub fn check_listed_to_collector(table: &Table, filled: &Filled, node: u16, listed: &[u16]) -> Result<(), String> {
+    let walk = walk_to_collector(table, filled, node)?;
+    demand(listed == walk, || format!("listed from node {node}: {listed:?}, its walk is {walk:?}"))
+}
+
+/// For each node but the collector the earliest listed arc out of it that attains the least distance.
+fn earliest_arcs_out(table: &Table, least: &[Option<u64>]) -> Vec<u16> {
+    let arcs = present_arcs(table);
+    let earliest = |node: u16| {
+        let attains = |&&(_, (tail, head, length)): &&(usize, Arc)| {
+            let through = least[head as usize].map(|distance| distance + length as u64);
+            tail == node && through.is_some() && through == least[node as usize]
+        };
+        arcs.iter().find(attains).map_or(NO_ARC, |arc| arc.0 as u16)
+    };
+    (0..table.n as u16).map(|node| if node == table.origin { NO_ARC } else { earliest(node) }).collect()
+}
+
+/// On every arc that is not down the head's price is at most the length + the tail's price.
+fn check_prices_to_collector(table: &Table, filled: &Filled) -> Result<(), String> {
+    for (position, (tail, head, length)) in present_arcs(table) {
+        let (tail_price, head_price) = (filled.prices[tail as usize], filled.prices[head as usize]);
+        demand(head_price <= length as u64 + tail_price, || format!("price rule broken on arc {position}"))?;
+    }
+    Ok(())
+}
+
+/// An arc out of a node is kept where no other into a reached node gives less, nor as much at an earlier position. Kept
+/// arcs are marked 3 out of a reached node, else 2; others 1 where an end is reached, else 0.
+fn check_marks_to_collector(table: &Table, filled: &Filled) -> Result<(), String> {
+    let reached = |node: u16| filled.distances[node as usize] != NO_DISTANCE;
+    let mut kept: Vec<Option<(u64, usize)>> = vec![None; table.n as usize];
+    for (position, (tail, head, length)) in present_arcs(table) {
+        let offer = (filled.distances[head as usize].saturating_add(length as u64), position);
+        if reached(head) && tail != table.origin && kept[tail as usize].map_or(true, |former| offer < former) {
+            kept[tail as usize] = Some(offer);
+        }
+    }
+    for (position, (tail, head, _)) in present_arcs(table) {
+        let is_kept = kept[tail as usize].map_or(false, |(_, arc)| arc == position);
+        let mark = match (is_kept, reached(tail), reached(head)) {
+            (true, true, _) => 3,
+            (true, false, _) => 2,
+            (false, false, false) => 0,
+            _ => 1,
+        };
+        demand(filled.marks[position] == mark, || format!("the mark of arc {position} must be {mark}"))?;
+    }
+    Ok(())
+}
+
+/// The nodes of the walk that a reached node's entries give, up to the collector. It is as long as the distance, with
+/// equal prices on its arcs.
+fn walk_to_collector(table: &Table, filled: &Filled, node: u16) -> Result<Vec<u16>, String> {
+    let mut nodes = vec![node];
+    let mut total = 0;
+    let mut at = node;
+    while at != table.origin {
+        demand(nodes.len() < table.n as usize, || format!("node {node}: its tree arcs do not lead to the collector"))?;
+        let arc = filled.tree[at as usize] as usize;
+        demand(table.tails.get(arc) == Some(&at), || format!("no tree arc out of {at}"))?;
+        demand(table.lengths[arc] != DOWN, || format!("arc {arc} of a returned walk is down"))?;
+        let (head, length) = (table.heads[arc], table.lengths[arc] as u64);
+        let tight = filled.prices[head as usize] == length + filled.prices[at as usize];
+        demand(tight, || format!("prices unequal on arc {arc} of a returned walk"))?;
+        total += length;
+        nodes.push(head);
+        at = head;
+    }
+    demand(total == filled.distances[node as usize], || format!("node {node}: walk {total}"))?;
+    Ok(nodes)
 }

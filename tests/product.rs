@@ -18,12 +18,20 @@ impl Entries for Product {
         plan_routes(table.n, table.origin, table.columns(), &table.wanted, out)
     }
 
+    fn plan_to_collector(&self, table: &Table, out: PlanBuffers) -> Planned {
+        plan_to_collector(table.n, table.origin, table.columns(), &table.wanted, out)
+    }
+
     fn within(&self, table: &Table, node: u16, limit: u64) -> Within {
         within_limit(table.n, table.origin, node, limit, table.columns())
     }
 
     fn list(&self, listing: &Listing, output: &mut [u16]) -> Listed {
         list_path(listing.origin, listing.node, &listing.tails, &listing.heads, &listing.tree, output)
+    }
+
+    fn list_to_collector(&self, listing: &Listing, output: &mut [u16]) -> Listed {
+        list_to_collector(listing.origin, listing.node, &listing.tails, &listing.heads, &listing.tree, output)
     }
 
     fn read(&self, file: &[u8], out: ReadBuffers) -> TableRead {

@@ -43,6 +43,11 @@ impl Table {
         (Table::new(self.n, self.origin, &arcs, &self.wanted), places)
     }
 
+    /// The table with each arc's tail and head exchanged; the positions are kept.
+    pub fn exchanged(&self) -> Table {
+        Table { tails: self.heads.clone(), heads: self.tails.clone(), ..self.clone() }
+    }
+
     pub fn columns(&self) -> Columns<'_> {
         Columns { tails: &self.tails, heads: &self.heads, lengths: &self.lengths }
     }
@@ -62,6 +67,13 @@ pub struct Listing {
     pub tree: Vec<u16>,
 }
 
+impl Listing {
+    /// With each arc's tail and head exchanged.
+    pub fn exchanged(&self) -> Listing {
+        Listing { tails: self.heads.clone(), heads: self.tails.clone(), ..self.clone() }
+    }
+}
+
 /// A ground's number and place.
 #[derive(Clone, Copy, Debug, PartialEq)]
 pub struct Refusal {
@@ -73,12 +85,15 @@ pub fn refuse<T>(number: u32, place: usize) -> Result<T, Refusal> {
     Err(Refusal { number, place: place as u32 })
 }
 
-/// The five functions of the library, and the program from its standard input to its standard output.
+/// The seven functions of the library, and the program from its standard input to its standard output. In the two that
+/// go to a collector it stands as the origin, and the senders as the wanted nodes.
 pub trait Entries: Sync {
     fn plan(&self, table: &Table, out: PlanBuffers) -> Planned;
+    fn plan_to_collector(&self, table: &Table, out: PlanBuffers) -> Planned;
     /// Whether the node is within the limit; the table's wanted list is not looked at.
     fn within(&self, table: &Table, node: u16, limit: u64) -> Within;
     fn list(&self, listing: &Listing, output: &mut [u16]) -> Listed;
+    fn list_to_collector(&self, listing: &Listing, output: &mut [u16]) -> Listed;
     fn read(&self, file: &[u8], out: ReadBuffers) -> TableRead;
     fn write(&self, table: &Table, output: &mut [u8]) -> Written;
     fn print(&self, file: &[u8]) -> Result<String, String>;

@@ -3,11 +3,11 @@
 use crate::cases::within::limits_about;
 use crate::cases::{self, Tried};
 use crate::product::{Product, Unread};
-use crate::compare::plan_filled;
+use crate::compare::{plan_filled, plan_to_collector_filled};
 use crate::model::{Model, Wrong, RIGHT};
 use crate::optimality;
 use crate::random::Random;
-use crate::rules::{Entries, Table};
+use crate::rules::{Entries, Listing, Table, NO_DISTANCE};
 use crate::shapes::{self, SHAPES};
 use std::fs;
 use std::os::unix::fs::PermissionsExt;
@@ -25,8 +25,10 @@ pub fn noticed(fault: Wrong, seed: u64) -> Result<&'static str, String> {
 }
 
 /// The faults that break a promise about distances, links, prices, "no route", the horizon or links that are down.
-pub const AGAINST_PROMISES: [Wrong; 8] = [
+pub const AGAINST_PROMISES: [Wrong; 10] = [
     Wrong::TieByFirstMet,
+    Wrong::TieByLatest,
+    Wrong::PricesAreDistances,
     Wrong::HorizonFromRawPrice,
     Wrong::RawPrices,
     Wrong::PathShortenedAtOrigin,
@@ -45,6 +47,17 @@ pub const AGAINST_LIMITS: [Wrong; 7] = [
     Wrong::PassedIsWithin,
     Wrong::NoWalkRefused,
     Wrong::DownLinksWithin,
+];
+
+/// The faults that break a promise about plans to a collector, or list something else than the walk of such a plan.
+pub const AGAINST_COLLECTOR: [Wrong; 7] = [
+    Wrong::ColumnsNotExchanged,
+    Wrong::CollectorTieByLatest,
+    Wrong::CollectorPricesAreDistances,
+    Wrong::CollectorDownLinksUsed,
+    Wrong::SenderPlaceIsNode,
+    Wrong::CollectorListedFirst,
+    Wrong::EntryNotMirrored,
 ];
 
 /// Random tables until one is judged to be answered wrongly.
@@ -74,6 +87,22 @@ pub fn noticed_by_distances(fault: Wrong, random: &mut Random) -> Tried {
         let node = random.below(table.n as usize) as u16;
         let limit = random.pick(&limits_about(table, &[node]));
         optimality::check_limit(table, node, limit, &faulty.within(table, node, limit)).is_err()
+    })
+}
+
+pub fn noticed_to_collector(fault: Wrong, random: &mut Random) -> Tried {
+    let faulty = Model { wrong: Some(fault) };
+    tables_until(random, |table, random| {
+        let table = table.exchanged();
+        let (plan, filled) = plan_to_collector_filled(&faulty, &table);
+        let node = random.below(table.n as usize) as u16;
+        let mut output = vec![0; table.n as usize];
+        let Table { origin, tails, heads, .. } = table.clone();
+        let listing = Listing { origin, node, tails, heads, tree: filled.tree.clone() };
+        let count = faulty.list_to_collector(&listing, &mut output).count as usize;
+        optimality::check_to_collector(&table, &plan, &filled).is_err()
+            || filled.distances[node as usize] != NO_DISTANCE
+                && optimality::check_listed_to_collector(&table, &filled, node, &output[..count]).is_err()
     })
 }
 

@@ -176,7 +176,7 @@ fn damage(random: &mut Random, table: &mut Table, sizes: &mut Sizes) {
     }
 }
 
-fn damaged_table(random: &mut Random) -> (Table, Sizes) {
+pub fn damaged_table(random: &mut Random) -> (Table, Sizes) {
     let shape = random.pick(&shapes::SHAPES);
     let n = random.from(1, 8);
     let mut table = shapes::table(random, shape, n);

@@ -1,15 +1,30 @@
-//! Listing paths: by finished plans, and by random and damaged tree columns.
+//! Listing paths: by finished plans, and by random and damaged tree columns. What leads from the origin leads to the
+//! collector where tails and heads are exchanged, so each group is there for both.
 
 use super::*;
-use crate::compare::{self, plan_filled};
+use crate::compare::{self, plan_filled, Verdict};
 use crate::shapes;
 
 pub const GROUPS: &[Group] = &[
-    Group { name: "listing: every node of finished plans, every buffer length", run: finished_plans },
-    Group { name: "listing: damaged tree columns", run: damaged },
-    Group { name: "listing: random columns", run: random_columns },
-    Group { name: "listing: limits, cycles and the longest path", run: limits },
+    Group { name: "listing: every node of finished plans, every buffer length", run: finished_plans::<FROM_ORIGIN> },
+    Group { name: "listing: damaged tree columns", run: damaged::<FROM_ORIGIN> },
+    Group { name: "listing: random columns", run: random_columns::<FROM_ORIGIN> },
+    Group { name: "listing: limits, cycles and the longest path", run: limits::<FROM_ORIGIN> },
+    Group { name: "listing to the collector: finished plans, every buffer length", run: finished_plans::<TO_COLLECTOR> },
+    Group { name: "listing to the collector: damaged tree columns", run: damaged::<TO_COLLECTOR> },
+    Group { name: "listing to the collector: random columns", run: random_columns::<TO_COLLECTOR> },
+    Group { name: "listing to the collector: limits, cycles and the longest path", run: limits::<TO_COLLECTOR> },
 ];
+
+const FROM_ORIGIN: bool = true;
+const TO_COLLECTOR: bool = false;
+
+fn list<const WAY: bool>(entries: &dyn Entries, listing: &Listing, room: usize) -> Verdict {
+    match WAY {
+        FROM_ORIGIN => compare::list(entries, listing, room),
+        TO_COLLECTOR => compare::list_to_collector(entries, &listing.exchanged(), room),
+    }
+}
 
 fn listing_of(table: &Table, tree: &[u16], node: u16) -> Listing {
     Listing { origin: table.origin, node, tails: table.tails.clone(), heads: table.heads.clone(), tree: tree.to_vec() }
@@ -23,13 +38,13 @@ fn small_plan(random: &mut Random) -> (Table, Vec<u16>) {
     (table, tree)
 }
 
-fn finished_plans(entries: &dyn Entries, random: &mut Random) -> Tried {
+fn finished_plans<const WAY: bool>(entries: &dyn Entries, random: &mut Random) -> Tried {
     let mut tried = 0;
     for _ in 0..1_000 {
         let (table, tree) = small_plan(random);
         for node in 0..=table.n as u16 {
             for room in 0..=tree.len() + 1 {
-                compare::list(entries, &listing_of(&table, &tree, node), room)?;
+                list::<WAY>(entries, &listing_of(&table, &tree, node), room)?;
                 tried += 1;
             }
         }
@@ -43,7 +58,7 @@ fn stray(random: &mut Random, limit: usize) -> u16 {
     random.pick(&[inside, limit, limit + 1, NO_ARC as usize, NO_ARC as usize - 1]) as u16
 }
 
-fn damaged(entries: &dyn Entries, random: &mut Random) -> Tried {
+fn damaged<const WAY: bool>(entries: &dyn Entries, random: &mut Random) -> Tried {
     let tried = 20_000;
     for _ in 0..tried {
         let (table, tree) = small_plan(random);
@@ -61,13 +76,13 @@ fn damaged(entries: &dyn Entries, random: &mut Random) -> Tried {
                 _ => {}
             }
         }
-        compare::list(entries, &listing, random.below(n + 2))?;
+        list::<WAY>(entries, &listing, random.below(n + 2))?;
     }
     Ok(tried)
 }
 
 /// Columns on few nodes, so that cycles and wrong heads are common.
-fn random_columns(entries: &dyn Entries, random: &mut Random) -> Tried {
+fn random_columns<const WAY: bool>(entries: &dyn Entries, random: &mut Random) -> Tried {
     let tried = 40_000;
     for _ in 0..tried {
         let n = random.from(1, 4);
@@ -80,12 +95,12 @@ fn random_columns(entries: &dyn Entries, random: &mut Random) -> Tried {
             heads: (0..m).map(|_| random.below(n) as u16).collect(),
             tree: (0..n).map(|_| random.below(m + 1) as u16).collect(),
         };
-        compare::list(entries, &listing, random.from(0, n + 1))?;
+        list::<WAY>(entries, &listing, random.from(0, n + 1))?;
     }
     Ok(tried)
 }
 
-fn limits(entries: &dyn Entries, _: &mut Random) -> Tried {
+fn limits<const WAY: bool>(entries: &dyn Entries, _: &mut Random) -> Tried {
     let chain = |n: u16| Listing {
         origin: 0,
         node: n - 1,
@@ -103,7 +118,7 @@ fn limits(entries: &dyn Entries, _: &mut Random) -> Tried {
     let listings = [chain(1_024), chain(1_025), cycle, many(6_000), many(6_001), origins_entry_set, uneven, no_tree];
     let rooms = [0, 1, 2, 1_023, 1_024, 1_025];
     for listing in &listings {
-        rooms.iter().try_for_each(|&room| compare::list(entries, listing, room))?;
+        rooms.iter().try_for_each(|&room| list::<WAY>(entries, listing, room))?;
     }
     Ok(listings.len() * rooms.len())
 }

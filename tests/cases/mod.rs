@@ -1,5 +1,6 @@
 //! The cases, in groups. Each group takes a product and gives how many cases it tried.
 
+pub mod collector;
 pub mod files;
 pub mod grounds;
 pub mod listings;
@@ -21,7 +22,8 @@ pub struct Group {
 
 /// The quick ones first, since a faulty model goes through them until one notices its fault.
 pub fn groups() -> Vec<Group> {
-    [rack::GROUPS, grounds::GROUPS, listings::GROUPS, program::GROUPS, files::GROUPS, plans::GROUPS, within::GROUPS].concat()
+    let quick = [rack::GROUPS, grounds::GROUPS, listings::GROUPS, collector::QUICK, program::GROUPS, files::GROUPS].concat();
+    [&quick, plans::GROUPS, within::GROUPS, collector::GROUPS].concat()
 }
 
 /// T of 01, with the given number of nodes and wanted list.

@@ -2,6 +2,7 @@
 
 use super::*;
 use crate::compare::{self, plan_filled};
+use crate::optimality::Filled;
 use crate::shapes::{self, Shape, SHAPES};
 use std::thread;
 
@@ -28,9 +29,9 @@ fn all_small(entries: &dyn Entries, _: &mut Random) -> Tried {
 }
 
 /// A plan is that of the table without its down arcs, whose positions are told as they stand in the table.
-fn alike_without_down(entries: &dyn Entries, table: &Table) -> Result<(), String> {
+pub fn alike_without_down(plan: impl Fn(&Table) -> (Planned, Filled), table: &Table) -> Result<(), String> {
     let (other, places) = table.without(DOWN);
-    let ((answer, filled), (expected, closed_up)) = (plan_filled(entries, table), plan_filled(entries, &other));
+    let ((answer, filled), (expected, closed_up)) = (plan(table), plan(&other));
     let place = |&arc: &u16| if arc == NO_ARC { NO_ARC } else { places[arc as usize] as u16 };
     let mut marks = vec![1; table.tails.len()];
     places.iter().zip(&closed_up.marks).for_each(|(&place, &mark)| marks[place] = mark);
@@ -51,7 +52,7 @@ fn without_down(entries: &dyn Entries, random: &mut Random) -> Tried {
         for share in shares {
             shapes::take_down(random, &mut table, share);
             compare::plan(entries, &table)?;
-            alike_without_down(entries, &table)?;
+            alike_without_down(|table| plan_filled(entries, table), &table)?;
         }
     }
     Ok(rounds * shares.len())
@@ -78,7 +79,9 @@ fn large(entries: &dyn Entries, random: &mut Random) -> Tried {
     random_tables(entries, random, 200, 1_024)
 }
 
-fn shapes_at_limits(entries: &dyn Entries, random: &mut Random) -> Tried {
+/// A table of every shape as large as it can be, with all nodes wanted and with the last one.
+pub fn tables_at_limits(random: &mut Random) -> Vec<Table> {
+    let mut tables = Vec::new();
     for shape in SHAPES {
         let n = if matches!(shape, Shape::Dense) { 77 } else { 1_024 };
         let ends = shapes::ends(random, shape, n);
@@ -86,10 +89,16 @@ fn shapes_at_limits(entries: &dyn Entries, random: &mut Random) -> Tried {
         let arcs = ends.iter().zip(lengths).map(|(ends, length)| (ends.0 as u16, ends.1 as u16, length));
         let arcs: Vec<Arc> = arcs.take(MOST_ARCS).collect();
         let all: Vec<u16> = (0..n as u16).collect();
-        compare::plan(entries, &Table::new(n as u32, 0, &arcs, &all))?;
-        compare::plan(entries, &Table::new(n as u32, 0, &arcs, &[n as u16 - 1]))?;
+        tables.push(Table::new(n as u32, 0, &arcs, &all));
+        tables.push(Table::new(n as u32, 0, &arcs, &[n as u16 - 1]));
     }
-    Ok(2 * SHAPES.len())
+    tables
+}
+
+fn shapes_at_limits(entries: &dyn Entries, random: &mut Random) -> Tried {
+    let tables = tables_at_limits(random);
+    tables.iter().try_for_each(|table| compare::plan(entries, table))?;
+    Ok(tables.len())
 }
 
 fn many_iterations(entries: &dyn Entries, _: &mut Random) -> Tried {

@@ -119,8 +119,13 @@ impl<'a> Auction<'a> {
     /// Keeps the arc into its unreached head if it is better than the one kept so far.
     fn offer(&mut self, arc: usize, bound: u64) {
         let head = self.head(arc);
+        let earlier = |kept: usize| match self.model.wrong {
+            Some(Wrong::TieByFirstMet) => false,
+            Some(Wrong::TieByLatest) => arc > kept,
+            _ => arc < kept,
+        };
         let better = match (self.bounds[head], self.kept[head]) {
-            (Some(former), Some(kept)) if bound == former => arc < kept && !self.model.has(Wrong::TieByFirstMet),
+            (Some(former), Some(kept)) if bound == former => earlier(kept),
             (Some(former), _) => bound < former,
             (None, _) => true,
         };

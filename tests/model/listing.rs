@@ -3,21 +3,27 @@
 use super::{Model, Wrong};
 use crate::rules::*;
 
+/// The grounds 1, 2, 4 and 5 in order.
+pub fn test_listing(listing: &Listing) -> Result<(), Refusal> {
+    let (n, m) = (listing.tree.len(), listing.tails.len());
+    if n == 0 || n > MOST_NODES {
+        return refuse(1, 0);
+    }
+    if m != listing.heads.len() || m > MOST_ARCS {
+        return refuse(2, 0);
+    }
+    if listing.origin as usize >= n {
+        return refuse(4, 0);
+    }
+    if listing.node as usize >= n {
+        return refuse(5, 0);
+    }
+    Ok(())
+}
+
 impl Model {
     pub fn nodes_of_path(&self, listing: &Listing, room: usize) -> Result<Vec<u16>, Refusal> {
-        let (n, m) = (listing.tree.len(), listing.tails.len());
-        if n == 0 || n > MOST_NODES {
-            return refuse(1, 0);
-        }
-        if m != listing.heads.len() || m > MOST_ARCS {
-            return refuse(2, 0);
-        }
-        if listing.origin as usize >= n {
-            return refuse(4, 0);
-        }
-        if listing.node as usize >= n {
-            return refuse(5, 0);
-        }
+        test_listing(listing)?;
         if self.has(Wrong::ShortBufferFirst) && room == 0 {
             return refuse(13, 0);
         }

@@ -1,6 +1,7 @@
 //! The rules of 01 and 02 as a plain program. It shares no code with the product.
 
 mod auction;
+mod collector;
 mod link_file;
 mod listing;
 mod planner;
@@ -63,9 +64,22 @@ pub enum Wrong {
     AskedNodeTestedLast,
     AskedPlaceIsNode,
     DownLinksWithin,
+    TieByLatest,
+    PricesAreDistances,
+    ColumnsNotExchanged,
+    CollectorTieByLatest,
+    CollectorPricesAreDistances,
+    CollectorDownLinksUsed,
+    SenderPlaceIsNode,
+    CollectorListedFirst,
+    EntryNotMirrored,
+    WrongTailAccepted,
+    CollectorsEntryRead,
+    CollectorRoomFirst,
+    RefusedListFills,
 }
 
-pub const ALL_WRONG: [Wrong; 51] = [
+pub const ALL_WRONG: [Wrong; 64] = [
     Wrong::TieByFirstMet,
     Wrong::HorizonFromRawPrice,
     Wrong::RawPrices,
@@ -117,6 +131,19 @@ pub const ALL_WRONG: [Wrong; 51] = [
     Wrong::AskedNodeTestedLast,
     Wrong::AskedPlaceIsNode,
     Wrong::DownLinksWithin,
+    Wrong::TieByLatest,
+    Wrong::PricesAreDistances,
+    Wrong::ColumnsNotExchanged,
+    Wrong::CollectorTieByLatest,
+    Wrong::CollectorPricesAreDistances,
+    Wrong::CollectorDownLinksUsed,
+    Wrong::SenderPlaceIsNode,
+    Wrong::CollectorListedFirst,
+    Wrong::EntryNotMirrored,
+    Wrong::WrongTailAccepted,
+    Wrong::CollectorsEntryRead,
+    Wrong::CollectorRoomFirst,
+    Wrong::RefusedListFills,
 ];
 
 /// The rules, or with a fault.
@@ -132,9 +159,24 @@ impl Model {
     }
 }
 
+/// Puts the nodes at the start of the output, which has room for them.
+fn listed(nodes: Result<Vec<u16>, Refusal>, output: &mut [u16]) -> Listed {
+    match nodes {
+        Ok(nodes) => {
+            output[..nodes.len()].copy_from_slice(&nodes);
+            Listed { count: nodes.len() as u32, ..Listed::default() }
+        }
+        Err(Refusal { number, place }) => Listed { number, place, ..Listed::default() },
+    }
+}
+
 impl Entries for Model {
     fn plan(&self, table: &Table, out: PlanBuffers) -> Planned {
         self.plan_routes(table, out)
+    }
+
+    fn plan_to_collector(&self, table: &Table, out: PlanBuffers) -> Planned {
+        self.plan_exchanged(table, out)
     }
 
     fn within(&self, table: &Table, node: u16, limit: u64) -> Within {
@@ -142,13 +184,15 @@ impl Entries for Model {
     }
 
     fn list(&self, listing: &Listing, output: &mut [u16]) -> Listed {
-        match self.nodes_of_path(listing, output.len()) {
-            Ok(nodes) => {
-                output[..nodes.len()].copy_from_slice(&nodes);
-                Listed { count: nodes.len() as u32, ..Listed::default() }
-            }
-            Err(Refusal { number, place }) => Listed { number, place, ..Listed::default() },
+        listed(self.nodes_of_path(listing, output.len()), output)
+    }
+
+    fn list_to_collector(&self, listing: &Listing, output: &mut [u16]) -> Listed {
+        if self.has(Wrong::RefusedListFills) {
+            let nodes = self.nodes_to_collector(listing, MOST_NODES).unwrap_or_default();
+            output.iter_mut().zip(nodes).for_each(|(place, node)| *place = node);
         }
+        listed(self.nodes_to_collector(listing, output.len()), output)
     }
 
     fn read(&self, file: &[u8], out: ReadBuffers) -> TableRead {

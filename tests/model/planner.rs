@@ -114,7 +114,11 @@ impl Model {
             return (NO_DISTANCE, 0, NO_ARC);
         }
         let distance = auction.bounds[node].unwrap();
-        let price = if self.has(Wrong::RawPrices) { auction.prices[node] } else { horizon - distance };
+        let price = match self.wrong {
+            Some(Wrong::RawPrices) => auction.prices[node],
+            Some(Wrong::PricesAreDistances) => distance,
+            _ => horizon - distance,
+        };
         let place = |arc: usize| if self.has(Wrong::DownLinksClosedUp) { arc } else { places[arc] };
         (distance, price, auction.kept[node].map_or(NO_ARC, |arc| place(arc) as u16))
     }
