@@ -38,6 +38,10 @@ pub fn plan(table: &Table, wanted: &[u16], out: &mut Plan) -> Planned {
     abi::plan_routes(table.n as u32, 0, columns(table), wanted, buffers(out))
 }
 
+pub fn plan_to_collector(table: &Table, senders: &[u16], out: &mut Plan) -> Planned {
+    abi::plan_to_collector(table.n as u32, 0, columns(table), senders, buffers(out))
+}
+
 /// The library before, if one was given: an older one fills only the fields of its answer that it has.
 pub fn before() -> Option<abi::PlanRoutes> {
     unsafe { plan_before() }
@@ -53,6 +57,10 @@ pub fn within(table: &Table, node: u16, limit: u64) -> Within {
 
 pub fn list(table: &Table, node: u16, tree: &[u16], output: &mut [u16]) -> Listed {
     abi::list_path(0, node, &table.tails, &table.heads, tree, output)
+}
+
+pub fn list_to_collector(table: &Table, node: u16, tree: &[u16], output: &mut [u16]) -> Listed {
+    abi::list_to_collector(0, node, &table.tails, &table.heads, tree, output)
 }
 
 pub fn write(table: &Table, wanted: &[u16], output: &mut [u8]) -> Written {

@@ -77,8 +77,9 @@ fn main() -> std::io::Result<()> {
     };
     let rows = rows();
     let stack = measure::stack(&tables::sparse(1_024));
-    let measure::Stack { plan, within, list, read, write } = stack;
-    println!("stack: plan {plan}, within {within}, list {list}, read {read}, write {write} bytes");
+    let measure::Stack { plan, plan_to_collector, within, list, list_to_collector, read, write } = stack;
+    println!("stack: plan {plan}, to a collector {plan_to_collector}, within {within} bytes");
+    println!("stack: list {list}, to a collector {list_to_collector}, read {read}, write {write} bytes");
     let plot_name = Path::new(plot).file_name().unwrap_or_default().to_string_lossy();
     std::fs::write(plot, plot::svg(&curves()))?;
     std::fs::write(page, report::page(&machine, &rows, &stack, &plot_name))

@@ -124,11 +124,13 @@ pub fn middle_node(table: &Table) -> u16 {
     nodes[nodes.len() / 2]
 }
 
-/// Bytes of stack that the five functions need: plan, within, list, read, write.
+/// Bytes of stack that the seven functions need.
 pub struct Stack {
     pub plan: usize,
+    pub plan_to_collector: usize,
     pub within: usize,
     pub list: usize,
+    pub list_to_collector: usize,
     pub read: usize,
     pub write: usize,
 }
@@ -151,11 +153,13 @@ fn used_by(call: &mut dyn FnMut()) -> usize {
     used
 }
 
-/// The stack used on the largest table, every node wanted.
+/// The stack used on the largest table, every node wanted, or a sender.
 pub fn stack(table: &Table) -> Stack {
     let wanted: Vec<u16> = (0..table.n as u16).collect();
     let mut plan = Plan::new(table);
     let plan_stack = used_by(&mut || finish(library::plan(table, &wanted, &mut plan)));
+    let mut collected = Plan::new(table);
+    let collector_stack = used_by(&mut || finish(library::plan_to_collector(table, &wanted, &mut collected)));
     let last = wanted[wanted.len() - 1];
     let mut path = vec![0; table.n];
     let mut file = vec![0; LONGEST_FILE];
@@ -169,8 +173,10 @@ pub fn stack(table: &Table) -> Stack {
     };
     Stack {
         plan: plan_stack,
+        plan_to_collector: collector_stack,
         within: used_by(&mut || finish(library::within(table, last, u64::MAX))),
         list: used_by(&mut || finish(library::list(table, last, &plan.tree, &mut path))),
+        list_to_collector: used_by(&mut || finish(library::list_to_collector(table, last, &collected.tree, &mut path))),
         read: used_by(&mut read),
         write: used_by(&mut || finish(library::write(table, &wanted, &mut file))),
     }

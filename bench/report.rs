@@ -95,8 +95,10 @@ pub fn page(machine: &Machine, rows: &[Row], stack: &Stack, plot: &str) -> Strin
     add("Measured with 1,024 nodes and 6,000 arcs on a painted stack; the caller's frame, which holds the arguments, is included, ");
     add("and less than 256 bytes cannot be seen:\n\n| function | bytes |\n|---|--:|\n");
     add(&format!("| `kestrelore_plan_routes` | {} |\n", stack.plan));
+    add(&format!("| `kestrelore_plan_to_collector` | {} |\n", stack.plan_to_collector));
     add(&format!("| `kestrelore_within_limit` | {} |\n", stack.within));
     add(&format!("| `kestrelore_list_path` | {} |\n", stack.list));
+    add(&format!("| `kestrelore_list_to_collector` | {} |\n", stack.list_to_collector));
     add(&format!("| `kestrelore_read_link_file` | {} |\n", stack.read));
     add(&format!("| `kestrelore_write_link_file` | {} |\n", stack.write));
     page
