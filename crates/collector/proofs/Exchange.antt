@@ -56,13 +56,13 @@ module _ (t : Table) (i : ℕ) where
   arc-so = List·getD-map exchanged-arc (t .arcs) i (arc no-arc no-arc 0)
 
   -- its tail there is its head, and its head there its tail
-  pub end-kept : arc-at (exchanged t) i .tail ≡ head-at t i
+  pub tail-there : arc-at (exchanged t) i .tail ≡ head-at t i
   unfolding head-at exchanged-arc arc
-  end-kept = ap (λ a. a .tail) arc-so
+  tail-there = ap (λ a. a .tail) arc-so
 
-  pub head-kept : head-at (exchanged t) i ≡ arc-at t i .tail
+  pub head-there : head-at (exchanged t) i ≡ arc-at t i .tail
   unfolding head-at exchanged-arc arc
-  head-kept = ap (λ a. a .head) arc-so
+  head-there = ap (λ a. a .head) arc-so
 
   pub length-kept : length-at (exchanged t) i ≡ length-at t i
   unfolding length-at exchanged-arc arc
@@ -75,10 +75,10 @@ module _ (t : Table) (i : ℕ) where
   -- a present arc leaves its head there, and leads to its tail
   module _ (p : present-at t i ≡ true) where
     pub leaves-head : tail-at (exchanged t) i ≡ head-at t i
-    leaves-head = present-tail (exchanged t) i (present-kept ∙ p) ∙ end-kept
+    leaves-head = present-tail (exchanged t) i (present-kept ∙ p) ∙ tail-there
 
     pub leads-to-tail : head-at (exchanged t) i ≡ tail-at t i
-    leads-to-tail = head-kept ∙ sym (present-tail t i p)
+    leads-to-tail = head-there ∙ sym (present-tail t i p)
 
 -- WALK BY WALK, on a table that is not refused
 module _ (t : Table) (g : Good t) where
@@ -102,7 +102,7 @@ module _ (t : Table) (g : Good t) where
       (true-both (ltb i (arc-count t)) (eqb (tail-at t i) (tail-at t i)) (lt-ltb i (arc-count t) listed) (eq-eqb (tail-at t i) (tail-at t i) refl))
       (subst (λ (z : ℕ). leads t z onward u ≡ true) (sym (f .leaves) ∙ leaves-head t i here) on))
 
-  pub turned-walk : (is : List ℕ) (v w : ℕ) → v < t .n → leads (exchanged t) v is w ≡ true → leads t w (reverse is) v ≡ true
+  turned-walk : (is : List ℕ) (v w : ℕ) → v < t .n → leads (exchanged t) v is w ≡ true → leads t w (reverse is) v ≡ true
   unfolding leads
   turned-walk is v w low e = turned is [] v w v low e (eq-eqb v v refl)
 
@@ -117,7 +117,7 @@ unfolding walk-length
 turned-length t is = omega (arith, length-on t is [])
 
 -- two tests, each true where the other is
-pub same-test : (a b : Bool) → (a ≡ true → b ≡ true) → (b ≡ true → a ≡ true) → a ≡ b
+same-test : (a b : Bool) → (a ≡ true → b ≡ true) → (b ≡ true → a ≡ true) → a ≡ b
 same-test true b f g = sym (f refl)
 same-test false true f g = g refl
 same-test false false f g = refl

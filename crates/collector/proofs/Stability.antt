@@ -15,7 +15,7 @@ use Rattle.auction.proofs.Stability.{same-choice, route-stays, wanted-route-sta
 use Rattle.collector.specs.Exchanged.{exchanged-arc, exchanged, Exchanged-is-table}
 use Rattle.collector.specs.Promises.{walk-from}
 use Rattle.collector.specs.Stability.{collected, Same-route-in, Route-stays-in, Sender-route-stays, Same-choice-in, No-short-cut-in, Link-added-in}
-use Rattle.collector.proofs.Exchange.{exchanged-is-table, count-kept, length-kept, end-kept, head-kept, turned-length}
+use Rattle.collector.proofs.Exchange.{exchanged-is-table, count-kept, length-kept, tail-there, head-there, turned-length}
 use Rattle.collector.proofs.Promised.{end-there, walks-in, walks-out, lengths-out}
 
 good-there : (t : Table) (ss : List ℕ) → is-table t ss ≡ true → is-table (exchanged t) ss ≡ true
@@ -35,8 +35,8 @@ module _ {t t′ : Table} where
         nodes = l .nodes;
         origin = l .origin;
         arcs = omega (arith, count-kept t, count-kept t′, l .arcs);
-        tails = λ i h. end-kept t′ i ∙ l .heads i (here i h) ∙ sym (end-kept t i);
-        heads = λ i h. head-kept t′ i ∙ l .tails i (here i h) ∙ sym (head-kept t i);
+        tails = λ i h. tail-there t′ i ∙ l .heads i (here i h) ∙ sym (tail-there t i);
+        heads = λ i h. head-there t′ i ∙ l .tails i (here i h) ∙ sym (head-there t i);
         longer = λ i h. omega (arith, length-kept t i, length-kept t′ i, l .longer i (here i h));
       }
 
