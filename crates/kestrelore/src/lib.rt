@@ -2,14 +2,14 @@
 // that it hands on to.
 ghost use Rattle.planner.specs.Plan.{Plans, Plans-to-collector};
 ghost use Rattle.limit_answer.specs.Answer.{Answers-limit};
-ghost use Rattle.paths.specs.Listing.{Lists-path};
-ghost use Rattle.paths.specs.Collecting.{Lists-to-collector};
+ghost use Rattle.listing.specs.Listing.{Lists-path};
+ghost use Rattle.listing.specs.Collecting.{Lists-to-collector};
 ghost use Rattle.link_file.specs.Entries.{Reads-file, Writes-file};
 use hand_over::Planned;
 use limit_answer::Within;
 use link_file::TableRead;
 use link_file::Written;
-use paths::Listed;
+use listing::Listed;
 
 // Plans the routes of a link table.
 #[no_mangle]

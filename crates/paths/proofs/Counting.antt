@@ -7,8 +7,8 @@ use Prim.Native.Nat.{ℕ, suc, _+_, _-_, _≤_, _<_}
 use native.Mathlib.Omega.{arith}
 use lib.ListN.{length}
 use Rattle.table.proofs.Basics.{true-or}
-use Rattle.paths.specs.Listing.{Tree, node-count, node-before, leads-back, back-to, path, nodes-of}
-use Rattle.paths.proofs.Entries.{leads, at-origin, one-back, not-back}
+use Rattle.listing.specs.Listing.{Tree, node-count, node-before, leads-back, back-to, path, nodes-of}
+use Rattle.listing.proofs.Entries.{leads, at-origin, one-back, not-back}
 
 -- On the way back from `node` we are at v, and have met `count` nodes with it.
 pub record Counting (o node : ℕ) (k : Tree) (v count : ℕ) : Type 0 where

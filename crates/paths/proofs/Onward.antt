@@ -7,9 +7,9 @@ use Prim.Native.Nat.{ℕ, suc, _+_, _-_, _≤_, _<_}
 use native.Mathlib.Omega.{arith}
 use lib.ListN.{length, getD, set, drop, length-set, length-reverse}
 use lib.Seq.{drop-cons, append-snoc, set-at}
-use Rattle.paths.specs.Listing.{Tree, node-count, node-before, back-to, path}
-use Rattle.paths.proofs.Entries.{leads}
-use Rattle.paths.proofs.Writing.{Goes-on, ends-or-goes, path-size}
+use Rattle.listing.specs.Listing.{Tree, node-count, node-before, back-to, path}
+use Rattle.listing.proofs.Entries.{leads}
+use Rattle.listing.proofs.Ways.{Goes-on, ends-or-goes, path-size}
 
 -- The path `vs` is written backwards before index `at` of the output, and v is the node to be written there.
 pub record Onward (o : ℕ) (k : Tree) (vs before : List ℕ) (v at : ℕ) (output : List ℕ) : Type 0 where

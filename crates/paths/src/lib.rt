@@ -1,5 +1,5 @@
-// Listing a path: the nodes from the origin to a node, read off a tree column, or those from a node to a collector. specs/Listing.antt says what a listing
-// gives, specs/Collecting.antt what one to a collector does.
+// Listing a path: the nodes from the origin to a node, read off a tree column, or those from a node to a collector.
+// crates/listing/specs/Listing.antt says what a listing gives, Collecting.antt beside it what one to a collector does.
 //
 // The path is followed twice: once to count its nodes, which finds refusal 14 before anything is written, and once to write them, from the last to
 // the first; to a collector, for which tails and heads are exchanged, from the first to the last.
@@ -10,20 +10,13 @@ ghost use Prim.Native.Nat.{_≤_, _<_};
 ghost use lib.ListN.{length, getD, drop};
 ghost use Rattle.table.specs.Table.{no-arc};
 ghost use Rattle.table.specs.Slices.{was, left};
-ghost use Rattle.paths.specs.Listing.{tree-in, lent-tree, node-before, leads-back, path, nodes-of, early-number, listing, Tested, Lists-path};
-ghost use Rattle.paths.specs.Collecting.{Lists-to-collector};
+ghost use Rattle.listing.specs.Listing.{tree-in, lent-tree, node-before, leads-back, path, nodes-of, early-number, listing, Tested, Lists-path};
+ghost use Rattle.listing.specs.Collecting.{Lists-to-collector};
+use listing::Listed;
 use table::Refusal;
 use table::bad_columns;
 use table::bad_count;
 use table::wide;
-
-// The refusal's number, 0 where there is none; its place, always 0; and how many nodes are listed, 0 on a refusal.
-#[repr(C)]
-pub struct Listed {
-    pub number: u32,
-    pub place: u32,
-    pub count: u32,
-}
 
 // 1, 2, 4 and 5, by the columns' lengths, the origin and the node: the refusal's number.
 fn early_number(n: usize, tails: usize, heads: usize, origin: u16, node: u16) -> u32

@@ -21,8 +21,8 @@ use Rattle.collector.proofs.Promised.{collects-by-exchange, collector-served, c
 use Rattle.collector.proofs.Stability.{same-choice-in, route-stays-in, sender-route-stays, link-added-in}
 use Rattle.collector.proofs.Rows as Collector
 use Rattle.planner.proofs.Promised.{plans-kept, refusals-touch-nothing}
-use Rattle.paths.proofs.Promised.{routes-listed, plans-listed, senders-listed}
-use Rattle.paths.proofs.Examples as Paths
+use Rattle.listing.proofs.Promised.{routes-listed, plans-listed, senders-listed}
+use Rattle.listing.proofs.Examples as Paths
 use Rattle.link_format.proofs.ReadThenWrite.{accepted-files-write-back}
 use Rattle.link_format.proofs.WriteThenRead.{written-tables-read-back, long-files-are-refused}
 use Rattle.link_format.proofs.Outcomes.{files-refused-by-number}

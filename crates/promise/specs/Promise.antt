@@ -13,8 +13,8 @@ use Rattle.collector.specs.Promises.{Collects-by-exchange, Collector-served, Co
 use Rattle.collector.specs.Stability.{Same-choice-in, Route-stays-in, Sender-route-stays, Link-added-in}
 use Rattle.collector.specs.Rows as Collector
 use Rattle.planner.specs.Promise.{Plans-kept, Refusals-touch-nothing}
-use Rattle.paths.specs.Promises.{Routes-listed, Plans-listed, Senders-listed}
-use Rattle.paths.specs.Examples as Paths
+use Rattle.listing.specs.Promises.{Routes-listed, Plans-listed, Senders-listed}
+use Rattle.listing.specs.Examples as Paths
 use Rattle.link_format.specs.Promises.{Accepted-files-write-back, Written-tables-read-back, Long-files-are-refused, Files-refused-by-number, Needless-is-not-canonical, Needless-header-is-not-canonical}
 use Rattle.link_format.specs.Rows as Files
 use Rattle.link_file.specs.Promises.{Write-then-read, Read-then-write, Answers-fit}

@@ -10,7 +10,7 @@ use Rattle.link_format.specs.Format.{content, bytes, bit-map, has, field-bytes,
 use Rattle.link_format.specs.Reading.{_>>_, _>>=_, and-then, give, here, refuse-if, number, field, optional, implied, forbidden-header, forbidden, read-nodes, read-wanted, read-header, read-record, read-records, read-content, read-file}
 use Rattle.auction.specs.Plan.{rooms, plan-refusal, refused-plan, routes-of, plan}
 use Rattle.auction.specs.Demands.{distance-of, price-of, link-of}
-use Rattle.paths.specs.Listing.{entry, node-before, leads-back, back-to, path, listed, refused, early-number, early-of, into, listing}
+use Rattle.listing.specs.Listing.{entry, node-before, leads-back, back-to, path, listed, refused, early-number, early-of, into, listing}
 use Rattle.sheet.specs.Text.{places-from, places, decimal, spaced}
 use Rattle.sheet.specs.Sheet.{refused-line, reached-line, counts-line, arc-text, node-line, path-line, marks-line, node-count, has-distance, with-node, passing, reached-nodes, before, insert, has-line, path-nodes, node-lines, path-lines, marks-lines, after-nodes, after-counts, from-counts, from-reached, sheet}
 use Rattle.sheet.specs.Printed.{read-input, plan-of, lines-of, printed}

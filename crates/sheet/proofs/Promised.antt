@@ -16,9 +16,9 @@ use Rattle.auction.specs.Demands.{walk-of, Demands, Demands-met}
 use Rattle.auction.proofs.Demanded.{demands-met}
 use Rattle.auction.proofs.Made.{made}
 use Rattle.auction.proofs.Sums.{entries-length}
-use Rattle.paths.specs.Listing.{tree-in, listing, listed}
-use Rattle.paths.specs.Promises.{Plans-listed, nodes-of-walk}
-use Rattle.paths.proofs.Promised.{plans-listed}
+use Rattle.listing.specs.Listing.{tree-in, listing, listed}
+use Rattle.listing.specs.Promises.{Plans-listed, nodes-of-walk}
+use Rattle.listing.proofs.Promised.{plans-listed}
 use Rattle.sheet.specs.Sheet.{Finished, to-print, finished, path-line, node-count, has-distance, has-line, reached-nodes, path-nodes, node-lines, path-lines, marks-lines, after-nodes, after-counts, from-counts, from-reached, sheet}
 use Rattle.sheet.specs.Promises.{holds, has-path, Each-once, Nearest-first, In-order, Order-unseen, refusal-lines, totals-lines, Shows, Plans-printed, Refusals-printed, Promises}
 use Rattle.sheet.proofs.Nodes.{absent, present, distances-counted, given-has, has-given, not-given, given-low}

@@ -11,7 +11,7 @@ use Rattle.auction.specs.HandOver.{Answer, how-many}
 use Rattle.auction.specs.Plan.{plan}
 use Rattle.auction.specs.Promises.{Tallied}
 use Rattle.auction.specs.Demands.{Given, distance-of, price-of, link-of, walk-of}
-use Rattle.paths.specs.Promises.{nodes-of-walk}
+use Rattle.listing.specs.Promises.{nodes-of-walk}
 use Rattle.sheet.specs.Sheet.{Finished, finished, refused-line, reached-line, counts-line, node-line, path-line, node-count, has-distance, reached-nodes, marks-lines, sheet}
 
 -- EACH PATH LINE ONCE, whatever the buffers hold: a node that has a distance and is wanted, however often, has one path line, and no other node has any.

@@ -7,7 +7,7 @@ use lib.ListN.{length, getD}
 use Rattle.table.specs.Table.{most-nodes, no-arc, no-distance}
 use Rattle.auction.specs.HandOver.{Answer, how-many}
 use Rattle.auction.specs.Demands.{distance-of, price-of, link-of}
-use Rattle.paths.specs.Listing.{tree-in, listing}
+use Rattle.listing.specs.Listing.{tree-in, listing}
 use Rattle.sheet.specs.Text.{text, decimal, spaced}
 
 -- what a sheet is printed from: the table's origin, tails and heads, the nodes that have a path line, in order, and the plan's answer with its

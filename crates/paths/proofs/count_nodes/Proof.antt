@@ -5,7 +5,7 @@ use mathlib.Core.Path.{sym, _∙_}
 use borrow.Author.Tests.{not-true, not-false}
 use native.Mathlib.Omega.{arith}
 use lib.ListN.{length}
-use Rattle.paths.specs.Listing.{tree-in}
+use Rattle.listing.specs.Listing.{tree-in}
 use Rattle.paths.proofs.Counting.{Counting, begins, next, arrived, stray, too-many}
 use Rattle.paths.proofs.count_nodes.Statement.{statement}
 use Rattle.paths.proofs.count_nodes.Tie as tie

@@ -5,8 +5,8 @@ use borrow.Author.Needs.{needs}
 use borrow.Author.Tests.{le-leb, lt-leb}
 use native.Mathlib.Omega.{arith}
 use Rattle.table.specs.Refusals.{count-bad, columns-bad}
-use Rattle.paths.specs.Listing.{early-number}
-use Rattle.paths.proofs.Early.{unrefused}
+use Rattle.listing.specs.Listing.{early-number}
+use Rattle.listing.proofs.Early.{unrefused}
 use Rattle.paths.proofs.early_number.Statement.{statement}
 use Rattle.paths.proofs.early_number.Tie as tie
 

@@ -4,8 +4,8 @@ use borrow.Author.Needs.{needs}
 use lib.Dec.{ltb}
 use lib.ListN.{length}
 use Prim.Native.Nat.{ℕ}
-use Rattle.paths.specs.Listing.{Tree, tree-in, entry}
-use Rattle.paths.proofs.Entries.{not-listed, other-head, by-tail}
+use Rattle.listing.specs.Listing.{Tree, tree-in, entry}
+use Rattle.listing.proofs.Entries.{not-listed, other-head, by-tail}
 use Rattle.paths.proofs.leads_back.Statement.{statement}
 use Rattle.paths.proofs.leads_back.Tie as tie
 

@@ -4,8 +4,8 @@ use Prim.Native.Nat.{ℕ}
 use borrow.Author.Needs.{needs}
 use native.Mathlib.Omega.{arith}
 use lib.ListN.{length}
-use Rattle.paths.specs.Listing.{Tree, tree-in, path, nodes-of, listing, Tested}
-use Rattle.paths.proofs.Answers.{Accepted, accepted, lists-nothing, untouched, written}
+use Rattle.listing.specs.Listing.{Tree, tree-in, path, nodes-of, listing, Tested}
+use Rattle.listing.proofs.Answers.{Accepted, accepted, lists-nothing, untouched, written}
 use Rattle.paths.proofs.list_path.Statement.{statement}
 use Rattle.paths.proofs.list_path.Tie as tie
 

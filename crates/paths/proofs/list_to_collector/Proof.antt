@@ -6,9 +6,9 @@ use Prim.Native.Nat.{ℕ}
 use borrow.Author.Needs.{needs}
 use native.Mathlib.Omega.{arith}
 use lib.ListN.{length}
-use Rattle.paths.specs.Listing.{Tree, tree-in, path, nodes-of, listing, Tested}
-use Rattle.paths.specs.Collecting.{turned-round, listing-to-collector}
-use Rattle.paths.proofs.Answers.{Accepted, accepted, lists-nothing, turned, untouched, written}
+use Rattle.listing.specs.Listing.{Tree, tree-in, path, nodes-of, listing, Tested}
+use Rattle.listing.specs.Collecting.{turned-round, listing-to-collector}
+use Rattle.listing.proofs.Answers.{Accepted, accepted, lists-nothing, turned, untouched, written}
 use Rattle.paths.proofs.list_to_collector.Statement.{statement}
 use Rattle.paths.proofs.list_to_collector.Tie as tie
 

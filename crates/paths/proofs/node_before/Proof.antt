@@ -4,8 +4,8 @@ use Prim.Native.Nat.{ℕ, _<_}
 use borrow.Author.Needs.{needs}
 use lib.ListN.{length}
 use native.Mathlib.Omega.{arith}
-use Rattle.paths.specs.Listing.{Tree, tree-in, entry}
-use Rattle.paths.proofs.Entries.{leads, tail-read}
+use Rattle.listing.specs.Listing.{Tree, tree-in, entry}
+use Rattle.listing.proofs.Entries.{leads, tail-read}
 use Rattle.paths.proofs.node_before.Statement.{statement}
 use Rattle.paths.proofs.node_before.Tie as tie
 

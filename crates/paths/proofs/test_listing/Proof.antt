@@ -4,9 +4,9 @@ use Prim.Native.Nat.{ℕ}
 use borrow.Author.Needs.{needs}
 use native.Mathlib.Omega.{arith}
 use lib.ListN.{length}
-use Rattle.paths.specs.Listing.{Tree, tree-in, node-count, path, nodes-of, listing, early-of}
-use Rattle.paths.proofs.Early.{Passed, passed}
-use Rattle.paths.proofs.Answers.{at-most-n, refused-early, without-path, without-room, fits, refuses, gives}
+use Rattle.listing.specs.Listing.{Tree, tree-in, node-count, path, nodes-of, listing, early-of}
+use Rattle.listing.proofs.Early.{Passed, passed}
+use Rattle.listing.proofs.Answers.{at-most-n, refused-early, without-path, without-room, fits, refuses, gives}
 use Rattle.paths.proofs.test_listing.Statement.{statement}
 use Rattle.paths.proofs.test_listing.Tie as tie
 

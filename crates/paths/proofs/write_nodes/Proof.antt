@@ -4,8 +4,9 @@ use Prim.Native.Nat.{_<_}
 use borrow.Author.Needs.{needs}
 use native.Mathlib.Omega.{arith}
 use lib.ListN.{length, length-set}
-use Rattle.paths.specs.Listing.{tree-in, path, nodes-of}
-use Rattle.paths.proofs.Writing.{Writing, is-some, begins, inside, goes-on, next, done}
+use Rattle.listing.specs.Listing.{tree-in, path, nodes-of}
+use Rattle.listing.proofs.Ways.{is-some}
+use Rattle.paths.proofs.Writing.{Writing, begins, inside, goes-on, next, done}
 use Rattle.paths.proofs.write_nodes.Statement.{statement}
 use Rattle.paths.proofs.write_nodes.Tie as tie
 

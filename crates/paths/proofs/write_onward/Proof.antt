@@ -3,8 +3,8 @@
 use Prim.Native.Nat.{_-_, _<_}
 use native.Mathlib.Omega.{arith}
 use lib.ListN.{length, length-set}
-use Rattle.paths.specs.Listing.{tree-in, path, nodes-of}
-use Rattle.paths.proofs.Writing.{is-some}
+use Rattle.listing.specs.Listing.{tree-in, path, nodes-of}
+use Rattle.listing.proofs.Ways.{is-some}
 use Rattle.paths.proofs.Onward.{Onward, begins, inside, goes-on, next, done}
 use Rattle.paths.proofs.write_onward.Statement.{statement}
 use Rattle.paths.proofs.write_onward.Tie as tie

@@ -10,8 +10,8 @@ use lib.Dec.{ltb, eqb}
 use lib.ListN.{length, take, drop, length-append}
 use lib.Seq.{take-at}
 use borrow.Author.Tests.{ltb-false}
-use Rattle.paths.specs.declared.Listed.{Listed}
-use Rattle.paths.specs.Listing.{Tree, Listing, Lists, listing, into, listed, refused, path, early-of}
+use Rattle.listing.specs.declared.Listed.{Listed}
+use Rattle.listing.specs.Listing.{Tree, Listing, Lists, listing, into, listed, refused, path, early-of}
 use Rattle.table.proofs.Basics.{true-or}
 
 -- A LISTING fits into the buffer it was given, and stands at its start

@@ -11,7 +11,7 @@ use lib.Seq.{drop-cons}
 use borrow.Author.Tests.{eq-eqb, ne-eqb}
 use Rattle.table.specs.Table.{most-nodes}
 use Rattle.auction.specs.Demands.{distance-of, price-of, link-of}
-use Rattle.paths.specs.Listing.{listing, tree-in}
+use Rattle.listing.specs.Listing.{listing, tree-in}
 use Rattle.sheet.specs.Text.{text, decimal, spaced}
 use Rattle.sheet.specs.Sheet.{Finished, arc-text, reached-line, counts-line, reached-nodes, after-nodes, after-counts, passing, node-count, has-distance, node-line, path-line, marks-line, node-lines, path-lines, marks-lines, from-reached, refused-line, sheet}
 use Rattle.sheet_lines.specs.Buffers.{Begins}

@@ -5,7 +5,7 @@ use Prim.Native.Nat.{ℕ, _≤_}
 use native.Mathlib.Omega.{arith}
 use lib.ListN.{length, getD, take, length-take}
 use Rattle.table.specs.Table.{most-nodes}
-use Rattle.paths.specs.Listing.{Listing, listing, tree-in}
+use Rattle.listing.specs.Listing.{Listing, listing, tree-in}
 use Rattle.hand_over.specs.declared.Planned.{Planned}
 use Rattle.hand_over.specs.Answered.{answered}
 use Rattle.sheet.specs.Sheet.{Finished, path-line}

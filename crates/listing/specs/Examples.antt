@@ -4,8 +4,8 @@ use mathlib.Core.Path.{_≡_}
 use mathlib.Core.List.{List, [], _∷_}
 use Prim.Native.Nat.{ℕ}
 use Rattle.table.specs.Table.{no-arc}
-use Rattle.paths.specs.Listing.{Tree, tree-in, refused, listed, listing}
-use Rattle.paths.specs.Collecting.{listing-to-collector}
+use Rattle.listing.specs.Listing.{Tree, tree-in, refused, listed, listing}
+use Rattle.listing.specs.Collecting.{listing-to-collector}
 
 -- the arcs 0 to 1, 0 to 2, 1 to 2, 2 to 3 and 1 to 3, under a tree column
 unfoldable pub on-T : (column : List ℕ) → Tree

@@ -11,8 +11,8 @@ use Rattle.auction.specs.Plan.{plan, routes-of}
 use Rattle.auction.specs.Demands.{Given, walk-of}
 use Rattle.collector.specs.Plan.{plan-to-collector}
 use Rattle.collector.specs.Promises.{walk-from}
-use Rattle.paths.specs.Listing.{Tree, tree-in, node-count, refused, listed, listing}
-use Rattle.paths.specs.Collecting.{listing-to-collector}
+use Rattle.listing.specs.Listing.{Tree, tree-in, node-count, refused, listed, listing}
+use Rattle.listing.specs.Collecting.{listing-to-collector}
 
 -- the heads of a walk's arcs
 unfoldable pub heads-along : Table → (walk : List ℕ) → List ℕ

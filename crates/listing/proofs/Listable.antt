@@ -10,11 +10,11 @@ use Rattle.auction.specs.HandOver.{returned}
 use Rattle.table.proofs.Present.{leaves-present, present-tail}
 use Rattle.table.proofs.Columns.{count-so, end-so, head-so}
 use Rattle.auction.proofs.Good.{good}
-use Rattle.paths.specs.Listing.{Tree, tree-in, path, nodes-of, early-of, listed}
-use Rattle.paths.specs.Promises.{nodes-of-walk, Gives}
-use Rattle.paths.proofs.Early.{count-fine, columns-fine, unrefused}
-use Rattle.paths.proofs.Answers.{at-most-n, without-room, fits}
-use Rattle.paths.proofs.Returned.{Columns, path-is-walk}
+use Rattle.listing.specs.Listing.{Tree, tree-in, path, nodes-of, early-of, listed}
+use Rattle.listing.specs.Promises.{nodes-of-walk, Gives}
+use Rattle.listing.proofs.Early.{count-fine, columns-fine, unrefused}
+use Rattle.listing.proofs.Answers.{at-most-n, without-room, fits}
+use Rattle.listing.proofs.Returned.{Columns, path-is-walk}
 
 module _ (n o : ℕ) (ts hs ls column : List ℕ) (e : length ts ≡ length hs) (f : length hs ≡ length ls) (long : length column ≡ n) where
   abbrev t : Table

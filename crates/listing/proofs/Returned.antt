@@ -15,9 +15,9 @@ use Rattle.table.proofs.Basics.{true-or, same-or}
 use Rattle.auction.proofs.Good.{Good}
 use Rattle.auction.proofs.Back.{first, ends, stays, goes, back-longer}
 use Rattle.auction.proofs.Back as back
-use Rattle.paths.specs.Listing.{Tree, node-count, entry, node-before, leads-back, back-to, path}
-use Rattle.paths.specs.Promises.{heads-along, nodes-of-walk}
-use Rattle.paths.proofs.Entries.{by-tail, at-origin, one-back}
+use Rattle.listing.specs.Listing.{Tree, node-count, entry, node-before, leads-back, back-to, path}
+use Rattle.listing.specs.Promises.{heads-along, nodes-of-walk}
+use Rattle.listing.proofs.Entries.{by-tail, at-origin, one-back}
 
 -- the columns of a tree are those of a table's arcs
 pub record Columns (t : Table) (k : Tree) : Type 0 where

@@ -8,7 +8,7 @@ use lib.Dec.{ltb, eqb}
 use lib.ListN.{length, getD}
 use borrow.Author.Tests.{ltb-true, eqb-true, lt-ltb, le-ltb, eq-eqb, ne-eqb}
 use Rattle.table.proofs.Basics.{both-true}
-use Rattle.paths.specs.Listing.{Tree, node-count, entry, node-before, leads-back, back-to}
+use Rattle.listing.specs.Listing.{Tree, node-count, entry, node-before, leads-back, back-to}
 
 pub record Leads (k : Tree) (v : ℕ) : Type 0 where
   pub listed : entry k v < length (k .tails)

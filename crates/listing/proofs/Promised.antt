@@ -18,10 +18,10 @@ use Rattle.collector.specs.Plan.{plan-to-collector}
 use Rattle.collector.specs.Promises.{walk-from, Collector-served}
 use Rattle.collector.proofs.Exchange.{exchanged-is-table, exchanged-columns}
 use Rattle.collector.proofs.Promised.{good-here, collector-served}
-use Rattle.paths.specs.Listing.{tree-in}
-use Rattle.paths.specs.Promises.{Routes-listed, Plans-listed, Senders-listed, Gives, Gives-in, nodes-of-walk}
-use Rattle.paths.proofs.Listable.{walk-listed}
-use Rattle.paths.proofs.Senders.{nodes-turned, turned-gives}
+use Rattle.listing.specs.Listing.{tree-in}
+use Rattle.listing.specs.Promises.{Routes-listed, Plans-listed, Senders-listed, Gives, Gives-in, nodes-of-walk}
+use Rattle.listing.proofs.Listable.{walk-listed}
+use Rattle.listing.proofs.Senders.{nodes-turned, turned-gives}
 
 -- the walk returned ends at a node and has fewer than n arcs
 pub routes-listed : Routes-listed

@@ -10,7 +10,7 @@ use lib.ListN.{length, getD, drop}
 use Rattle.table.specs.Table.{no-arc}
 use Rattle.table.specs.Refusals.{count-bad, columns-bad}
 use Rattle.table.specs.Slices.{Slice, was, left}
-use Rattle.paths.specs.declared.Listed.{Listed}
+use Rattle.listing.specs.declared.Listed.{Listed}
 
 -- What a listing goes by: the arcs' tails and heads, and a tree column, which has an entry for each node (a predecessor arc, in the field's terms).
 pub record Tree : Type 0 where

@@ -11,9 +11,9 @@ use Rattle.auction.proofs.Good.{Good}
 use Rattle.auction.proofs.Back.{first}
 use Rattle.collector.specs.Exchanged.{exchanged}
 use Rattle.collector.proofs.Exchange.{leaves-head, leaves-there}
-use Rattle.paths.specs.Listing.{Tree, refused, listed}
-use Rattle.paths.specs.Collecting.{exchanged-tree, turned-round, listing-to-collector}
-use Rattle.paths.specs.Promises.{heads-along, nodes-of-walk, nodes-from, Gives, Gives-in}
+use Rattle.listing.specs.Listing.{Tree, refused, listed}
+use Rattle.listing.specs.Collecting.{exchanged-tree, turned-round, listing-to-collector}
+use Rattle.listing.specs.Promises.{heads-along, nodes-of-walk, nodes-from, Gives, Gives-in}
 
 module _ (t : Table) (g : Good t) (there-good : Good (exchanged t)) where
   -- the nodes of a walk there, backwards, and then those of a walk here from where it began

@@ -8,7 +8,7 @@ use borrow.Author.Tests.{eq-eqb, ne-eqb, lt-leb, leb-false, le-ltb, ltb-false, e
 use Rattle.table.specs.Table.{most-nodes, most-arcs}
 use Rattle.table.specs.Refusals.{count-bad, columns-bad}
 use Rattle.table.proofs.Basics.{both-true, either-false, refuted}
-use Rattle.paths.specs.Listing.{early-number}
+use Rattle.listing.specs.Listing.{early-number}
 
 pub count-fine : (n : ℕ) → (n ≡ 0 → ⊥) → n ≤ most-nodes → count-bad n ≡ false
 unfolding count-bad

@@ -1,9 +1,9 @@
 -- The rows of specs/Examples.antt hold by computing them. Assumes nothing.
 use mathlib.Core.Path.{refl}
-use Rattle.paths.specs.Examples.{Examples, on-T, tree-of-T, cut, tree-to-3, cycle, cycle-on}
+use Rattle.listing.specs.Examples.{Examples, on-T, tree-of-T, cut, tree-to-3, cycle, cycle-on}
 use Rattle.table.specs.Refusals.{count-bad, columns-bad}
-use Rattle.paths.specs.Listing.{listing, early-of, early-number, into, refused, listed, path, back-to, leads-back, node-before, entry}
-use Rattle.paths.specs.Collecting.{turned-round, listing-to-collector}
+use Rattle.listing.specs.Listing.{listing, early-of, early-number, into, refused, listed, path, back-to, leads-back, node-before, entry}
+use Rattle.listing.specs.Collecting.{turned-round, listing-to-collector}
 
 pub examples : Examples
 unfolding listing early-of early-number count-bad columns-bad into refused listed path back-to leads-back node-before entry turned-round listing-to-collector on-T tree-of-T cut tree-to-3 cycle cycle-on

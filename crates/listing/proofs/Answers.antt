@@ -8,11 +8,11 @@ use native.Mathlib.Omega.{arith}
 use lib.ListN.{length, drop, length-reverse}
 use borrow.Author.Tests.{eq-eqb, ne-eqb, lt-ltb, le-ltb}
 use Rattle.table.proofs.Basics.{same-or, below-or, option-or}
-use Rattle.paths.specs.Listing.{Tree, node-count, path, nodes-of, Listing, refused, listed, early-of, into, listing, Tested, Lists}
-use Rattle.paths.specs.Collecting.{turned-round}
-use Rattle.paths.specs.declared.Listed.{Listed}
-use Rattle.paths.proofs.Early.{passed}
-use Rattle.paths.proofs.Writing.{path-size, is-some}
+use Rattle.listing.specs.Listing.{Tree, node-count, path, nodes-of, Listing, refused, listed, early-of, into, listing, Tested, Lists}
+use Rattle.listing.specs.Collecting.{turned-round}
+use Rattle.listing.specs.declared.Listed.{Listed}
+use Rattle.listing.proofs.Early.{passed}
+use Rattle.listing.proofs.Ways.{path-size, is-some}
 
 -- a path has at most n nodes
 pub at-most-n : (o v : ℕ) (k : Tree) → length (nodes-of (path o v k)) ≤ node-count k

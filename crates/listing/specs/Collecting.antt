@@ -5,8 +5,8 @@ use mathlib.Core.List.{reverse}
 use Prim.Native.Nat.{ℕ}
 use lib.ListN.{length}
 use Rattle.table.specs.Slices.{Slice, was, left}
-use Rattle.paths.specs.declared.Listed.{Listed}
-use Rattle.paths.specs.Listing.{Tree, tree-in, lent-tree, Listing, listing, Lists}
+use Rattle.listing.specs.declared.Listed.{Listed}
+use Rattle.listing.specs.Listing.{Tree, tree-in, lent-tree, Listing, listing, Lists}
 
 abbrev pub exchanged-tree : Tree → Tree
 exchanged-tree k = tree-in (k .heads) (k .tails) (k .column)
