@@ -1,6 +1,6 @@
 -- The ways out of a listing, by how many nodes the path has; what is answered and what is left in the output. Assumes nothing.
 use mathlib.Core.Path.{_≡_, refl, sym, ap, _∙_}
-use mathlib.Core.List.{List, [], _++_}
+use mathlib.Core.List.{List, [], _++_, reverse}
 use mathlib.Core.Logic.{_⊎_, inl, inr, ⊎-elim}
 use mathlib.Core.Option.{none, some}
 use Prim.Native.Nat.{ℕ, _≤_, _<_}
@@ -57,51 +57,6 @@ module _ (o v : ℕ) (k : Tree) (room : ℕ) where
       pub fits : length (nodes-of (path o v k)) ≤ room → listing o v k room ≡ listed (nodes-of (path o v k))
       fits h = follows ∙ ap (into room) (is-some (path o v k) some-node) ∙ fitting room (nodes-of (path o v k)) h
 
--- A LISTING IS REFUSED, and then it lists nothing, or it is of a path that the output has room for
-pub record Accepted (o v : ℕ) (k : Tree) (room : ℕ) : Type 0 where
-  pub node-in : v < node-count k
-  pub some-node : 0 < length (nodes-of (path o v k))
-  pub has-room : length (nodes-of (path o v k)) ≤ room
-  pub number : listing o v k room .number ≡ 0
-  pub nodes : listing o v k room .nodes ≡ nodes-of (path o v k)
-
-module _ (o v : ℕ) (k : Tree) (room : ℕ) where
-  abbrev Refused : Type 0
-  Refused = (listing o v k room .number ≡ 0 → ⊥) × (listing o v k room .nodes ≡ [])
-
-  refused-by : (number : ℕ) → (number ≡ 0 → ⊥) → listing o v k room ≡ refused number → Refused
-  unfolding refused
-  refused-by number d e = (λ z. d (sym (ap (λ (l : Listing). l .number) e) ∙ z), ap (λ (l : Listing). l .nodes) e)
-
-  outcome : Refused ⊎ Accepted o v k room
-  unfolding early-of listed
-  outcome =
-      let size = length (nodes-of (path o v k)) in
-      ⊎-elim
-      (λ (early : early-of o v k ≡ 0).
-      ⊎-elim (λ (z : size ≡ 0). inl (refused-by 14 (λ e. omega arith) (without-path o v k room early z)))
-      (λ (d : size ≡ 0 → ⊥).
-      ⊎-elim (λ (h : room < size). inl (refused-by 13 (λ e. omega arith) (without-room o v k room early (omega arith) h)))
-      (λ (h : size ≤ room).
-      inr
-      (record {
-        node-in = passed (node-count k) (length (k .tails)) (length (k .heads)) o v early .node-in;
-        some-node = omega arith;
-        has-room = h;
-        number = ap (λ (l : Listing). l .number) (fits o v k room early (omega arith) h);
-        nodes = ap (λ (l : Listing). l .nodes) (fits o v k room early (omega arith) h);
-      }))
-      (below-or room size))
-      (same-or size 0))
-      (λ (d : early-of o v k ≡ 0 → ⊥). inl (refused-by (early-of o v k) d (refused-early o v k room d)))
-      (same-or (early-of o v k) 0)
-
-  pub accepted : listing o v k room .number ≡ 0 → Accepted o v k room
-  accepted e = ⊎-elim (λ r. absurd (r .0 e)) (λ a. a) outcome
-
-  pub lists-nothing : (listing o v k room .number ≡ 0 → ⊥) → listing o v k room .nodes ≡ []
-  lists-nothing d = ⊎-elim (λ r. r .1) (λ a. absurd (d (a .number))) outcome
-
 -- what is answered, on a refusal and of a path
 module _ (l : Listing) (answer : Listed) where
   pub refuses : (number : ℕ) → l ≡ refused number → answer .number ≡ number → answer .place ≡ 0 → answer .count ≡ 0 → Tested l answer
@@ -112,21 +67,87 @@ module _ (l : Listing) (answer : Listed) where
   unfolding listed
   gives vs e a b d = record { number = rw e a; place = b; count = rw e d }
 
--- the same of the listing turned round
-pub turned : {l : Listing} {answer : Listed} → Tested l answer → Tested (turned-round l) answer
-unfolding turned-round
-turned {l} answered = record { number = answered .number; place = answered .place; count = answered .count ∙ sym (length-reverse (l .nodes)) }
+-- WHAT THE TESTS SAY: a listing is refused, and then it lists nothing, or it is of a path that the output has room for
+module _ (o v : ℕ) (k : Tree) (room : ℕ) where
+  abbrev nodes : List ℕ
+  nodes = nodes-of (path o v k)
 
--- and what is left in the output
-module _ {l : Listing} {answer : Listed} (answered : Tested l answer) (before : List ℕ) where
-  pub untouched : l .nodes ≡ [] → Lists l answer before before
-  untouched e = record { number = answered .number; place = answered .place; count = answered .count; output = rw e refl }
+  abbrev Refused : Type 0
+  Refused = (listing o v k room .number ≡ 0 → ⊥) × (listing o v k room .nodes ≡ [])
 
-  pub written : (vs after : List ℕ) → l .nodes ≡ vs → after ≡ vs ++ drop (answer .count) before → Lists l answer before after
-  written vs after e f =
-      record {
-        number = answered .number;
-        place = answered .place;
-        count = answered .count;
-        output = f ∙ ap (λ (m : ℕ). vs ++ drop m before) (answered .count) ∙ ap (λ (us : List ℕ). us ++ drop (length (l .nodes)) before) (sym e);
-      }
+  record Accepted : Type 0 where
+    node-in : v < node-count k
+    some-node : 0 < length nodes
+    has-room : length nodes ≤ room
+    so : listing o v k room ≡ listed nodes
+
+  refused-by : (number : ℕ) → (number ≡ 0 → ⊥) → listing o v k room ≡ refused number → Refused
+  unfolding refused
+  refused-by number d e = (λ z. d (sym (ap (λ (l : Listing). l .number) e) ∙ z), ap (λ (l : Listing). l .nodes) e)
+
+  outcome : Refused ⊎ Accepted
+  unfolding early-of
+  outcome =
+      ⊎-elim
+      (λ (early : early-of o v k ≡ 0).
+      ⊎-elim (λ (z : length nodes ≡ 0). inl (refused-by 14 (λ e. omega arith) (without-path o v k room early z)))
+      (λ (d : length nodes ≡ 0 → ⊥).
+      ⊎-elim (λ (h : room < length nodes). inl (refused-by 13 (λ e. omega arith) (without-room o v k room early (omega arith) h)))
+      (λ (h : length nodes ≤ room).
+      inr
+      (record {
+        node-in = passed (node-count k) (length (k .tails)) (length (k .heads)) o v early .node-in;
+        some-node = omega arith;
+        has-room = h;
+        so = fits o v k room early (omega arith) h;
+      }))
+      (below-or room (length nodes)))
+      (same-or (length nodes) 0))
+      (λ (d : early-of o v k ≡ 0 → ⊥). inl (refused-by (early-of o v k) d (refused-early o v k room d)))
+      (same-or (early-of o v k) 0)
+
+  module _ (answer : Listed) (answered : Tested (listing o v k room) answer) where
+    -- number 0: the path can be written, and what is listed is the path
+    module _ (zero : answer .number ≡ 0) where
+      accepted : Accepted
+      accepted = ⊎-elim (λ r. absurd (r .0 (sym (answered .number) ∙ zero))) (λ a. a) outcome
+
+      lists-path : listing o v k room .nodes ≡ nodes
+      unfolding listed
+      lists-path = ap (λ (l : Listing). l .nodes) (accepted .so)
+
+      pub writable : (v < node-count k) × ((answer .count ≡ length nodes) × ((0 < answer .count) × (answer .count ≤ room)))
+      writable =
+          let count = answered .count ∙ ap length lists-path in
+          (accepted .node-in, (count, (omega (arith, count, accepted .some-node), omega (arith, count, accepted .has-room))))
+
+      pub written : (before after : List ℕ) → after ≡ nodes ++ drop (answer .count) before → Lists (listing o v k room) answer before after
+      written before after e =
+          record { number = answered .number; place = answered .place; count = answered .count; output = e ∙ rw (answered .count, lists-path) refl }
+
+      pub written-onward : (before after : List ℕ) → after ≡ reverse nodes ++ drop (answer .count) before →
+          Lists (turned-round (listing o v k room)) answer before after
+      unfolding turned-round
+      written-onward before after e =
+          let count = answered .count ∙ sym (length-reverse (listing o v k room .nodes)) in
+          record { number = answered .number; place = answered .place; count = count; output = e ∙ rw (count, lists-path) refl }
+
+    -- another number: nothing is listed
+    module _ (refusal : answer .number ≡ 0 → ⊥) where
+      lists-nothing : listing o v k room .nodes ≡ []
+      unfolding listed
+      lists-nothing = ⊎-elim (λ r. r .1) (λ a. absurd (refusal (answered .number ∙ ap (λ (l : Listing). l .number) (a .so)))) outcome
+
+      pub untouched : (before : List ℕ) → Lists (listing o v k room) answer before before
+      untouched before =
+          record { number = answered .number; place = answered .place; count = answered .count; output = rw lists-nothing refl }
+
+      pub untouched-onward : (before : List ℕ) → Lists (turned-round (listing o v k room)) answer before before
+      unfolding turned-round
+      untouched-onward before =
+          record {
+            number = answered .number;
+            place = answered .place;
+            count = answered .count ∙ sym (length-reverse (listing o v k room .nodes));
+            output = rw lists-nothing refl;
+          }

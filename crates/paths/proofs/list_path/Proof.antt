@@ -1,15 +1,13 @@
 -- `paths::list_path` meets its contract: the tests give the answer, and the path is written where they are passed. Assumes nothing.
-use mathlib.Core.Path.{ap, sym, _∙_}
 use Prim.Native.Nat.{ℕ}
 use borrow.Author.Needs.{needs}
-use native.Mathlib.Omega.{arith}
 use lib.ListN.{length}
-use Rattle.listing.specs.Listing.{Tree, tree-in, path, nodes-of, listing, Tested}
-use Rattle.listing.proofs.Answers.{Accepted, accepted, lists-nothing, untouched, written}
+use Rattle.listing.specs.Listing.{Tree, tree-in}
+use Rattle.listing.proofs.Answers.{writable, written, untouched}
 use Rattle.paths.proofs.list_path.Statement.{statement}
 use Rattle.paths.proofs.list_path.Tie as tie
 
--- from where the tests have been made: the arguments, the tree that they are, and the answer
+-- from where the tests have been made: the arguments, and the tree that they are
 module _ (c : tie.After-test-listing) where
   abbrev start : tie.Start
   start = c .before .before .before .before .before
@@ -26,17 +24,6 @@ module _ (c : tie.After-test-listing) where
   abbrev room : ℕ
   room = length (start .args .output .now)
 
-  answered : Tested (listing origin node subject room) (c .test-listing .result)
-  answered = c .test-listing .ensures
-
--- where they have been passed
-module _ (c : tie.Then1) where
-  abbrev tested : tie.After-test-listing
-  tested = c .before .before
-
-  fine : Accepted (origin tested) (node tested) (subject tested) (room tested)
-  fine = accepted (origin tested) (node tested) (subject tested) (room tested) (sym (answered tested .number) ∙ c .if1 .taken)
-
 test-listing-requires : tie.Need-test-listing-requires
 test-listing-requires c κs = search needs
 
@@ -46,10 +33,8 @@ cast-count c = search needs
 write-nodes-requires : tie.Need-write-nodes-requires
 write-nodes-requires c κs =
     let passed = c .before .before in
-    let t = tested passed in
-    let a = fine passed in
-    let count = answered t .count ∙ ap length (a .nodes) in
-    (a .node-in, (count, (omega (arith, count, a .some-node), omega (arith, count, a .has-room))))
+    let t = passed .before .before in
+    writable (origin t) (node t) (subject t) (room t) (t .test-listing .result) (t .test-listing .ensures) (passed .if1 .taken)
 
 same-length : tie.Need-same-length
 same-length c = search needs
@@ -58,14 +43,14 @@ returns : tie.Need-returns
 returns c =
     let wrote = c .before .before in
     let passed = wrote .before .before .before in
-    let t = tested passed in
-    let a = fine passed in
-    written (answered t) _ (nodes-of (path (origin t) (node t) (subject t))) _ (a .nodes) (wrote .write-nodes .ensures)
+    let t = passed .before .before in
+    written (origin t) (node t) (subject t) (room t) (t .test-listing .result) (t .test-listing .ensures) (passed .if1 .taken) _ _
+    (wrote .write-nodes .ensures)
 
 returns-2 : tie.Need-returns-2
 returns-2 c =
     let t = c .before .before in
-    untouched (answered t) _ (lists-nothing (origin t) (node t) (subject t) (room t) (λ e. c .if1 .left (answered t .number ∙ e)))
+    untouched (origin t) (node t) (subject t) (room t) (t .test-listing .result) (t .test-listing .ensures) (c .if1 .left) _
 
 pub list-path-spec : {M : Type 1} → statement M
 list-path-spec =
