@@ -1,5 +1,5 @@
 -- What it says of a table that none of the refusals 1 to 7 applies, what numbers they have, and that an answer 0 or 8 is the auction's. Assumes nothing.
-use mathlib.Core.Path.{_≡_, refl, sym, _∙_}
+use mathlib.Core.Path.{_≡_, refl, sym, ap, _∙_}
 use mathlib.Core.Bool.{Bool, true, false, _&&_, _||_, not, cond}
 use mathlib.Core.List.{List, [], _∷_}
 use mathlib.Core.Logic.{_⊎_, ⊎-elim}
@@ -12,6 +12,7 @@ use Rattle.table.specs.Table.{Arc, arcs-of, table-of, is-table, most-nodes, mos
 use Rattle.table.specs.declared.Refusal.{Refusal}
 use Rattle.table.specs.Refusals.{refusal, no-refusal, or-else, Room, room, table-refusal, count-bad, columns-bad, rooms-fit, wanted-from, wanted-refusal, arc-fault, arcs-from, arcs-refusal}
 use Rattle.table.proofs.Basics.{both-true, either-false, same-or, true-or}
+use Rattle.auction.specs.HandOver.{Answer}
 use Rattle.auction.specs.Promises.{Unrefused-is-table}
 use Rattle.auction.specs.Plan.{rooms, plan-refusal, plan, routes-of, refused-plan}
 use Rattle.auction.proofs.Good.{unrefused-is-table, passed}
@@ -115,9 +116,14 @@ module _ (n o : ℕ) (ts hs ls ws ds ps tr ms : List ℕ) where
   unfolding plan-refusal
   refusal-low = refusal-numbered n o ts hs ls ws plan-rooms .0
 
+  pub refused-so : (plan-refusal n o ts hs ls ws ds ps tr ms .number ≡ 0 → ⊥) →
+      plan n o ts hs ls ws ds ps tr ms ≡ refused-plan (plan-refusal n o ts hs ls ws ds ps tr ms) ds ps tr ms
+  unfolding plan
+  refused-so d = rw (ne-eqb (plan-refusal n o ts hs ls ws ds ps tr ms .number) 0 d)
+
   refused-number : (plan-refusal n o ts hs ls ws ds ps tr ms .number ≡ 0 → ⊥) → plan n o ts hs ls ws ds ps tr ms .number ≡ plan-refusal n o ts hs ls ws ds ps tr ms .number
-  unfolding plan refused-plan
-  refused-number d = rw (ne-eqb (plan-refusal n o ts hs ls ws ds ps tr ms .number) 0 d)
+  unfolding refused-plan
+  refused-number d = ap (λ (a : Answer). a .number) (refused-so d)
 
   pub routes-so : plan-refusal n o ts hs ls ws ds ps tr ms .number ≡ 0 → plan n o ts hs ls ws ds ps tr ms ≡ routes-of (table-of n o ts hs ls) ws
   unfolding plan

@@ -2,17 +2,19 @@
 use mathlib.Core.Path.{_≡_, refl, sym, ap, subst, _∙_}
 use mathlib.Core.Bool.{Bool, true, false, _&&_, and-comm}
 use mathlib.Core.List.{List, [], _∷_, map, reverseAux, reverse, reverse-reverse}
-use Prim.Native.Nat.{ℕ, _+_, _<_}
+use mathlib.Core.Logic.{⊎-elim}
+use Prim.Native.Nat.{ℕ, suc, _+_, _<_}
 use native.Mathlib.Omega.{arith}
 use lib.Dec.{ltb, eqb}
-use lib.ListN.{length-map, List·getD-map}
+use lib.ListN.{getD, length-map, List·getD-map}
 use borrow.Author.Tests.{eqb-true, lt-ltb, eq-eqb}
 use Rattle.table.specs.Table.{Arc, Table, arc, table, arcs-of, table-of, is-table, arc-good, arcs-good, arc-count, arc-at, present, present-at, tail-at, head-at, length-at, leads, walk-length, no-arc}
-use Rattle.table.proofs.Basics.{true-both}
+use Rattle.auction.specs.Absent.{present-arcs, without-absent, present-from, place-of}
+use Rattle.table.proofs.Basics.{true-or, true-both}
 use Rattle.table.proofs.Present.{present-tail, leaves-present}
 use Rattle.auction.proofs.Good.{Good, good}
 use Rattle.auction.proofs.Back.{first}
-use Rattle.collector.specs.Exchanged.{exchanged-arc, exchanged, Exchanged-walks, Exchanged-twice, Exchanged-is-table, Exchanged-columns}
+use Rattle.collector.specs.Exchanged.{exchanged-arc, exchanged, Exchanged-walks, Exchanged-twice, Exchanged-is-table, Exchanged-columns, Exchanged-without-absent}
 
 -- THE TABLE
 twice : (arcs : List Arc) → map exchanged-arc (map exchanged-arc arcs) ≡ arcs
@@ -136,3 +138,22 @@ exchanged-walks t ws v w is e low-v low-w =
       walk = same-test (leads x v is w) (leads t w (reverse is) v) (turned-walk t g is v w low-v) back;
       as-long = turned-length t is;
     }
+
+-- ABSENT ARCS
+absent-left-out : (arcs : List Arc) → present-arcs (map exchanged-arc arcs) ≡ map exchanged-arc (present-arcs arcs)
+unfolding present-arcs present exchanged-arc arc
+absent-left-out [] = refl
+absent-left-out (a ∷ arcs) =
+    ⊎-elim (λ (p : present a ≡ true). rw (p, absent-left-out arcs)) (λ (p : present a ≡ false). rw (p, absent-left-out arcs)) (true-or (present a))
+
+same-places : (i : ℕ) (arcs : List Arc) → present-from i (map exchanged-arc arcs) ≡ present-from i arcs
+unfolding present-from present exchanged-arc arc
+same-places i [] = refl
+same-places i (a ∷ arcs) = rw (same-places (suc i) arcs)
+
+pub exchanged-without-absent : Exchanged-without-absent
+unfolding Exchanged-without-absent without-absent place-of exchanged table
+exchanged-without-absent t = (
+  ap (λ arcs. table (t .n) (t .origin) arcs) (absent-left-out (t .arcs)),
+  λ k. ap (λ (is : List ℕ). getD is k no-arc) (same-places 0 (t .arcs)),
+)

@@ -7,7 +7,6 @@ use Prim.Native.Nat.{ℕ, _+_, _<_}
 use native.Mathlib.Omega.{arith}
 use lib.Dec.{eqb}
 use lib.ListN.{length, getD, length-reverse}
-use borrow.Author.Tests.{ne-eqb}
 use Rattle.table.specs.Table.{Table, table, table-of, is-table, present-at, tail-at, head-at, length-at, leads, is-walk, walk-length}
 use Rattle.table.specs.declared.Refusal.{Refusal}
 use Rattle.table.proofs.Basics.{both-true, true-both}
@@ -18,12 +17,14 @@ use Rattle.auction.specs.Promises.{Attains, Has-walk, No-walk, First-without-wa
 use Rattle.auction.specs.Demands.{Demands, Demands-met, Given, price-of, link-of, walk-of}
 use Rattle.auction.proofs.Good.{Good, good, wanted-in}
 use Rattle.auction.proofs.Back.{first, walk-end}
+use Rattle.auction.specs.Absent.{As-without, Plan-without-absent}
+use Rattle.auction.proofs.Absent.{absent}
 use Rattle.auction.proofs.Demanded.{demands-met}
-use Rattle.auction.proofs.Made.{made, unrefused, routes-so}
-use Rattle.collector.specs.Exchanged.{exchanged, Backwards, Exchanged-walks, Exchanged-is-table, Exchanged-columns}
-use Rattle.collector.specs.Plan.{plan-to-collector}
-use Rattle.collector.specs.Promises.{collector, is-walk-in, Has-walk-in, walk-from, Attains-in, equal-in, First-without-walk-in, Collects, Collects-by-exchange, Collector-served, Collector-refusals}
-use Rattle.collector.proofs.Exchange.{exchanged-walks, exchanged-is-table, exchanged-columns, count-kept, length-kept, present-kept, leaves-head, leads-to-tail, leaves-there}
+use Rattle.auction.proofs.Made.{made, unrefused, routes-so, refused-so}
+use Rattle.collector.specs.Exchanged.{exchanged, Backwards, Exchanged-walks, Exchanged-is-table, Exchanged-columns, Exchanged-without-absent}
+use Rattle.collector.specs.Plan.{plan-to-collector, collected}
+use Rattle.collector.specs.Promises.{collector, is-walk-in, Has-walk-in, walk-from, Attains-in, equal-in, First-without-walk-in, Collects, Collects-by-exchange, Collector-served, Collector-refusals, Collected-without-absent}
+use Rattle.collector.proofs.Exchange.{exchanged-walks, exchanged-is-table, exchanged-columns, exchanged-without-absent, count-kept, length-kept, present-kept, leaves-head, leads-to-tail, leaves-there}
 use Rattle.collector.proofs.Refused.{refused-alike}
 
 -- ON A TABLE THAT IS NOT REFUSED
@@ -192,21 +193,20 @@ collector-served n c ts hs ls ss ds ps tr ms low number =
     collects (table-of n c ts hs ls) ss (good-here n c ts hs ls ss ok) _
     (subst (λ (a : Answer). Demands (exchanged (table-of n c ts hs ls)) ss a) (sym (m .routes)) (met n c ts hs ls ss ok))
 
--- a refusal is the plan's answer
-refused : (f : Refusal) (n c : ℕ) (ts hs ls ss ds ps tr ms : List ℕ) → plan-refusal n c hs ts ls ss ds ps tr ms ≡ f → (f .number ≡ 0 → ⊥) →
-    plan n c hs ts ls ss ds ps tr ms ≡ refused-plan f ds ps tr ms
-unfolding plan
-refused f n c ts hs ls ss ds ps tr ms e d = rw (e, ne-eqb (f .number) 0 d)
-
 pub collector-refusals : Collector-refusals
 unfolding Collector-refusals plan-to-collector plan-refusal
 collector-refusals n c ts hs ls ss ds ps tr ms low not-zero not-eight =
-    let f = plan-refusal n c ts hs ls ss ds ps tr ms in
-    let alike = refused-alike n c ts hs ls ss ds ps tr ms in
-    refused f n c ts hs ls ss ds ps tr ms alike
-    (λ z.
-    let none : plan-refusal n c hs ts ls ss ds ps tr ms .number ≡ 0 = ap (λ (r : Refusal). r .number) alike ∙ z in
+    refused-so n c hs ts ls ss ds ps tr ms
+    (λ none.
     let ok = unrefused n c hs ts ls ss _ low none .table-good in
     let number : plan n c hs ts ls ss ds ps tr ms .number ≡ routes-of (table-of n c hs ts ls) ss .number =
     ap (λ (a : Answer). a .number) (routes-so n c hs ts ls ss ds ps tr ms none) in
     ⊎-elim (λ q. not-zero (number ∙ q)) (λ q. not-eight (number ∙ q)) (met n c ts hs ls ss ok .numbers))
+    ∙ ap (λ (f : Refusal). refused-plan f ds ps tr ms) (refused-alike n c ts hs ls ss ds ps tr ms)
+
+-- the table without its absent arcs
+pub collected-without-absent : Collected-without-absent
+unfolding Collected-without-absent Plan-without-absent Exchanged-without-absent Exchanged-is-table collected
+collected-without-absent t senders table-good =
+    subst (λ (x : Table). As-without (exchanged t) (collected t senders) (routes-of x senders)) (exchanged-without-absent t .0)
+    (absent .plan-without-absent (exchanged t) senders (exchanged-is-table t senders ∙ table-good))

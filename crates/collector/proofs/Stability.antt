@@ -14,7 +14,8 @@ use Rattle.auction.proofs.Good.{good}
 use Rattle.auction.proofs.Stability.{same-choice, route-stays, wanted-route-stays, one-more, new-link, link-added}
 use Rattle.collector.specs.Exchanged.{exchanged-arc, exchanged, Exchanged-is-table}
 use Rattle.collector.specs.Promises.{walk-from}
-use Rattle.collector.specs.Stability.{collected, Same-route-in, Route-stays-in, Sender-route-stays, Same-choice-in, No-short-cut-in, Link-added-in}
+use Rattle.collector.specs.Plan.{collected}
+use Rattle.collector.specs.Stability.{Same-route-in, Route-stays-in, Sender-route-stays, Same-choice-in, No-short-cut-in, Link-added-in}
 use Rattle.collector.proofs.Exchange.{exchanged-is-table, count-kept, length-kept, tail-there, head-there, turned-length}
 use Rattle.collector.proofs.Promised.{end-there, walks-in, walks-out, lengths-out}
 

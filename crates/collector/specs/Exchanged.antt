@@ -1,10 +1,11 @@
--- The exchanged table: each arc's tail and head exchanged, its position and its length kept; and the one result about it, by which all that is promised of
+-- The exchanged table (the reverse graph, in the field's terms): each arc's tail and head exchanged, its position and length kept; and the one result about it, by which all that is promised of
 -- a plan is promised of a plan to a collector. Each promise is a type; its proof, by the same name in small letters, stands in proofs/Exchange.antt.
 -- Assumes nothing.
 use mathlib.Core.Path.{_≡_}
 use mathlib.Core.Bool.{true}
 use mathlib.Core.List.{List, map, reverse}
 use Prim.Native.Nat.{ℕ, _<_}
+use Rattle.auction.specs.Absent.{without-absent, place-of}
 use Rattle.table.specs.Table.{Arc, Table, arc, table, table-of, is-table, leads, walk-length}
 
 unfoldable pub exchanged-arc : Arc → Arc
@@ -34,3 +35,7 @@ Exchanged-is-table = (t : Table) (ws : List ℕ) → is-table (exchanged t) ws �
 -- and it is the one that the columns hold when the tails stand for the heads and the heads for the tails.
 unfoldable pub Exchanged-columns : Type 0
 Exchanged-columns = (n c : ℕ) (tails heads lengths : List ℕ) → table-of n c heads tails lengths ≡ exchanged (table-of n c tails heads lengths)
+
+-- Absent arcs may be left out before or after the exchange, and the others have the same places.
+unfoldable pub Exchanged-without-absent : Type 0
+Exchanged-without-absent = (t : Table) → (without-absent (exchanged t) ≡ exchanged (without-absent t)) × ((k : ℕ) → place-of (exchanged t) k ≡ place-of t k)

@@ -12,9 +12,10 @@ use Rattle.table.specs.Table.{Table, table-of, is-table, leads, walk-length, ar
 use Rattle.auction.specs.Auction.{most-iterations}
 use Rattle.auction.specs.HandOver.{Answer}
 use Rattle.auction.specs.Plan.{plan-refusal, refused-plan}
+use Rattle.auction.specs.Absent.{without-absent, As-without}
 use Rattle.auction.specs.Demands.{Demands, Given, distance-of, price-of, link-of, walk-of}
 use Rattle.collector.specs.Exchanged.{exchanged}
-use Rattle.collector.specs.Plan.{plan-to-collector}
+use Rattle.collector.specs.Plan.{plan-to-collector, collected}
 
 abbrev pub collector : Table → ℕ
 collector t = t .origin
@@ -99,3 +100,9 @@ Collector-refusals =
     let a = plan-to-collector n c tails heads lengths senders distances prices tree marks in
     Below (2 ^ 32) lengths → (a .number ≡ 0 → ⊥) → (a .number ≡ 8 → ⊥) →
     a ≡ refused-plan (plan-refusal n c tails heads lengths senders distances prices tree marks) distances prices tree marks
+
+-- LINKS THAT ARE DOWN. A plan to a collector is that of the table without its absent arcs, in all that is handed over: `As-without` says it of the exchanged
+-- table, whose places are the table's own (`Exchanged-without-absent`).
+unfoldable pub Collected-without-absent : Type 0
+Collected-without-absent =
+    (t : Table) (senders : List ℕ) → is-table t senders ≡ true → As-without (exchanged t) (collected t senders) (collected (without-absent t) senders)

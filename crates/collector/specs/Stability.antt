@@ -8,15 +8,10 @@ use Prim.Native.Nat.{ℕ, _+_, _≤_, _<_}
 use lib.ListN.{length, getD}
 use Rattle.table.specs.Table.{Arc, Table, is-table, walk-length, present}
 use Rattle.auction.specs.HandOver.{Answer}
-use Rattle.auction.specs.Plan.{routes-of}
 use Rattle.auction.specs.Demands.{distance-of, link-of, Given}
 use Rattle.auction.specs.Stability.{Lengthened, with-link}
-use Rattle.collector.specs.Exchanged.{exchanged}
+use Rattle.collector.specs.Plan.{collected}
 use Rattle.collector.specs.Promises.{is-walk-in, walk-from}
-
--- the answer of a plan to the collector, to a table that is not refused
-unfoldable pub collected : Table → (senders : List ℕ) → Answer
-collected t ss = routes-of (exchanged t) ss
 
 -- a node has the same route to the collector in two plans
 pub record Same-route-in (t : Table) (a : Answer) (t′ : Table) (b : Answer) (v : ℕ) : Type 0 where

@@ -13,10 +13,10 @@ use Rattle.auction.proofs.Made.{made}
 use Rattle.auction.proofs.Sums.{entries-length}
 use Rattle.auction.proofs.Promised.{walk-shortest}
 use Rattle.auction.proofs.Demanded.{given-reached}
-use Rattle.collector.specs.Exchanged.{exchanged, Exchanged-is-table, Exchanged-columns}
+use Rattle.collector.specs.Exchanged.{exchanged, Exchanged-columns}
 use Rattle.collector.specs.Plan.{plan-to-collector}
 use Rattle.collector.specs.Promises.{walk-from, Collector-served}
-use Rattle.collector.proofs.Exchange.{exchanged-is-table, exchanged-columns}
+use Rattle.collector.proofs.Exchange.{exchanged-columns}
 use Rattle.collector.proofs.Promised.{good-here, collector-served}
 use Rattle.listing.specs.Listing.{tree-in}
 use Rattle.listing.specs.Promises.{Routes-listed, Plans-listed, Senders-listed, Gives, Gives-in, nodes-of-walk}
@@ -46,7 +46,7 @@ plans-listed n o tails heads lengths wanted distances prices tree marks v fits n
 
 -- a plan to a collector is the plan of the exchanged table
 pub senders-listed : Senders-listed
-unfolding Senders-listed Plans-listed Collector-served Exchanged-columns Exchanged-is-table plan-to-collector walk-from
+unfolding Senders-listed Plans-listed Collector-served Exchanged-columns plan-to-collector walk-from
 senders-listed n c tails heads lengths senders distances prices tree marks v fits number given =
     let t = table-of n c tails heads lengths in
     let x = table-of n c heads tails lengths in
@@ -56,6 +56,6 @@ senders-listed n c tails heads lengths senders distances prices tree marks v fit
     let walk = collector-served n c tails heads lengths senders distances prices tree marks fits number .planned .walk v given in
     subst (λ (vs : List ℕ). Gives-in c v (tree-in tails heads (a .tree)) vs)
     (ap (λ (y : Table). reverse (nodes-of-walk y (walk-of y a v))) same
-    ∙ nodes-turned t (good t senders here) (good (exchanged t) senders (exchanged-is-table t senders ∙ here)) (walk-of (exchanged t) a v) v walk)
+    ∙ nodes-turned t (good t senders here) (walk-of (exchanged t) a v) v walk)
     (turned-gives c v (tree-in tails heads (a .tree)) (nodes-of-walk x (walk-of x a v))
     (plans-listed n c heads tails lengths senders distances prices tree marks v fits number given))

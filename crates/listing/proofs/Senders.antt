@@ -10,12 +10,12 @@ use Rattle.table.specs.Table.{Table, table, head-at, leads, is-walk}
 use Rattle.auction.proofs.Good.{Good}
 use Rattle.auction.proofs.Back.{first}
 use Rattle.collector.specs.Exchanged.{exchanged}
-use Rattle.collector.proofs.Exchange.{leaves-head, leaves-there}
+use Rattle.collector.proofs.Exchange.{count-kept, head-there, leaves-head, leaves-there}
 use Rattle.listing.specs.Listing.{Tree, refused, listed}
 use Rattle.listing.specs.Collecting.{exchanged-tree, turned-round, listing-to-collector}
 use Rattle.listing.specs.Promises.{heads-along, nodes-of-walk, nodes-from, Gives, Gives-in}
 
-module _ (t : Table) (g : Good t) (there-good : Good (exchanged t)) where
+module _ (t : Table) (g : Good t) where
   -- the nodes of a walk there, backwards, and then those of a walk here from where it began
   turned : (is onward : List ℕ) (u w : ℕ) → u < t .n → leads (exchanged t) u is w ≡ true →
       reverseAux (heads-along (exchanged t) is) (u ∷ heads-along t onward) ≡ w ∷ heads-along t (reverseAux is onward)
@@ -25,8 +25,9 @@ module _ (t : Table) (g : Good t) (there-good : Good (exchanged t)) where
       let x = exchanged t in
       let f = first x u i is w e in
       let here : head-at t i ≡ u = sym (leaves-head t i (leaves-there t g i (omega (arith, f .leaves, low)))) ∙ f .leaves in
+      let tail-low : head-at x i < t .n = omega (arith, head-there t i, g .end-in i (omega (arith, f .listed, count-kept t))) in
       ap (λ (z : ℕ). reverseAux (heads-along x is) (head-at x i ∷ z ∷ heads-along t onward)) (sym here)
-      ∙ turned is (i ∷ onward) (head-at x i) w (there-good .head-in i (f .listed)) (f .rest)
+      ∙ turned is (i ∷ onward) (head-at x i) w tail-low (f .rest)
 
   pub nodes-turned : (is : List ℕ) (v : ℕ) → is-walk (exchanged t) is v ≡ true →
       reverse (nodes-of-walk (exchanged t) is) ≡ nodes-from t v (reverse is)

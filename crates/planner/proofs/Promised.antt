@@ -1,10 +1,9 @@
 -- The promise of specs/Promise.antt: an answer 0 or 8 is what the auction hands over, of which the demands hold. Assumes nothing.
 use mathlib.Core.Path.{_≡_, sym, ap, subst, _∙_}
-use mathlib.Core.Bool.{Bool, true, false, cond}
+use mathlib.Core.Bool.{true, false}
 use mathlib.Core.List.{List}
 use mathlib.Core.Logic.{_⊎_, inl, inr, ⊎-elim}
 use Prim.Native.Nat.{ℕ}
-use borrow.Author.Tests.{eq-eqb, ne-eqb}
 use Rattle.table.specs.Table.{Table, table-of}
 use Rattle.table.specs.Refusals.{refusal, no-refusal}
 use Rattle.auction.specs.Auction.{auction}
@@ -12,7 +11,7 @@ use Rattle.auction.specs.HandOver.{Answer, handed-over, route-refusal}
 use Rattle.auction.specs.Demands.{Demands, Demands-met}
 use Rattle.table.proofs.Basics.{true-or}
 use Rattle.auction.proofs.Demanded.{demands-met}
-use Rattle.auction.proofs.Made.{made}
+use Rattle.auction.proofs.Made.{made, routes-so, refused-so}
 use Rattle.auction.specs.Plan.{plan-refusal, plan, routes-of, refused-plan}
 use Rattle.hand_over.specs.Answered.{answered}
 use Rattle.planner.specs.Promise.{Plans-kept, Refusals-touch-nothing}
@@ -34,17 +33,15 @@ route-number t ws =
     ⊎-elim (λ (r : auction t ws .routed ≡ true). inl (rw r)) (λ (r : auction t ws .routed ≡ false). inr (rw r)) (true-or (auction t ws .routed))
 
 pub refusals-touch-nothing : Refusals-touch-nothing
-unfolding Refusals-touch-nothing answered plan refused-plan
+unfolding Refusals-touch-nothing answered refused-plan
 refusals-touch-nothing n o ts hs ls ws ds ps tr ms ds′ ps′ tr′ ms′ r e not-zero not-eight =
     let f = plan-refusal n o ts hs ls ws ds ps tr ms in
     let t = table-of n o ts hs ls in
     let refused : f .number ≡ 0 → ⊥ =
     λ z.
-    let same : answered r ds′ ps′ tr′ ms′ ≡ routes-of t ws = e ∙ ap (λ (b : Bool). cond b (routes-of t ws) (refused-plan f ds ps tr ms)) (eq-eqb (f .number) 0 z) in
-    let number : r .number ≡ routes-of t ws .number = ap (λ (a : Answer). a .number) same in
+    let number : r .number ≡ routes-of t ws .number = ap (λ (a : Answer). a .number) (e ∙ routes-so n o ts hs ls ws ds ps tr ms z) in
     ⊎-elim (λ (q : routes-of t ws .number ≡ 0). not-zero (number ∙ q)) (λ (q : routes-of t ws .number ≡ 8). not-eight (number ∙ q)) (route-number t ws) in
-    let so : answered r ds′ ps′ tr′ ms′ ≡ refused-plan f ds ps tr ms =
-    e ∙ ap (λ (b : Bool). cond b (routes-of t ws) (refused-plan f ds ps tr ms)) (ne-eqb (f .number) 0 refused) in
+    let so : answered r ds′ ps′ tr′ ms′ ≡ refused-plan f ds ps tr ms = e ∙ refused-so n o ts hs ls ws ds ps tr ms refused in
     record {
       distances-stay = ap (λ (a : Answer). a .distances) so;
       prices-stay = ap (λ (a : Answer). a .prices) so;

@@ -16,8 +16,8 @@ use Rattle.auction.proofs.Answers.{rack-holds}
 use Rattle.limit_answer.proofs.Promised.{limits-kept, limits-pinned, limits-refused}
 use Rattle.limit_answer.proofs.Rows as Limits
 use Rattle.collector.specs.Promises.{Collects}
-use Rattle.collector.proofs.Exchange.{exchanged-walks, exchanged-twice, exchanged-is-table, exchanged-columns}
-use Rattle.collector.proofs.Promised.{collects-by-exchange, collector-served, collector-refusals}
+use Rattle.collector.proofs.Exchange.{exchanged-walks, exchanged-twice, exchanged-is-table, exchanged-columns, exchanged-without-absent}
+use Rattle.collector.proofs.Promised.{collects-by-exchange, collector-served, collector-refusals, collected-without-absent}
 use Rattle.collector.proofs.Stability.{same-choice-in, route-stays-in, sender-route-stays, link-added-in}
 use Rattle.collector.proofs.Rows as Collector
 use Rattle.planner.proofs.Promised.{plans-kept, refusals-touch-nothing}
@@ -74,6 +74,7 @@ kept =
       exchanged-twice = exchanged-twice;
       exchanged-is-table = exchanged-is-table;
       exchanged-columns = exchanged-columns;
+      exchanged-without-absent = exchanged-without-absent;
       unrefused-is-table = promised .unrefused-is-table;
       table-is-unrefused = promised .table-is-unrefused;
       longest-of-32-bits = promised .longest-of-32-bits;
@@ -87,6 +88,7 @@ kept =
       limited-without-absent = absent .limited-without-absent;
       scans-without-absent = absent .scans-without-absent;
       plan-without-absent = absent .plan-without-absent;
+      collected-without-absent = collected-without-absent;
       same-choice = stability .same-choice;
       route-stays = stability .route-stays;
       wanted-route-stays = stability .wanted-route-stays;

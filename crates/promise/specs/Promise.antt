@@ -8,8 +8,8 @@ use Rattle.auction.specs.Stability.{Same-choice, Route-stays, Wanted-route-stay
 use Rattle.auction.specs.Rack.{Rack-holds}
 use Rattle.limit_answer.specs.Promises.{Limits-kept, Limits-pinned, Limits-refused}
 use Rattle.limit_answer.specs.Rows as Limits
-use Rattle.collector.specs.Exchanged.{Exchanged-walks, Exchanged-twice, Exchanged-is-table, Exchanged-columns}
-use Rattle.collector.specs.Promises.{Collects-by-exchange, Collector-served, Collector-refusals}
+use Rattle.collector.specs.Exchanged.{Exchanged-walks, Exchanged-twice, Exchanged-is-table, Exchanged-columns, Exchanged-without-absent}
+use Rattle.collector.specs.Promises.{Collects-by-exchange, Collector-served, Collector-refusals, Collected-without-absent}
 use Rattle.collector.specs.Stability.{Same-choice-in, Route-stays-in, Sender-route-stays, Link-added-in}
 use Rattle.collector.specs.Rows as Collector
 use Rattle.planner.specs.Promise.{Plans-kept, Refusals-touch-nothing}
@@ -70,6 +70,7 @@ pub record Promise : Type 0 where
   pub exchanged-twice : Exchanged-twice
   pub exchanged-is-table : Exchanged-is-table
   pub exchanged-columns : Exchanged-columns
+  pub exchanged-without-absent : Exchanged-without-absent
   -- WHAT IS REFUSED: the tables that are not refused are just those of which all this is promised
   pub unrefused-is-table : Unrefused-is-table
   pub table-is-unrefused : Table-is-unrefused
@@ -85,6 +86,7 @@ pub record Promise : Type 0 where
   pub limited-without-absent : Limited-without-absent
   pub scans-without-absent : Scans-without-absent
   pub plan-without-absent : Plan-without-absent
+  pub collected-without-absent : Collected-without-absent
   -- WHAT STAYS: a spare chooses as the old unit did; a route stays while nothing shorter exists, also when a link goes down elsewhere or is added at
   -- the end
   pub same-choice : Same-choice
