@@ -178,8 +178,8 @@ kept-limit t v limit r k =
 pub refused-limit : (n o v : ℕ) (ts hs ls : List ℕ) (r : Within) → Limit-refused n o v ts hs ls r → Limit-refused n o v ts hs ls r
 refused-limit n o v ts hs ls r f = record { low = f .low; no-buffers = f .no-buffers; as-wanted = f .as-wanted; zeros = f .zeros }
 
-pub collected : (t : Table) (senders : List ℕ) (a : Answer) → Collects t senders a → Collects t senders a
-collected t senders a c =
+pub kept-collects : (t : Table) (senders : List ℕ) (a : Answer) → Collects t senders a → Collects t senders a
+kept-collects t senders a c =
     record {
       given = c .given;
       walk = c .walk;
