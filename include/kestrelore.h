@@ -33,7 +33,7 @@
 extern "C" {
 #endif
 
-#define KESTRELORE_VERSION "0.4.0"
+#define KESTRELORE_VERSION "0.5.0"
 
 /* The most nodes, arcs and wanted nodes of a table, and the bytes of the longest link file. */
 #define KESTRELORE_MOST_NODES 1024
@@ -82,8 +82,9 @@ typedef enum kestrelore_refusal {
     KESTRELORE_NEEDLESS = 12,     /* a field is present that says what its absence would say (the
                                      offset of its bit map) */
     KESTRELORE_ROOM = 13,         /* the output list is too short */
-    KESTRELORE_NO_PATH = 14       /* the tree column does not lead back to the origin, or not on to the
+    KESTRELORE_NO_PATH = 14,      /* the tree column does not lead back to the origin, or not on to the
                                      collector */
+    KESTRELORE_NO_WALK = 15       /* the fresh path is empty, has more than 1,024 nodes or is no walk */
 } kestrelore_refusal;
 
 /* What planning answers. */
@@ -115,6 +116,14 @@ typedef struct kestrelore_listed {
     uint32_t place;
     uint32_t count;        /* how many nodes the path has, both ends included */
 } kestrelore_listed;
+
+/* What keeping a path answers. */
+typedef struct kestrelore_kept {
+    uint32_t number;       /* 0, 1, 2, 6, 7 or 15 */
+    uint32_t place;
+    uint32_t standing;     /* 1: the standing path is kept; 0: the fresh one is taken */
+    uint32_t count;        /* how many nodes the kept or taken path has: all of that list */
+} kestrelore_kept;
 
 /* What reading a link file answers. */
 typedef struct kestrelore_table_read {
@@ -231,6 +240,28 @@ kestrelore_listed kestrelore_list_to_collector(
     const uint16_t *heads, size_t heads_count,
     const uint16_t *tree, size_t tree_count,
     uint16_t *output, size_t output_count);
+
+/*
+ * Keeps a standing path while it is as short as a fresh one.
+ *
+ * Both are lists of nodes, as kestrelore_list_path and kestrelore_list_to_collector write them. A list
+ * is a walk where its nodes are below n and each step from a node to the next has an arc that is not
+ * down; a step counts with the shortest of them, and one node is a walk of total 0. The standing path
+ * is kept where it has 1 to 1,024 nodes and is a walk that begins and ends as the fresh one does, with
+ * a total no greater; it is never refused. Otherwise the fresh path is taken. Nothing is copied: the
+ * nodes are the first count elements of standing, or of fresh. Tested in the order 1, 2, then 6 and 7
+ * arc by arc, then 15.
+ *
+ * Where fresh was listed from a finished plan of the same table, the standing path is kept exactly
+ * when it is still a walk between the same two nodes and no walk between them is shorter.
+ */
+kestrelore_kept kestrelore_keep_path(
+    uint32_t n,
+    const uint16_t *tails, size_t tails_count,
+    const uint16_t *heads, size_t heads_count,
+    const uint32_t *lengths, size_t lengths_count,
+    const uint16_t *standing, size_t standing_count,
+    const uint16_t *fresh, size_t fresh_count);
 
 /*
  * Reads a link file.

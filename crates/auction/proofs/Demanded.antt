@@ -7,7 +7,7 @@ use mathlib.Core.Option.{some}
 use Prim.Native.Nat.{ℕ, _≤_, _<_}
 use native.Mathlib.Omega.{arith}
 use lib.ListN.{getD}
-use Rattle.table.specs.Table.{Table, is-table, arc-count, present-at, tail-at, walk-length, no-distance}
+use Rattle.table.specs.Table.{Table, is-table, arc-count, present-at, tail-at, walk-length, no-arc, no-distance}
 use Rattle.table.specs.Refusals.{refusal, no-refusal}
 use Rattle.auction.specs.Auction.{State, auction, after, was-reached, distance, iterations}
 use Rattle.auction.specs.HandOver.{Answer, handed-over, distances, mark, marks, first-missing, route-refusal}
@@ -65,6 +65,16 @@ module _ (t : Table) (ws : List ℕ) (e : is-table t ws ≡ true) where
   reached-given : (v : ℕ) → was-reached x v ≡ true → Given a v
   unfolding Given
   reached-given v r q = not-no-distance t g x dep sound v (sym (reached-entry v r) ∙ q)
+
+  -- a node that is not given a walk is not the origin and has no link
+  pub origin-given : Given a (t .origin)
+  origin-given = reached-given (t .origin) (status-reached x (t .origin) (omega (arith, sound .nodes .origin-status)))
+
+  pub linked-given : (v : ℕ) → (link-of a v ≡ no-arc → ⊥) → Given a v
+  unfolding link-of routes-of handed-over last-state
+  linked-given v d =
+      ⊎-elim (λ (r : was-reached x v ≡ true). reached-given v r) (λ (r : was-reached x v ≡ false). absurd (d (tree-unreached t g x dep sound v r)))
+      (true-or (was-reached x v))
 
   -- number 8 exactly where the run ended without every wanted node
   number-zero : auction t ws .routed ≡ true → a .number ≡ 0

@@ -27,6 +27,16 @@ rooms-so n m a b c d e =
     let s = both-true (eqb d m) true (r .1) in
     (eqb-true a n (p .0), eqb-true b n (q .0), eqb-true c n (r .0), eqb-true d m (s .0))
 
+-- and buffers that are fit; of a table without them the same refusal applies
+pub fitting : (n m : ℕ) {a b c d : ℕ} → a ≡ n → b ≡ n → c ≡ n → d ≡ m → rooms-fit (rooms n m a b c d) ≡ true
+unfolding rooms-fit rooms room
+fitting n m {a} {b} {c} {d} ea eb ec ed = rw (eq-eqb a n ea, eq-eqb b n eb, eq-eqb c n ec, eq-eqb d m ed)
+
+pub without-rooms : (n o : ℕ) (ts hs ls ws : List ℕ) (rs : List Room) → rooms-fit rs ≡ true →
+    table-refusal n o ts hs ls ws rs ≡ table-refusal n o ts hs ls ws []
+unfolding table-refusal rooms-fit
+without-rooms n o ts hs ls ws rs fit = rw fit
+
 module _ (n o : ℕ) (ts hs ls ws : List ℕ) (rs : List Room) where
   -- a table that is not refused
   pub record Unrefused : Type 0 where
@@ -145,3 +155,10 @@ module _ (n o : ℕ) (ts hs ls ws ds ps tr ms : List ℕ) where
       (λ (q : plan n o ts hs ls ws ds ps tr ms .number ≡ 8). omega (arith, refused-number z, q, refusal-low))
       e))
       (same-or (plan-refusal n o ts hs ls ws ds ps tr ms .number) 0)
+
+  -- A REFUSED PLAN with buffers that fit is refused as the table is without them
+  pub refused-alike : let f = table-refusal n o ts hs ls ws [] in (f .number ≡ 0 → ⊥) → length ds ≡ n → length ps ≡ n → length tr ≡ n → length ms ≡ length ts →
+      plan n o ts hs ls ws ds ps tr ms ≡ refused-plan f ds ps tr ms
+  unfolding plan plan-refusal
+  refused-alike d la lb lc ld =
+      rw (without-rooms n o ts hs ls ws _ (fitting n (length ts) la lb lc ld), ne-eqb (table-refusal n o ts hs ls ws [] .number) 0 d)

@@ -1,11 +1,14 @@
-// The library for firmware: the seven entry points under C names, nothing else. include/kestrelore.h declares them; each has the contract of the function
+// The library for firmware: the eight entry points under C names, nothing else. include/kestrelore.h declares them; each has the contract of the function
 // that it hands on to.
+ghost use mathlib.Core.Path.{_≡_};
 ghost use Rattle.planner.specs.Plan.{Plans, Plans-to-collector};
 ghost use Rattle.limit_answer.specs.Answer.{Answers-limit};
 ghost use Rattle.listing.specs.Listing.{Lists-path};
 ghost use Rattle.listing.specs.Collecting.{Lists-to-collector};
+ghost use Rattle.keeping.specs.Keeping.{keeps};
 ghost use Rattle.link_file.specs.Entries.{Reads-file, Writes-file};
 use hand_over::Planned;
+use keeping::Kept;
 use limit_answer::Within;
 use link_file::TableRead;
 use link_file::Written;
@@ -115,6 +118,21 @@ pub extern "C" fn kestrelore_list_to_collector(
     ensures { λ r. ⌜ Lists-to-collector collector node tails heads tree output r ⌝ }
 {
     paths::list_to_collector(collector, node, tails, heads, tree, output)
+}
+
+// Keeps the standing path or takes the fresh one.
+#[no_mangle]
+pub extern "C" fn kestrelore_keep_path(
+    n: u32,
+    tails: &[u16],
+    heads: &[u16],
+    lengths: &[u32],
+    standing: &[u16],
+    fresh: &[u16],
+) -> Kept
+    ensures { λ r. ⌜ r ≡ keeps n tails heads lengths standing fresh ⌝ }
+{
+    keeper::decide(n, tails, heads, lengths, standing, fresh)
 }
 
 // Reads a link file.

@@ -1,27 +1,25 @@
 -- The promises of specs/Promises.antt. Assumes nothing.
 use mathlib.Core.Path.{_≡_, refl, sym, ap, subst, _∙_}
 use mathlib.Core.Bool.{Bool, true, false, cond}
-use mathlib.Core.List.{List, [], _∷_}
+use mathlib.Core.List.{[], _∷_}
 use mathlib.Core.Logic.{_⊎_, inl, inr, ⊎-elim}
 use Prim.Native.Nat.{ℕ, _<_}
 use native.Mathlib.Omega.{arith}
-use lib.ListN.{length}
-use borrow.Author.Tests.{ne-eqb}
 use Rattle.table.specs.Table.{Table, table-of, is-table}
 use Rattle.table.specs.Refusals.{rooms-fit}
 use Rattle.table.proofs.Basics.{same-or, not-both, some-none}
 use Rattle.auction.specs.Auction.{was-reached, iterations}
 use Rattle.auction.specs.HandOver.{Answer, handed-over}
-use Rattle.auction.specs.Plan.{plan-refusal, refused-plan, routes-of, plan}
+use Rattle.auction.specs.Plan.{refused-plan, routes-of}
 use Rattle.auction.specs.Promises.{last-state}
 use Rattle.auction.specs.Limit.{limited-state, Within-limit, Limit-cuts}
 use Rattle.auction.proofs.Run.{none-after}
 use Rattle.auction.proofs.Limit.{within-limit, limit-cuts}
-use Rattle.auction.proofs.Made.{refusal-numbered}
+use Rattle.auction.proofs.Made.{refusal-numbered, refused-alike}
 use Rattle.limit_answer.specs.declared.Within.{Within}
 use Rattle.limit_answer.specs.Answer.{within, limit-refusal, limit-of}
 use Rattle.limit_answer.specs.Promises.{Limit-kept, Limits-kept, Limits-pinned, Limits-refused}
-use Rattle.limit_answer.proofs.Refused.{fitting, as-wanted, fine, asked, refused}
+use Rattle.limit_answer.proofs.Refused.{fine, asked, refused}
 
 -- 1 or 0, as a node was reached or not
 one-if : Bool → ℕ
@@ -72,14 +70,6 @@ limits-kept n o v limit ts hs ls r low e number =
     (λ (d : f .number ≡ 0 → ⊥). absurd (d (ap (λ (a : Within). a .number) (sym (e ∙ refused n o v ts hs ls f refl limit d)) ∙ number)))
     (same-or (f .number) 0)
 
--- the plan for a wanted list of one, with buffers that fit
-plan-refused : (n o v : ℕ) (ts hs ls : List ℕ) → let f = limit-refusal n o v ts hs ls in (f .number ≡ 0 → ⊥) → (ds ps tr ms : List ℕ) →
-    length ds ≡ n → length ps ≡ n → length tr ≡ n → length ms ≡ length ts → plan n o ts hs ls (v ∷ []) ds ps tr ms ≡ refused-plan f ds ps tr ms
-unfolding plan plan-refusal
-plan-refused n o v ts hs ls d ds ps tr ms la lb lc ld =
-    let f = limit-refusal n o v ts hs ls in
-    rw (as-wanted n o v ts hs ls _ (fitting n (length ts) la lb lc ld), ne-eqb (f .number) 0 d)
-
 pub limits-refused : Limits-refused
 unfolding Limits-refused within limit-of limit-refusal rooms-fit refused-plan
 limits-refused n o v limit ts hs ls r e d =
@@ -94,7 +84,7 @@ limits-refused n o v limit ts hs ls r e d =
       low = omega (arith, number, numbered .0);
       no-buffers = λ z. not-both true refl (numbered .1 (sym number ∙ z));
       as-wanted = λ ds ps tr ms a b c d.
-          let planned = plan-refused n o v ts hs ls q ds ps tr ms a b c d in
+          let planned = refused-alike n o ts hs ls (v ∷ []) ds ps tr ms q a b c d in
           (number ∙ ap (λ (a : Answer). a .number) (sym planned), ap (λ (a : Within). a .place) so ∙ ap (λ (a : Answer). a .place) (sym planned));
       zeros = (ap (λ (a : Within). a .within) so, ap (λ (a : Within). a .iterations) so);
     })

@@ -1,27 +1,14 @@
 -- What is answered where the table is refused, and where it is not. Assumes nothing.
 use mathlib.Core.Path.{_≡_, sym, ap, _∙_}
-use mathlib.Core.Bool.{true}
 use mathlib.Core.List.{List, [], _∷_}
 use Prim.Native.Nat.{ℕ, _^_}
 use borrow.Author.Tests.{eq-eqb, ne-eqb}
 use Rattle.table.specs.Table.{table-of, Below}
 use Rattle.table.specs.declared.Refusal.{Refusal}
-use Rattle.table.specs.Refusals.{Room, room, rooms-fit, table-refusal}
-use Rattle.auction.specs.Plan.{rooms}
 use Rattle.auction.proofs.Made.{Unrefused, unrefused}
 use Rattle.limit_answer.specs.Answer.{within, limit-refusal, limit-of, within-limit}
 
--- buffers that fit
-pub fitting : (n m : ℕ) {a b c d : ℕ} → a ≡ n → b ≡ n → c ≡ n → d ≡ m → rooms-fit (rooms n m a b c d) ≡ true
-unfolding rooms-fit rooms room
-fitting n m {a} {b} {c} {d} ea eb ec ed = rw (eq-eqb a n ea, eq-eqb b n eb, eq-eqb c n ec, eq-eqb d m ed)
-
 module _ (n o v : ℕ) (ts hs ls : List ℕ) where
-  -- THE REFUSAL is that of a wanted list of one, whatever buffers are lent that fit
-  pub as-wanted : (rs : List Room) → rooms-fit rs ≡ true → table-refusal n o ts hs ls (v ∷ []) rs ≡ limit-refusal n o v ts hs ls
-  unfolding limit-refusal table-refusal rooms-fit
-  as-wanted rs fit = rw fit
-
   module _ (f : Refusal) (e : f ≡ limit-refusal n o v ts hs ls) where
     -- where none applies
     pub fine : Below (2 ^ 32) ls → f .number ≡ 0 → Unrefused n o ts hs ls (v ∷ []) []

@@ -8,5 +8,7 @@ pub mod Returned
 pub mod Listable
 pub mod Senders
 pub mod Promised
+-- Where a listing is not refused, the node was given a walk.
+pub mod Given
 -- The rows of the examples.
 pub mod Examples

@@ -13,7 +13,7 @@ use Rattle.auction.specs.Limit.{limited, limited-state}
 use Rattle.auction.specs.Plan.{rooms}
 use Rattle.auction.proofs.Limit.{alone}
 use Rattle.limit_answer.specs.Answer.{within, limit-refusal, limit-of}
-use Rattle.limit_answer.proofs.Refused.{fitting, as-wanted}
+use Rattle.auction.proofs.Made.{fitting, without-rooms}
 use Rattle.solver.specs.Runs.{Ran-within}
 use Rattle.planner.proofs.Planning.{all-found}
 
@@ -30,4 +30,5 @@ limit-so t ws v limit m c found i x e ran so count =
 -- THE REFUSALS: no buffers are lent, so the code tests lengths that fit
 pub refusal-so : (n o v : ℕ) (ts hs ls : List ℕ) (f : Refusal) → f ≡ table-refusal n o ts hs ls (v ∷ []) (rooms n (length ts) n n n (length ts)) →
     f ≡ limit-refusal n o v ts hs ls
-refusal-so n o v ts hs ls f e = e ∙ as-wanted n o v ts hs ls _ (fitting n (length ts) refl refl refl refl)
+unfolding limit-refusal
+refusal-so n o v ts hs ls f e = e ∙ without-rooms n o ts hs ls (v ∷ []) _ (fitting n (length ts) refl refl refl refl)

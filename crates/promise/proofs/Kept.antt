@@ -1,5 +1,5 @@
--- The page of specs/Promise.antt, each promise by the proof that its crate has of it; and what is demanded of a plan, of a limit's answer and of a plan to a
--- collector once more, field by field, so that none of it can go missing. Assumes nothing.
+-- The page of specs/Promise.antt, each promise by the proof that its crate has of it; and what is demanded of a plan, of a limit's answer, of a plan to a
+-- collector and of keeping a path once more, field by field, so that none of it can go missing. Assumes nothing.
 use mathlib.Core.List.{List}
 use Prim.Native.Nat.{ℕ}
 use Rattle.table.specs.Table.{Table}
@@ -23,6 +23,10 @@ use Rattle.collector.proofs.Rows as Collector
 use Rattle.planner.proofs.Promised.{plans-kept, refusals-touch-nothing}
 use Rattle.listing.proofs.Promised.{routes-listed, plans-listed, senders-listed}
 use Rattle.listing.proofs.Examples as Paths
+use Rattle.keeping.specs.declared.Kept.{Kept}
+use Rattle.keeping.specs.Promises.{Through, Least-through, Kept-short, Keep-refused, Shortest, Beside}
+use Rattle.keeping.proofs.Promised.{total-is-least, no-total-no-walk, kept-is-short, keep-refusals, standing-kept, standing-kept-in}
+use Rattle.keeping.proofs.Rows as Keeping
 use Rattle.link_format.proofs.ReadThenWrite.{accepted-files-write-back}
 use Rattle.link_format.proofs.WriteThenRead.{written-tables-read-back, long-files-are-refused}
 use Rattle.link_format.proofs.Outcomes.{files-refused-by-number}
@@ -100,6 +104,12 @@ kept =
       routes-listed = routes-listed;
       plans-listed = plans-listed;
       senders-listed = senders-listed;
+      standing-kept = standing-kept;
+      standing-kept-in = standing-kept-in;
+      kept-is-short = kept-is-short;
+      keep-refusals = keep-refusals;
+      total-is-least = total-is-least;
+      no-total-no-walk = no-total-no-walk;
       accepted-files-write-back = accepted-files-write-back;
       written-tables-read-back = written-tables-read-back;
       read-then-write = read-then-write;
@@ -119,6 +129,7 @@ kept =
       limits = Limits.rows;
       collectors = Collector.rows-hold;
       listings = Paths.examples;
+      keepings = Keeping.rows;
       files = rows;
       sheets = Sheets.examples;
     }
@@ -200,3 +211,33 @@ kept-collects t senders a c =
       fewer = c .fewer;
       planned = c .planned;
     }
+
+pub kept-path : (t : Table) (standing fresh list : List ℕ) (k : Kept) → Kept-short t standing fresh list k → Kept-short t standing fresh list k
+kept-path t standing fresh list k s =
+    record {
+      one-of = s .one-of;
+      few = s .few;
+      begins = s .begins;
+      ends = s .ends;
+      fresh-total = s .fresh-total;
+      fresh-walk = s .fresh-walk;
+      list-total = s .list-total;
+      walk = s .walk;
+      no-longer = s .no-longer;
+      standing-stays = s .standing-stays;
+    }
+
+pub refused-path : (n : ℕ) (ts hs ls fresh list : List ℕ) (k : Kept) → Keep-refused n ts hs ls fresh list k → Keep-refused n ts hs ls fresh list k
+refused-path n ts hs ls fresh list k r = record { numbers = r .numbers; nothing = r .nothing; as-planned = r .as-planned; no-walk = r .no-walk }
+
+pub kept-beside : (n : ℕ) (ts hs ls : List ℕ) (u v : ℕ) (fresh : List ℕ) → Beside n ts hs ls u v fresh → Beside n ts hs ls u v fresh
+kept-beside n ts hs ls u v fresh b = record { accepted = b .accepted; short = b .short; kept = b .kept; only-so = b .only-so }
+
+pub shortest-path : (t : Table) (u v : ℕ) (vs : List ℕ) → Shortest t u v vs → Shortest t u v vs
+shortest-path t u v vs s = record { begins = s .begins; ends = s .ends; length-of = s .length-of; walk = s .walk; least = s .least }
+
+pub least-total : (t : Table) (vs : List ℕ) (d : ℕ) → Least-through t vs d → Least-through t vs d
+least-total t vs d l = record { below = l .below; walk = l .walk; through = l .through; as-long = l .as-long; least = l .least }
+
+pub walk-through : (t : Table) (walk vs : List ℕ) → Through t walk vs → Through t walk vs
+walk-through t walk vs x = record { leads-on = x .leads-on; nodes = x .nodes }

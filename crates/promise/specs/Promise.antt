@@ -15,6 +15,8 @@ use Rattle.collector.specs.Rows as Collector
 use Rattle.planner.specs.Promise.{Plans-kept, Refusals-touch-nothing}
 use Rattle.listing.specs.Promises.{Routes-listed, Plans-listed, Senders-listed}
 use Rattle.listing.specs.Examples as Paths
+use Rattle.keeping.specs.Promises.{Total-is-least, No-total-no-walk, Kept-is-short, Keep-refusals, Standing-kept, Standing-kept-in}
+use Rattle.keeping.specs.Rows as Keeping
 use Rattle.link_format.specs.Promises.{Accepted-files-write-back, Written-tables-read-back, Long-files-are-refused, Files-refused-by-number, Needless-is-not-canonical, Needless-header-is-not-canonical}
 use Rattle.link_format.specs.Rows as Files
 use Rattle.link_file.specs.Promises.{Write-then-read, Read-then-write, Answers-fit}
@@ -102,6 +104,14 @@ pub record Promise : Type 0 where
   pub routes-listed : Routes-listed
   pub plans-listed : Plans-listed
   pub senders-listed : Senders-listed
+  -- KEEPING THE STANDING PATH: beside the path of a finished plan it is kept exactly when it is still a walk between the same nodes and none is shorter;
+  -- whatever the lists are, what is given is a walk no longer than the fresh one
+  pub standing-kept : Standing-kept
+  pub standing-kept-in : Standing-kept-in
+  pub kept-is-short : Kept-is-short
+  pub keep-refusals : Keep-refusals
+  pub total-is-least : Total-is-least
+  pub no-total-no-walk : No-total-no-walk
   -- THE LINK FILE: every accepted file writes back unchanged, every written table reads back as it was
   pub accepted-files-write-back : Accepted-files-write-back
   pub written-tables-read-back : Written-tables-read-back
@@ -119,10 +129,11 @@ pub record Promise : Type 0 where
   pub in-order : In-order
   pub order-unseen : Order-unseen
   pub pieces-printed : Pieces-printed
-  -- THE ROWS: tables, limits, plans to a collector, listings, files and sheets, computed
+  -- THE ROWS: tables, limits, plans to a collector, listings, keepings, files and sheets, computed
   pub rack : Rack-holds
   pub limits : Limits.Rows
   pub collectors : Collector.Rows-hold
   pub listings : Paths.Examples
+  pub keepings : Keeping.Rows
   pub files : Files.Rows
   pub sheets : Sheets.Examples

@@ -10,7 +10,7 @@ use Rattle.auction.specs.HandOver.{first-missing}
 use Rattle.auction.specs.Limit.{limited}
 use Rattle.steps.specs.declared.state.RunState.{RunState}
 use Rattle.steps.specs.Seen.{held}
-use Rattle.steps.specs.Lists.{Star, Outgoing, Tails}
+use Rattle.forward_star.specs.Lists.{Star, Outgoing, Tails}
 use Rattle.steps.specs.Steps.{Ran}
 
 -- A run begins: at the state that `from` gives each table, the fresh one or the start

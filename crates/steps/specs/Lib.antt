@@ -1,4 +1,3 @@
 pub mod Seen
-pub mod Lists
 pub mod Memory
 pub mod Steps

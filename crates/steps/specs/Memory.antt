@@ -13,7 +13,7 @@ use Rattle.auction.specs.Auction.{State, kept-at, status-at, to-child, unreache
 use Rattle.steps.specs.declared.bids.LeastBid.{LeastBid}
 use Rattle.steps.specs.declared.state.RunState.{RunState}
 use Rattle.steps.specs.Seen.{held}
-use Rattle.steps.specs.Lists.{Star, Outgoing, Tails}
+use Rattle.forward_star.specs.Lists.{Star, Outgoing, Tails}
 
 -- A NODE FORGETS its child
 

@@ -13,7 +13,7 @@ use Rattle.steps.specs.declared.state.Progress.{Progress}
 use Rattle.steps.specs.declared.state.RunState.{RunState}
 use Rattle.steps.specs.declared.bids.LeastBid.{LeastBid}
 use Rattle.steps.specs.Seen.{seen, held, bid-of, greatest-sum, too-many}
-use Rattle.steps.specs.Lists.{Star, Outgoing}
+use Rattle.forward_star.specs.Lists.{Star, Outgoing}
 
 -- WHAT BECOMES OF THE ARRAYS: for each table whose forward star this is, they hold what `f` makes of the state that they held before.
 abbrev pub Becomes : (o : Star) → (f : Table → State → State) → (a b : RunState) → Type 0

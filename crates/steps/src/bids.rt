@@ -8,7 +8,7 @@ ghost use Rattle.auction.specs.Auction.{best};
 ghost use Rattle.steps.specs.declared.state.Progress.{Progress};
 ghost use Rattle.table.specs.Slices.{was};
 ghost use Rattle.steps.specs.Seen.{All-long, seen, greatest-sum};
-ghost use Rattle.steps.specs.Lists.{star, lent-star, Outgoing, Some-table};
+ghost use Rattle.forward_star.specs.Lists.{star, lent-star, Outgoing, Some-table};
 ghost use Rattle.steps.specs.Steps.{lower-of, bid-in, bid-over, Leads};
 use super::long;
 use super::state::RunState;

@@ -8,7 +8,7 @@ ghost use Rattle.auction.specs.Auction.{improves, offers, reach};
 ghost use Rattle.steps.specs.declared.state.Progress.{Progress};
 ghost use Rattle.table.specs.Slices.{was, left};
 ghost use Rattle.steps.specs.Seen.{All-long, bound-of, arc-of, arrays, greatest-sum};
-ghost use Rattle.steps.specs.Lists.{star, lent-star, Some-table};
+ghost use Rattle.forward_star.specs.Lists.{star, lent-star, Some-table};
 ghost use Rattle.steps.specs.Memory.{without-tail, Gives-up, Kept-in, Tails-known, Remembers, but};
 ghost use Rattle.steps.specs.Steps.{Becomes, Arc-offered};
 use super::long;

@@ -7,7 +7,7 @@ ghost use Rattle.table.specs.Table.{Table};
 ghost use Rattle.auction.specs.Auction.{deletion, contraction, extension};
 ghost use Rattle.table.specs.Slices.{was, left};
 ghost use Rattle.steps.specs.Seen.{All-long, seen, arrays, lent, back, greatest-sum, too-many};
-ghost use Rattle.steps.specs.Lists.{star, lent-star, Some-table};
+ghost use Rattle.forward_star.specs.Lists.{star, lent-star, Some-table};
 ghost use Rattle.steps.specs.Memory.{without-before, Has-before, Tails-known, Remembers, Remembered, those-reached};
 ghost use Rattle.steps.specs.Steps.{Becomes, Can-step, Leads, Steps};
 use super::bids::LeastBid;

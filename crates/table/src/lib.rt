@@ -72,6 +72,9 @@ impl Refusal {
     // A tree column does not lead back to the origin.
     pub const NO_PATH: u32 = 14;
 
+    // A fresh list of nodes is empty, too long or no walk.
+    pub const NO_WALK: u32 = 15;
+
     pub fn none() -> Refusal
         ensures { λ r. ⌜ r ≡ no-refusal ⌝ }
     {

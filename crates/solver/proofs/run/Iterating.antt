@@ -26,7 +26,7 @@ use Rattle.auction.proofs.Remembering.{scans-within}
 use Rattle.steps.specs.declared.state.Progress.{Progress}
 use Rattle.steps.specs.declared.bids.LeastBid.{LeastBid}
 use Rattle.steps.specs.Seen.{bid-of, seen, arrays, Sized, greatest-sum, too-many}
-use Rattle.steps.specs.Lists.{star, Outgoing}
+use Rattle.forward_star.specs.Lists.{star, Outgoing}
 use Rattle.steps.specs.Memory.{Has-before, Tails-known, Remembers, Remembered, those-reached}
 use Rattle.steps.specs.Steps.{bid-in, Leads, Becomes, Can-step, Steps}
 use Rattle.solver.specs.Runs.{Begun, Ran-within, All-forgotten, First-from}

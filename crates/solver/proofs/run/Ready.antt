@@ -19,7 +19,7 @@ use Rattle.auction.proofs.Invariant.Sound.{Chain}
 use Rattle.auction.proofs.Run.{Running, goes-on}
 use Rattle.steps.specs.declared.state.Progress.{Progress}
 use Rattle.steps.specs.Seen.{bound-of, bid-of, nodes-of, seen, greatest-sum, too-many}
-use Rattle.steps.specs.Lists.{star, Outgoing, Tails}
+use Rattle.forward_star.specs.Lists.{star, Outgoing, Tails}
 use Rattle.steps.specs.Memory.{Has-before, Kept-in, Kept-arcs}
 use Rattle.steps.specs.Steps.{Can-step}
 use Rattle.steps.proofs.Arrays.{seen-price, seen-bound, seen-kept, some-arc, some-bid, some-bound, no-bound}

@@ -13,7 +13,7 @@ use Rattle.auction.proofs.Steps.Bids.{best-bid}
 use Rattle.steps.specs.declared.state.Progress.{Progress}
 use Rattle.steps.specs.declared.bids.LeastBid.{LeastBid}
 use Rattle.steps.specs.Seen.{bid-of, seen, arrays}
-use Rattle.steps.specs.Lists.{star, Outgoing, Tails}
+use Rattle.forward_star.specs.Lists.{star, Outgoing, Tails}
 use Rattle.steps.specs.Memory.{without-before, Kept-arcs, Remembering, Remembered, those-reached}
 use Rattle.steps.specs.Steps.{bid-in, Leads}
 use Rattle.steps.proofs.Arrays.{seen-price, some-bid, no-bid}

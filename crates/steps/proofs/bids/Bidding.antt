@@ -14,10 +14,11 @@ use Rattle.auction.specs.Auction.{State, Bid, bid, best, best-from, to-child, w
 use Rattle.table.proofs.Basics.{same-or}
 use Rattle.steps.specs.declared.state.Progress.{Progress}
 use Rattle.steps.specs.Seen.{arc-of, bid-of, seen}
-use Rattle.steps.specs.Lists.{star, Outgoing}
+use Rattle.forward_star.specs.Lists.{star, Outgoing}
 use Rattle.steps.specs.Steps.{lower-of, bid-over}
 use Rattle.steps.proofs.Arrays.{some-arc, no-kept, some-bid, no-bid, seen-kept, seen-status, seen-price}
-use Rattle.steps.proofs.Arcs.{On-list, on-first, on-next, bids-first, bids-next, bids-done, lower-of-none, lower-of-bid}
+use Rattle.forward_star.proofs.Along.{On-list, on-first, on-next}
+use Rattle.steps.proofs.Arcs.{bids-first, bids-next, bids-done, lower-of-none, lower-of-bid}
 
 -- WHETHER AN ARC LEADS TO A CHILD
 module _ (t : Table) (i j : ℕ) (p u b k s : List ℕ) (g : Progress) (at : head-at t i ≡ j) (inside : j < length k) where

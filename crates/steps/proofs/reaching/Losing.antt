@@ -16,10 +16,10 @@ use Rattle.auction.specs.Auction.{State, state, kept-at, status-at, is-deleted,
 use Rattle.auction.proofs.Steps.Bids.{child, child-test}
 use Rattle.steps.specs.declared.state.Progress.{Progress}
 use Rattle.steps.specs.Seen.{arc-of, seen}
-use Rattle.steps.specs.Lists.{star, Outgoing, Tails}
+use Rattle.forward_star.specs.Lists.{star, Outgoing, Tails}
 use Rattle.steps.specs.Memory.{without-tail, Gives-up, Kept-in, Arc-into, Kept-arcs, Loses, Remembering, but}
 use Rattle.steps.proofs.Arrays.{some-arc, no-kept, seen-kept, seen-status}
-use Rattle.steps.proofs.Arcs.{On-list}
+use Rattle.forward_star.proofs.Along.{On-list}
 use Rattle.steps.proofs.Remembering.{same-child, arcs-alike, seen-alike, in-two, unchanged}
 
 -- AN ARC IS KEPT between state x and state y

@@ -14,10 +14,11 @@ use Rattle.auction.specs.Auction.{State, improves, takes, offer, offers, distan
 use Rattle.table.proofs.Basics.{same-or}
 use Rattle.steps.specs.declared.state.Progress.{Progress}
 use Rattle.steps.specs.Seen.{bound-of, arc-of, seen}
-use Rattle.steps.specs.Lists.{star, Outgoing}
+use Rattle.forward_star.specs.Lists.{star, Outgoing}
 use Rattle.steps.specs.Steps.{Arc-offered}
 use Rattle.steps.proofs.Arrays.{some-bound, some-arc, no-bound, no-kept, seen-bound, seen-kept, seen-status, store-kept, seen-distance}
-use Rattle.steps.proofs.Arcs.{On-list, on-first, on-next, offers-first, offers-next, offers-done}
+use Rattle.forward_star.proofs.Along.{On-list, on-first, on-next}
+use Rattle.steps.proofs.Arcs.{offers-first, offers-next, offers-done}
 
 -- WHETHER A BOUND IS KEPT
 module _ (o i b k : ℕ) (fits : o < no-distance) where

@@ -11,7 +11,7 @@ use Rattle.table.specs.Table.{Table}
 use Rattle.auction.specs.Auction.{best, most-iterations}
 use Rattle.steps.specs.declared.state.Progress.{Progress}
 use Rattle.steps.specs.Seen.{seen}
-use Rattle.steps.specs.Lists.{star, Outgoing, Some-table}
+use Rattle.forward_star.specs.Lists.{star, Outgoing, Some-table}
 use Rattle.steps.specs.Steps.{bid-in}
 use Rattle.solver.proofs.run.Ready.{Ready, few-in-all}
 use Rattle.solver.proofs.run.Iterating.{Iterating, Made, made-same, starts, now-ready, node-before, tails-known, few-scans, wanted-below, may-extend, may-step, by-memory, by-scan, continues, looked-for, still-missing, still-below, counted, ends, stops, passes}

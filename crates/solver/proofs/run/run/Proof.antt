@@ -6,10 +6,11 @@ use lib.ListN.{length, getD, take, drop, replicate}
 use Rattle.table.specs.Table.{Table, table-of, no-arc, no-node, most-nodes, most-arcs}
 use Rattle.auction.specs.Auction.{fresh}
 use Rattle.steps.specs.Seen.{arrays, held, Sized}
-use Rattle.steps.specs.Lists.{star}
+use Rattle.forward_star.specs.Lists.{star}
 use Rattle.solver.specs.Runs.{Begun, All-forgotten}
 use Rattle.table.proofs.Columns.{nodes-so}
-use Rattle.solver.proofs.run.Beginning.{tails-held, few-tails, few-nodes, tails-below, begun-fresh, prefix-fits, prefix-long, lent-again, filled-long, filled-with}
+use Rattle.forward_star.proofs.Columns.{tails-held, few-tails, few-nodes, tails-below, prefix-fits, prefix-long, lent-again, filled-long, filled-with}
+use Rattle.solver.proofs.run.Beginning.{begun-fresh}
 use borrow.Author.Needs.{needs}
 use Rattle.solver.proofs.run.run.Statement.{statement}
 use Rattle.solver.proofs.run.run.Tie as tie

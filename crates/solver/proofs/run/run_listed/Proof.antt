@@ -4,7 +4,7 @@ use lib.ListN.{length}
 use Rattle.table.specs.Table.{Table}
 use Rattle.auction.specs.Auction.{fresh}
 use Rattle.steps.specs.Seen.{arrays, held}
-use Rattle.steps.specs.Lists.{star, Some-table}
+use Rattle.forward_star.specs.Lists.{star, Some-table}
 use Rattle.solver.specs.Runs.{Begun, All-forgotten}
 use Rattle.solver.proofs.run.Beginning.{origin-below, origin-bound, origin-unreached, none-kept, no-arc-kept, still-forgotten, started}
 use Rattle.solver.proofs.run.run_listed.Statement.{statement}

@@ -6,7 +6,7 @@ use native.Mathlib.Omega.{arith}
 use lib.ListN.{getD}
 use Rattle.table.specs.Table.{no-arc}
 use Rattle.steps.specs.Steps.{Leads}
-use Rattle.steps.proofs.Arcs.{Readable, readable}
+use Rattle.forward_star.proofs.Along.{Readable, readable}
 use Rattle.steps.proofs.bids.Bidding.{Comparing, begins, goes-on, ends}
 use Rattle.steps.proofs.bids.least_bid.Statement.{statement}
 use Rattle.steps.proofs.bids.least_bid.Tie as tie

@@ -8,7 +8,7 @@ use Rattle.table.specs.Table.{no-arc}
 use Rattle.steps.specs.Memory.{Kept-in}
 use Rattle.steps.proofs.reaching.Offering.{Offering, begins, goes-on, ends}
 use Rattle.steps.proofs.reaching.Losing.{Forgetting, none-yet, one-more}
-use Rattle.steps.proofs.Arcs.{Readable, readable}
+use Rattle.forward_star.proofs.Along.{Readable, readable}
 use Rattle.steps.proofs.reaching.offer_arcs.Statement.{statement}
 use Rattle.steps.proofs.reaching.offer_arcs.Tie as tie
 

@@ -6,7 +6,7 @@ use Prim.Native.Nat.{ℕ, _≤_, _<_}
 use lib.ListN.{length, getD, set, length-set}
 use Rattle.table.specs.Table.{Table, arc-count, head-at}
 use Rattle.auction.specs.Auction.{State, price-at, extension}
-use Rattle.steps.specs.Lists.{star, Outgoing, Some-table}
+use Rattle.forward_star.specs.Lists.{star, Outgoing, Some-table}
 use Rattle.steps.specs.Seen.{arrays, held, greatest-sum}
 use Rattle.steps.proofs.Arrays.{seen-price}
 use Rattle.steps.proofs.steps.Stepping.{before-still, is-deletion, is-contraction, is-extension}

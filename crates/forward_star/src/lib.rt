@@ -1,10 +1,10 @@
-// The lists of each node's outgoing arcs.
+// THE FORWARD STAR: the lists of each node's outgoing arcs, linked in table order. specs/Lists.antt says what they hold.
 ghost use mathlib.Core.Path.{_≡_};
 ghost use Prim.Native.Nat.{ℕ, _≤_, _<_};
 ghost use lib.ListN.{length, getD};
 ghost use Rattle.table.specs.Table.{Table, no-arc, most-arcs};
 ghost use Rattle.table.specs.Slices.{was, left};
-ghost use Rattle.steps.specs.Lists.{Tails, Linked};
+ghost use Rattle.forward_star.specs.Lists.{Tails, Linked};
 use table::DOWN;
 use table::wide;
 

@@ -9,7 +9,7 @@ use lib.Seq.{getD-set-same, getD-set-other}
 use borrow.Author.Tests.{eq-eqb, ne-eqb}
 use Rattle.table.specs.Table.{Table, arc-count, tail-at, down, no-arc}
 use Rattle.table.proofs.Basics.{same-or}
-use Rattle.steps.specs.Lists.{next-out, Tails, Linked}
+use Rattle.forward_star.specs.Lists.{next-out, Tails, Linked}
 
 pub record Linked-from (t : Table) (p : ℕ) (first next : List ℕ) : Type 0 where
   pub first-arc : (v : ℕ) → v < t .n → getD first v 0 ≡ next-out (arc-count t - p) p t v

@@ -3,9 +3,9 @@ use Prim.Native.Nat.{_-_, _<_}
 use borrow.Author.Needs.{needs}
 use native.Mathlib.Omega.{arith}
 use lib.ListN.{length}
-use Rattle.solver.proofs.lists.Linking.{Linking, begins, goes-on, goes-past, ends}
-use Rattle.solver.proofs.lists.link_arcs.Statement.{statement}
-use Rattle.solver.proofs.lists.link_arcs.Tie as tie
+use Rattle.forward_star.proofs.Linking.{Linking, begins, goes-on, goes-past, ends}
+use Rattle.forward_star.proofs.link_arcs.Statement.{statement}
+use Rattle.forward_star.proofs.link_arcs.Tie as tie
 
 abbrev Inv-loop : tie.InvT-loop
 Inv-loop tails lengths first₀ next₀ p₀ first next p = Linking tails lengths first₀ first next p

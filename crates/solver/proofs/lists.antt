@@ -1,2 +1,0 @@
--- The lists of outgoing arcs, linked from the last arc to the first.
-pub mod Linking
