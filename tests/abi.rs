@@ -14,9 +14,9 @@ pub const NO_ARC: u16 = 65_535;
 pub const NO_DISTANCE: u64 = u64::MAX;
 
 /// The refusals in the order of their numbers, from 0.
-const REFUSALS: [&str; 15] = [
+const REFUSALS: [&str; 16] = [
     "NONE", "NODE_COUNT", "COLUMNS", "BUFFERS", "ORIGIN", "WANTED", "ARC_END", "ARC_LENGTH", "NO_ROUTE",
-    "CUT", "BIT_MAP", "IMPLIED_HEAD", "NEEDLESS", "ROOM", "NO_PATH",
+    "CUT", "BIT_MAP", "IMPLIED_HEAD", "NEEDLESS", "ROOM", "NO_PATH", "NO_WALK",
 ];
 
 #[repr(C)]
@@ -47,6 +47,15 @@ pub struct Within {
 pub struct Listed {
     pub number: u32,
     pub place: u32,
+    pub count: u32,
+}
+
+#[repr(C)]
+#[derive(Clone, Copy, Debug, Default, PartialEq)]
+pub struct Kept {
+    pub number: u32,
+    pub place: u32,
+    pub standing: u32,
     pub count: u32,
 }
 
@@ -129,6 +138,15 @@ extern "C" {
         tree: *const u16, tree_count: usize,
         output: *mut u16, output_count: usize,
     ) -> Listed;
+
+    fn kestrelore_keep_path(
+        n: u32,
+        tails: *const u16, tails_count: usize,
+        heads: *const u16, heads_count: usize,
+        lengths: *const u32, lengths_count: usize,
+        standing: *const u16, standing_count: usize,
+        fresh: *const u16, fresh_count: usize,
+    ) -> Kept;
 
     fn kestrelore_read_link_file(
         file: *const u8, file_count: usize,
@@ -231,6 +249,19 @@ pub fn list_to_collector(collector: u16, node: u16, tails: &[u16], heads: &[u16]
     }
 }
 
+pub fn keep_path(n: u32, columns: Columns, standing: &[u16], fresh: &[u16]) -> Kept {
+    unsafe {
+        kestrelore_keep_path(
+            n,
+            columns.tails.as_ptr(), columns.tails.len(),
+            columns.heads.as_ptr(), columns.heads.len(),
+            columns.lengths.as_ptr(), columns.lengths.len(),
+            standing.as_ptr(), standing.len(),
+            fresh.as_ptr(), fresh.len(),
+        )
+    }
+}
+
 pub fn read_link_file(file: &[u8], out: ReadBuffers) -> TableRead {
     unsafe {
         kestrelore_read_link_file(
@@ -276,6 +307,7 @@ pub fn layout() -> Result<String, std::fmt::Error> {
         number place reached horizon iterations contractions extensions deletions scans);
     struct_lines!(text, "kestrelore_within", Within, number place within iterations);
     struct_lines!(text, "kestrelore_listed", Listed, number place count);
+    struct_lines!(text, "kestrelore_kept", Kept, number place standing count);
     struct_lines!(text, "kestrelore_table_read", TableRead, number place n origin arcs wanted);
     struct_lines!(text, "kestrelore_written", Written, number place length);
     for (name, limit) in [

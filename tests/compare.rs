@@ -5,6 +5,7 @@ use crate::lent::{Element, Lent};
 use crate::model::RIGHT;
 use crate::optimality::{self, Filled};
 use crate::rules::*;
+use std::hint::black_box;
 
 pub type Verdict = Result<(), String>;
 
@@ -249,6 +250,49 @@ fn list_by(list: ListPath, entries: &dyn Entries, listing: &Listing, room: usize
         .and_then(|()| same("output", &output, &model))
         .and_then(|()| rest_untouched("output", &output, expected.count as usize))
         .map_err(|fault| format!("{fault}\n  room {room}, {listing:?}"))
+}
+
+// Keeping a path.
+
+/// A list that was lent to be read is as it was, and so is what lies beside it.
+fn unwritten<T: Element>(name: &str, lent: &Lent<T>, list: &[T]) -> Verdict {
+    // It was lent unchangeable; what it holds now is read anew.
+    let lent = black_box(lent);
+    let as_it_was = lent.guards_hold() && lent.held() == list;
+    if as_it_was { Ok(()) } else { Err(format!("{name}: written, in the list or beside it")) }
+}
+
+fn compare_keep(entries: &dyn Entries, table: &Table, standing: &[u16], fresh: &[u16]) -> Result<Kept, String> {
+    let (tails, heads, lengths) = (Lent::of(&table.tails), Lent::of(&table.heads), Lent::of(&table.lengths));
+    let (lent_standing, lent_fresh) = (Lent::of(standing), Lent::of(fresh));
+    let columns = Columns { tails: tails.held(), heads: heads.held(), lengths: lengths.held() };
+    let answer = entries.keep(table.n, columns, lent_standing.held(), lent_fresh.held());
+    same_answer(&answer, &RIGHT.keep(table.n, table.columns(), standing, fresh))?;
+    unwritten("tails", &tails, &table.tails)?;
+    unwritten("heads", &heads, &table.heads)?;
+    unwritten("lengths", &lengths, &table.lengths)?;
+    unwritten("standing", &lent_standing, standing)?;
+    unwritten("fresh", &lent_fresh, fresh)?;
+    Ok(answer)
+}
+
+/// Compares which path is kept, and gives the answer; a failing table and its lists are made smaller before they are shown.
+pub fn keep(entries: &dyn Entries, table: &Table, standing: &[u16], fresh: &[u16]) -> Result<Kept, String> {
+    let fails = |table: &Table, standing: &[u16], fresh: &[u16]| compare_keep(entries, table, standing, fresh).is_err();
+    let first = compare_keep(entries, table, standing, fresh);
+    if first.is_ok() {
+        return first;
+    }
+    let table = smaller_table(table, &|table| fails(table, standing, fresh));
+    let standing = smaller(standing.to_vec(), &|standing| fails(&table, standing, fresh));
+    let fresh = smaller(fresh.to_vec(), &|fresh| fails(&table, &standing, fresh));
+    let lists = format!("standing {}, fresh {}", list_words(&standing), list_words(&fresh));
+    compare_keep(entries, &table, &standing, &fresh).map_err(|fault| format!("{fault}\n  {lists}, {}", table_words(&table)))
+}
+
+/// The nodes of a list; of a very long one its start.
+fn list_words(list: &[u16]) -> String {
+    format!("{} nodes {:?}", list.len(), &list[..list.len().min(1_100)])
 }
 
 // Reading and writing link files.

@@ -27,6 +27,11 @@ int main(void)
     FIELD(kestrelore_listed, number);
     FIELD(kestrelore_listed, place);
     FIELD(kestrelore_listed, count);
+    STRUCT(kestrelore_kept);
+    FIELD(kestrelore_kept, number);
+    FIELD(kestrelore_kept, place);
+    FIELD(kestrelore_kept, standing);
+    FIELD(kestrelore_kept, count);
     STRUCT(kestrelore_table_read);
     FIELD(kestrelore_table_read, number);
     FIELD(kestrelore_table_read, place);
@@ -60,5 +65,6 @@ int main(void)
     NUMBER(KESTRELORE_NEEDLESS);
     NUMBER(KESTRELORE_ROOM);
     NUMBER(KESTRELORE_NO_PATH);
+    NUMBER(KESTRELORE_NO_WALK);
     return 0;
 }

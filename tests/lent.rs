@@ -31,6 +31,13 @@ impl<T: Element> Lent<T> {
         Lent { whole: (0..length + 2 * GUARD).map(filling).collect(), length }
     }
 
+    /// Lends a list that has its elements already, to be read.
+    pub fn of(list: &[T]) -> Lent<T> {
+        let mut lent = Lent::new(list.len());
+        lent.part().copy_from_slice(list);
+        lent
+    }
+
     pub fn part(&mut self) -> &mut [T] {
         &mut self.whole[GUARD..GUARD + self.length]
     }

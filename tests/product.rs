@@ -34,6 +34,10 @@ impl Entries for Product {
         list_to_collector(listing.origin, listing.node, &listing.tails, &listing.heads, &listing.tree, output)
     }
 
+    fn keep(&self, n: u32, columns: Columns, standing: &[u16], fresh: &[u16]) -> Kept {
+        keep_path(n, columns, standing, fresh)
+    }
+
     fn read(&self, file: &[u8], out: ReadBuffers) -> TableRead {
         read_link_file(file, out)
     }

@@ -85,7 +85,7 @@ pub fn refuse<T>(number: u32, place: usize) -> Result<T, Refusal> {
     Err(Refusal { number, place: place as u32 })
 }
 
-/// The seven functions of the library, and the program from its standard input to its standard output. In the two that
+/// The eight functions of the library, and the program from its standard input to its standard output. In the two that
 /// go to a collector it stands as the origin, and the senders as the wanted nodes.
 pub trait Entries: Sync {
     fn plan(&self, table: &Table, out: PlanBuffers) -> Planned;
@@ -94,6 +94,8 @@ pub trait Entries: Sync {
     fn within(&self, table: &Table, node: u16, limit: u64) -> Within;
     fn list(&self, listing: &Listing, output: &mut [u16]) -> Listed;
     fn list_to_collector(&self, listing: &Listing, output: &mut [u16]) -> Listed;
+    /// Which of the two paths is kept.
+    fn keep(&self, n: u32, columns: Columns, standing: &[u16], fresh: &[u16]) -> Kept;
     fn read(&self, file: &[u8], out: ReadBuffers) -> TableRead;
     fn write(&self, table: &Table, output: &mut [u8]) -> Written;
     fn print(&self, file: &[u8]) -> Result<String, String>;

@@ -3,6 +3,7 @@
 pub mod collector;
 pub mod files;
 pub mod grounds;
+pub mod keeping;
 pub mod listings;
 pub mod plans;
 pub mod program;
@@ -22,8 +23,9 @@ pub struct Group {
 
 /// The quick ones first, since a faulty model goes through them until one notices its fault.
 pub fn groups() -> Vec<Group> {
-    let quick = [rack::GROUPS, grounds::GROUPS, listings::GROUPS, collector::QUICK, program::GROUPS, files::GROUPS].concat();
-    [&quick, plans::GROUPS, within::GROUPS, collector::GROUPS].concat()
+    let quick = [keeping::GROUPS, rack::GROUPS, grounds::GROUPS, listings::GROUPS, collector::QUICK].concat();
+    let plans = [plans::GROUPS, within::GROUPS, collector::GROUPS].concat();
+    [&quick, program::GROUPS, files::GROUPS, &plans].concat()
 }
 
 /// T of 01, with the given number of nodes and wanted list.

@@ -2,6 +2,7 @@
 
 mod auction;
 mod collector;
+mod keeping;
 mod link_file;
 mod listing;
 mod planner;
@@ -77,9 +78,35 @@ pub enum Wrong {
     CollectorsEntryRead,
     CollectorRoomFirst,
     RefusedListFills,
+    EqualStandingDropped,
+    StepByLongest,
+    StepByFirst,
+    StepByLast,
+    StepOverDown,
+    StepBackwards,
+    LongestStepAbsent,
+    RepeatNeedsNoLoop,
+    LastStepUncounted,
+    TotalsCutTo32Bits,
+    StandingStartUncompared,
+    StandingEndUncompared,
+    StandingRefused,
+    EmptyStandingKept,
+    LongStandingKept,
+    FullListRefused,
+    LoneNodeRefused,
+    LoneNodeUntested,
+    EmptyFreshTaken,
+    LongFreshTaken,
+    FreshUntested,
+    WalkTestedBeforeArcs,
+    KeepingDownUntested,
+    NoWalkPlaceIsStep,
+    RefusalCountsFresh,
+    FreshCountGiven,
 }
 
-pub const ALL_WRONG: [Wrong; 64] = [
+pub const ALL_WRONG: [Wrong; 90] = [
     Wrong::TieByFirstMet,
     Wrong::HorizonFromRawPrice,
     Wrong::RawPrices,
@@ -144,6 +171,32 @@ pub const ALL_WRONG: [Wrong; 64] = [
     Wrong::CollectorsEntryRead,
     Wrong::CollectorRoomFirst,
     Wrong::RefusedListFills,
+    Wrong::EqualStandingDropped,
+    Wrong::StepByLongest,
+    Wrong::StepByFirst,
+    Wrong::StepByLast,
+    Wrong::StepOverDown,
+    Wrong::StepBackwards,
+    Wrong::LongestStepAbsent,
+    Wrong::RepeatNeedsNoLoop,
+    Wrong::LastStepUncounted,
+    Wrong::TotalsCutTo32Bits,
+    Wrong::StandingStartUncompared,
+    Wrong::StandingEndUncompared,
+    Wrong::StandingRefused,
+    Wrong::EmptyStandingKept,
+    Wrong::LongStandingKept,
+    Wrong::FullListRefused,
+    Wrong::LoneNodeRefused,
+    Wrong::LoneNodeUntested,
+    Wrong::EmptyFreshTaken,
+    Wrong::LongFreshTaken,
+    Wrong::FreshUntested,
+    Wrong::WalkTestedBeforeArcs,
+    Wrong::KeepingDownUntested,
+    Wrong::NoWalkPlaceIsStep,
+    Wrong::RefusalCountsFresh,
+    Wrong::FreshCountGiven,
 ];
 
 /// The rules, or with a fault.
@@ -193,6 +246,12 @@ impl Entries for Model {
             output.iter_mut().zip(nodes).for_each(|(place, node)| *place = node);
         }
         listed(self.nodes_to_collector(listing, output.len()), output)
+    }
+
+    fn keep(&self, n: u32, columns: Columns, standing: &[u16], fresh: &[u16]) -> Kept {
+        let Columns { tails, heads, lengths } = columns;
+        let (tails, heads, lengths) = (tails.to_vec(), heads.to_vec(), lengths.to_vec());
+        self.keep_path(&Table { n, tails, heads, lengths, ..Table::default() }, standing, fresh)
     }
 
     fn read(&self, file: &[u8], out: ReadBuffers) -> TableRead {
