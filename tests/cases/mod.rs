@@ -8,6 +8,7 @@ pub mod listings;
 pub mod plans;
 pub mod program;
 pub mod rack;
+pub mod walks;
 pub mod within;
 
 use crate::random::Random;
@@ -24,7 +25,7 @@ pub struct Group {
 /// The quick ones first, since a faulty model goes through them until one notices its fault.
 pub fn groups() -> Vec<Group> {
     let quick = [keeping::GROUPS, rack::GROUPS, grounds::GROUPS, listings::GROUPS, collector::QUICK].concat();
-    let plans = [plans::GROUPS, within::GROUPS, collector::GROUPS].concat();
+    let plans = [plans::GROUPS, within::GROUPS, collector::GROUPS, walks::GROUPS].concat();
     [&quick, program::GROUPS, files::GROUPS, &plans].concat()
 }
 
