@@ -116,6 +116,10 @@ fn main() -> ExitCode {
         let name = format!("the optimality check of plans to a collector alone notices {fault:?}");
         tests.push(cases(name, move |random| wrong::noticed_to_collector(fault, random)));
     }
+    for fault in wrong::AGAINST_KEEPING {
+        let name = format!("beside finished plans the least distances alone notice {fault:?}");
+        tests.push(cases(name, move |random| wrong::noticed_beside_plans(fault, random)));
+    }
     let passed = run_all(&tests, seed);
     let failed = tests.len() - passed;
     println!("{passed} passed, {failed} failed");

@@ -1,9 +1,11 @@
 //! Checks a finished plan without any auction: least distances over all walks by relaxing every arc
 //! until nothing changes, then each promise about distances, links, prices, walks and "no route"; and
-//! by the same distances whether a node is within a limit. A plan to a collector is checked on the
-//! table as it stands: the collector is its origin, and the senders are its wanted nodes.
+//! by the same distances whether a node is within a limit, and which path is kept beside that of a
+//! finished plan. A plan to a collector is checked on the table as it stands: the collector is its
+//! origin, and the senders are its wanted nodes.
 
 use crate::rules::*;
+use std::collections::BTreeMap;
 
 /// The four buffers of a plan, filled.
 #[derive(Debug, PartialEq)]
@@ -25,7 +27,7 @@ pub fn least_distances(table: &Table) -> Vec<Option<u64>> {
 }
 
 /// The least length of all walks from each node to the collector; none where there is no walk.
-fn least_to_collector(table: &Table) -> Vec<Option<u64>> {
+pub fn least_to_collector(table: &Table) -> Vec<Option<u64>> {
     least_over(table, |(tail, head, _)| (head, tail))
 }
 
@@ -241,4 +243,30 @@ fn walk_to_collector(table: &Table, filled: &Filled, node: u16) -> Result<Vec<u1
     }
     demand(total == filled.distances[node as usize], || format!("node {node}: walk {total}"))?;
     Ok(nodes)
+}
+
+// Keeping a path.
+
+/// The total of the walk through the nodes by the shortest arcs; none where there is no such walk.
+fn total(table: &Table, nodes: &[u16]) -> Option<u64> {
+    let mut shortest = BTreeMap::new();
+    for (_, (tail, head, length)) in present_arcs(table) {
+        let least = shortest.entry((tail, head)).or_insert(length);
+        *least = length.min(*least);
+    }
+    nodes.windows(2).map(|step| shortest.get(&(step[0], step[1])).map(|&length| length as u64)).sum()
+}
+
+/// Checks which path is kept beside the fresh one of a finished plan, whose total is the least distance: the standing one
+/// exactly where it is a walk between the same two nodes and its total is the least distance as well.
+pub fn check_kept(
+    table: &Table, least: Option<u64>, standing: &[u16], fresh: &[u16], kept: &Kept,
+) -> Result<(), String> {
+    let fresh_total = total(table, fresh);
+    demand(least.is_some() && fresh_total == least, || format!("the fresh path's total is {fresh_total:?}, not {least:?}"))?;
+    let same_ends = standing.first() == fresh.first() && standing.last() == fresh.last();
+    let stands = same_ends && total(table, standing) == least;
+    let count = if stands { standing.len() } else { fresh.len() } as u32;
+    let expected = Kept { number: 0, place: 0, standing: stands as u32, count };
+    demand(*kept == expected, || format!("least distance {least:?}: {kept:?}, must be {expected:?}"))
 }

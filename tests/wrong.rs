@@ -1,5 +1,6 @@
 //! Tests that cannot fail are worth nothing: the cases must notice each fault built into the model.
 
+use crate::cases::beside::{beside_plan, Way};
 use crate::cases::within::limits_about;
 use crate::cases::{self, Tried};
 use crate::product::{Product, Unread};
@@ -60,6 +61,26 @@ pub const AGAINST_COLLECTOR: [Wrong; 7] = [
     Wrong::EntryNotMirrored,
 ];
 
+/// The faults that tell wrongly, beside the fresh path of a finished plan, which path is kept.
+pub const AGAINST_KEEPING: [Wrong; 16] = [
+    Wrong::EqualStandingDropped,
+    Wrong::StepByLongest,
+    Wrong::StepByFirst,
+    Wrong::StepByLast,
+    Wrong::StepOverDown,
+    Wrong::StepBackwards,
+    Wrong::LongestStepAbsent,
+    Wrong::RepeatNeedsNoLoop,
+    Wrong::LastStepUncounted,
+    Wrong::TotalsCutTo32Bits,
+    Wrong::StandingStartUncompared,
+    Wrong::StandingEndUncompared,
+    Wrong::StandingRefused,
+    Wrong::EmptyStandingKept,
+    Wrong::LoneNodeRefused,
+    Wrong::FreshCountGiven,
+];
+
 /// Random tables until one is judged to be answered wrongly.
 fn tables_until(random: &mut Random, wrong: impl Fn(&Table, &mut Random) -> bool) -> Tried {
     for tried in 1..=20_000 {
@@ -103,6 +124,15 @@ pub fn noticed_to_collector(fault: Wrong, random: &mut Random) -> Tried {
         optimality::check_to_collector(&table, &plan, &filled).is_err()
             || filled.distances[node as usize] != NO_DISTANCE
                 && optimality::check_listed_to_collector(&table, &filled, node, &output[..count]).is_err()
+    })
+}
+
+pub fn noticed_beside_plans(fault: Wrong, random: &mut Random) -> Tried {
+    let faulty = Model { wrong: Some(fault) };
+    let ask = |table: &Table, standing: &[u16], fresh: &[u16]| Ok(faulty.keep(table.n, table.columns(), standing, fresh));
+    tables_until(random, |table, random| {
+        let (way, table) = random.pick(&[(Way::FromOrigin, table.clone()), (Way::ToCollector, table.exchanged())]);
+        beside_plan(&faulty, &ask, way, random, &table).is_err()
     })
 }
 

@@ -1,5 +1,6 @@
 //! The cases, in groups. Each group takes a product and gives how many cases it tried.
 
+pub mod beside;
 pub mod collector;
 pub mod files;
 pub mod grounds;
@@ -25,7 +26,7 @@ pub struct Group {
 /// The quick ones first, since a faulty model goes through them until one notices its fault.
 pub fn groups() -> Vec<Group> {
     let quick = [keeping::GROUPS, rack::GROUPS, grounds::GROUPS, listings::GROUPS, collector::QUICK].concat();
-    let plans = [plans::GROUPS, within::GROUPS, collector::GROUPS, walks::GROUPS].concat();
+    let plans = [plans::GROUPS, within::GROUPS, collector::GROUPS, walks::GROUPS, beside::GROUPS].concat();
     [&quick, program::GROUPS, files::GROUPS, &plans].concat()
 }
 

@@ -35,6 +35,13 @@ impl Seen {
         self.other_standing += (answer.standing == 1 && !same_list) as usize;
     }
 
+    pub fn join(&mut self, other: Seen) {
+        self.standing += other.standing;
+        self.fresh += other.fresh;
+        self.refused += other.refused;
+        self.other_standing += other.other_standing;
+    }
+
     /// How many cases there were. In at least so many of them the fresh path was kept, and in as many a standing one that
     /// was another list.
     pub fn enough(&self, least: usize) -> Tried {
