@@ -1,6 +1,6 @@
 //! The library's functions on the benchmark's tables, and the C and C++ functions of this folder.
 
-use crate::abi::{self, Columns, Listed, PlanBuffers, Planned, Within, Written};
+use crate::abi::{self, Columns, Kept, Listed, PlanBuffers, Planned, Within, Written};
 use crate::auction::Plan;
 use crate::tables::Table;
 use std::ffi::c_void;
@@ -61,6 +61,10 @@ pub fn list(table: &Table, node: u16, tree: &[u16], output: &mut [u16]) -> Liste
 
 pub fn list_to_collector(table: &Table, node: u16, tree: &[u16], output: &mut [u16]) -> Listed {
     abi::list_to_collector(0, node, &table.tails, &table.heads, tree, output)
+}
+
+pub fn keep(table: &Table, standing: &[u16], fresh: &[u16]) -> Kept {
+    abi::keep_path(table.n as u32, columns(table), standing, fresh)
 }
 
 pub fn write(table: &Table, wanted: &[u16], output: &mut [u8]) -> Written {

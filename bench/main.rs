@@ -15,7 +15,7 @@ mod report;
 mod tables;
 
 use plot::Curve;
-use report::{Machine, Row};
+use report::{KeepingRow, Machine, Row};
 use std::path::Path;
 use tables::{Table, FAMILIES};
 
@@ -42,6 +42,23 @@ fn rows() -> Vec<Row> {
             rows.push(row);
         }
     }
+    rows
+}
+
+/// Keeping the path to the node in the middle, and the longest list on the table where a step looks at the most arcs.
+fn keeping_rows() -> Vec<KeepingRow> {
+    let mut rows = Vec::new();
+    let mut add = |name, table: &Table, path: &[u16]| {
+        let row = KeepingRow { name, n: table.n, m: table.tails.len(), keeping: measure::keeping(table, path) };
+        println!("{}", report::keeping_line(&row));
+        rows.push(row);
+    };
+    for family in &FAMILIES {
+        let table = (family.make)(family.n);
+        add(family.name, &table, &measure::path_to(&table, measure::middle_node(&table)));
+    }
+    let to_and_fro: Vec<u16> = (0..abi::MOST_NODES as u16).map(|place| place % 2).collect();
+    add("two nodes", &tables::two_nodes(), &to_and_fro);
     rows
 }
 
@@ -76,11 +93,12 @@ fn main() -> std::io::Result<()> {
         before,
     };
     let rows = rows();
+    let keeping = keeping_rows();
     let stack = measure::stack(&tables::sparse(1_024));
-    let measure::Stack { plan, plan_to_collector, within, list, list_to_collector, read, write } = stack;
+    let measure::Stack { plan, plan_to_collector, within, list, list_to_collector, keep, read, write } = stack;
     println!("stack: plan {plan}, to a collector {plan_to_collector}, within {within} bytes");
-    println!("stack: list {list}, to a collector {list_to_collector}, read {read}, write {write} bytes");
+    println!("stack: list {list}, to a collector {list_to_collector}, keep {keep}, read {read}, write {write} bytes");
     let plot_name = Path::new(plot).file_name().unwrap_or_default().to_string_lossy();
     std::fs::write(plot, plot::svg(&curves()))?;
-    std::fs::write(page, report::page(&machine, &rows, &stack, &plot_name))
+    std::fs::write(page, report::page(&machine, &rows, &keeping, &stack, &plot_name))
 }

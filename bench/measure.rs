@@ -1,6 +1,6 @@
 //! Times of the planners on one table, and the stack that the library's calls need.
 
-use crate::abi::{self, Planned, ReadBuffers, LONGEST_FILE, MOST_ARCS, MOST_WANTED};
+use crate::abi::{self, Kept, Planned, ReadBuffers, LONGEST_FILE, MOST_ARCS, MOST_WANTED};
 use crate::auction::{self, Counts, Plan};
 use crate::dijkstra;
 use crate::library::{self, nanoseconds, Peer};
@@ -124,13 +124,43 @@ pub fn middle_node(table: &Table) -> u16 {
     nodes[nodes.len() / 2]
 }
 
-/// Bytes of stack that the seven functions need.
+/// Nanoseconds of keeping a path of so many nodes, and of the plan for its last node.
+pub struct Keeping {
+    pub nodes: usize,
+    pub keep: f64,
+    pub plan: f64,
+}
+
+/// The path to a node as a plan for that node lists it.
+pub fn path_to(table: &Table, node: u16) -> Vec<u16> {
+    let mut plan = Plan::new(table);
+    library::plan(table, &[node], &mut plan);
+    let mut path = vec![0; table.n];
+    let listed = library::list(table, node, &plan.tree, &mut path);
+    path.truncate(listed.count as usize);
+    path
+}
+
+/// Measures keeping a path beside itself, so that all of both lists is looked at.
+pub fn keeping(table: &Table, path: &[u16]) -> Keeping {
+    let stays = Kept { standing: 1, count: path.len() as u32, ..Kept::default() };
+    assert_eq!(library::keep(table, path, path), stays);
+    let wanted = [path[path.len() - 1]];
+    let mut plan = Plan::new(table);
+    let mut by_keeping = || finish(library::keep(table, path, path));
+    let mut by_planning = || finish(library::plan(table, &wanted, &mut plan));
+    let times = medians(&mut [&mut by_keeping, &mut by_planning]);
+    Keeping { nodes: path.len(), keep: times[0], plan: times[1] }
+}
+
+/// Bytes of stack that the eight functions need.
 pub struct Stack {
     pub plan: usize,
     pub plan_to_collector: usize,
     pub within: usize,
     pub list: usize,
     pub list_to_collector: usize,
+    pub keep: usize,
     pub read: usize,
     pub write: usize,
 }
@@ -162,6 +192,7 @@ pub fn stack(table: &Table) -> Stack {
     let collector_stack = used_by(&mut || finish(library::plan_to_collector(table, &wanted, &mut collected)));
     let last = wanted[wanted.len() - 1];
     let mut path = vec![0; table.n];
+    let route = path_to(table, last);
     let mut file = vec![0; LONGEST_FILE];
     let length = library::write(table, &wanted, &mut file).length as usize;
     let written = file[..length].to_vec();
@@ -177,6 +208,7 @@ pub fn stack(table: &Table) -> Stack {
         within: used_by(&mut || finish(library::within(table, last, u64::MAX))),
         list: used_by(&mut || finish(library::list(table, last, &plan.tree, &mut path))),
         list_to_collector: used_by(&mut || finish(library::list_to_collector(table, last, &collected.tree, &mut path))),
+        keep: used_by(&mut || finish(library::keep(table, &route, &route))),
         read: used_by(&mut read),
         write: used_by(&mut || finish(library::write(table, &wanted, &mut file))),
     }

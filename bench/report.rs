@@ -1,6 +1,6 @@
 //! The table of measurements as a page, and as lines while it is measured.
 
-use crate::measure::{Stack, Times};
+use crate::measure::{Keeping, Stack, Times};
 use std::fmt::Write;
 
 pub struct Row {
@@ -9,6 +9,18 @@ pub struct Row {
     pub n: usize,
     pub m: usize,
     pub times: Times,
+}
+
+pub struct KeepingRow {
+    pub name: &'static str,
+    pub n: usize,
+    pub m: usize,
+    pub keeping: Keeping,
+}
+
+pub fn keeping_line(row: &KeepingRow) -> String {
+    let KeepingRow { name, n, m, keeping: Keeping { nodes, keep, plan } } = row;
+    format!("| {name} | {n} | {m} | {nodes} | {:.1} | {} |", keep / 1e3, ratio(keep / plan))
 }
 
 /// Where it was measured, in words.
@@ -60,7 +72,7 @@ fn names(rows: &[Row], holds: impl Fn(&Times) -> bool) -> String {
     names.join(", ")
 }
 
-pub fn page(machine: &Machine, rows: &[Row], stack: &Stack, plot: &str) -> String {
+pub fn page(machine: &Machine, rows: &[Row], keeping: &[KeepingRow], stack: &Stack, plot: &str) -> String {
     let Machine { date, processor, cores, compilers, before } = machine;
     let mut page = String::new();
     let mut add = |text: &str| page.write_str(text).expect("a string takes every text");
@@ -91,6 +103,13 @@ pub fn page(machine: &Machine, rows: &[Row], stack: &Stack, plot: &str) -> Strin
     add(&format!("- Boost, its graph ready, is faster on: {}.\n", names(rows, |t| t.boost < t.library)));
     add("\n## Time against n\n\nAll nodes wanted; solid: the library, dashed: the heap Dijkstra.\n\n");
     add(&format!("![Time against the number of nodes]({plot})\n"));
+    add("\n## Keeping a path\n\n");
+    add("Keeping the path to the node in the middle beside itself, so that all of both lists is looked at: ");
+    add("the arcs are linked once, then each step looks at the arcs out of its node. ");
+    add("The last table has the most to look at, 6,000 arcs between two nodes, half of them each way, and lists of 1,024 nodes. ");
+    add("The ratio is to the library's plan for the path's last node, measured by turns.\n\n");
+    add("| table | n | m | nodes of the path | keeping, µs | to the plan |\n|---|--:|--:|--:|--:|--:|\n");
+    keeping.iter().for_each(|row| add(&(keeping_line(row) + "\n")));
     add("\n## Stack\n\nThe calls allocate nothing; all working memory is on the stack. ");
     add("Measured with 1,024 nodes and 6,000 arcs on a painted stack; the caller's frame, which holds the arguments, is included, ");
     add("and less than 256 bytes cannot be seen:\n\n| function | bytes |\n|---|--:|\n");
@@ -99,6 +118,7 @@ pub fn page(machine: &Machine, rows: &[Row], stack: &Stack, plot: &str) -> Strin
     add(&format!("| `kestrelore_within_limit` | {} |\n", stack.within));
     add(&format!("| `kestrelore_list_path` | {} |\n", stack.list));
     add(&format!("| `kestrelore_list_to_collector` | {} |\n", stack.list_to_collector));
+    add(&format!("| `kestrelore_keep_path` | {} |\n", stack.keep));
     add(&format!("| `kestrelore_read_link_file` | {} |\n", stack.read));
     add(&format!("| `kestrelore_write_link_file` | {} |\n", stack.write));
     page

@@ -57,6 +57,11 @@ pub fn sparse(n: usize) -> Table {
     with_lengths(n, tree.into_iter().chain(others))
 }
 
+/// Two nodes with as many arcs as there may be, half of them each way: where a step looks at the most arcs.
+pub fn two_nodes() -> Table {
+    with_lengths(2, (0..6_000).map(|place| (place % 2, 1 - place % 2)))
+}
+
 fn dense(n: usize) -> Table {
     with_lengths(n, (0..n * n).map(|pair| (pair / n, pair % n)).filter(|pair| pair.0 != pair.1))
 }

@@ -17,8 +17,8 @@
  *
  * Calls share nothing: there is no global state, no allocation and no call out of the library but
  * to memcpy and memset, so two threads may call at once. Stack needed, measured on x86-64
- * (docs/PERFORMANCE.md): planning, either way, 38,520 bytes, asking for a limit 38,168, each other
- * call less than 512.
+ * (docs/PERFORMANCE.md): planning, either way, 38,520 bytes, asking for a limit 38,168, keeping a
+ * path 14,248, each other call less than 512.
  *
  * Every answer starts with a number and a place: kestrelore_refusal lists them. docs/RULES.md has
  * the rules of planning, the file format with an example byte by byte, and the order of the tests.
@@ -43,8 +43,8 @@ extern "C" {
 
 /*
  * The length of a link that is down. Its arc is absent: it keeps its position and is tested like any
- * other, but it is in no walk and its mark is 1. A plan, and the answer to a limit, is that of the
- * table without such arcs.
+ * other, but it is in no walk and its mark is 1. A plan, the answer to a limit and the path that is
+ * kept are those of the table without such arcs.
  */
 #define KESTRELORE_DOWN UINT32_C(4294967295)
 

@@ -3,6 +3,7 @@ pub mod Answers
 -- Totals: a step, a list of nodes, and the walks through it.
 pub mod Steps
 pub mod Totals
+pub mod Absent
 -- What is given, by the ways out.
 pub mod Choices
 pub mod Outcomes

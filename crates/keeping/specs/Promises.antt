@@ -7,7 +7,8 @@ use mathlib.Core.Logic.{_⊎_}
 use mathlib.Core.Option.{none, some}
 use Prim.Native.Nat.{ℕ, _^_, _≤_}
 use lib.ListN.{length}
-use Rattle.table.specs.Table.{Table, leads, walk-length, nodes-below, most-nodes, Below}
+use Rattle.table.specs.Table.{Table, is-table, leads, walk-length, nodes-below, most-nodes, Below}
+use Rattle.auction.specs.Absent.{without-absent}
 use Rattle.auction.specs.Plan.{plan}
 use Rattle.collector.specs.Plan.{plan-to-collector}
 use Rattle.listing.specs.Listing.{tree-in, listing}
@@ -35,6 +36,10 @@ Total-is-least = (t : Table) (vs : List ℕ) (d : ℕ) → total t vs ≡ some d
 -- A list of nodes without a total has no walk through it.
 unfoldable pub No-total-no-walk : Type 0
 No-total-no-walk = (t : Table) (vs : List ℕ) → nodes-below (t .n) vs ≡ true → total t vs ≡ none → (walk : List ℕ) → Through t walk vs → ⊥
+
+-- LINKS THAT ARE DOWN. A list has the total that it has in the table without its absent arcs, and the table comes into the choice by totals alone.
+unfoldable pub Totals-without-absent : Type 0
+Totals-without-absent = (t : Table) (wanted vs : List ℕ) → is-table t wanted ≡ true → total (without-absent t) vs ≡ total t vs
 
 -- NUMBER 0: one of the two lists is given, whole; it is a walk between the same two nodes as the fresh one, and no longer.
 pub record Kept-short (t : Table) (standing fresh list : List ℕ) (k : Kept) : Type 0 where
