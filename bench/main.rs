@@ -57,8 +57,7 @@ fn keeping_rows() -> Vec<KeepingRow> {
         let table = (family.make)(family.n);
         add(family.name, &table, &measure::path_to(&table, measure::middle_node(&table)));
     }
-    let to_and_fro: Vec<u16> = (0..abi::MOST_NODES as u16).map(|place| place % 2).collect();
-    add("two nodes", &tables::two_nodes(), &to_and_fro);
+    add("loops", &tables::loops(), &[0; abi::MOST_NODES]);
     rows
 }
 

@@ -20,7 +20,7 @@ pub struct KeepingRow {
 
 pub fn keeping_line(row: &KeepingRow) -> String {
     let KeepingRow { name, n, m, keeping: Keeping { nodes, keep, plan } } = row;
-    format!("| {name} | {n} | {m} | {nodes} | {:.1} | {} |", keep / 1e3, ratio(keep / plan))
+    format!("| {name} | {n} | {m} | {nodes} | {:.1} | {:.3} |", keep / 1e3, keep / plan)
 }
 
 /// Where it was measured, in words.
@@ -106,7 +106,7 @@ pub fn page(machine: &Machine, rows: &[Row], keeping: &[KeepingRow], stack: &Sta
     add("\n## Keeping a path\n\n");
     add("Keeping the path to the node in the middle beside itself, so that all of both lists is looked at: ");
     add("the arcs are linked once, then each step looks at the arcs out of its node. ");
-    add("The last table has the most to look at, 6,000 arcs between two nodes, half of them each way, and lists of 1,024 nodes. ");
+    add("The last table has the most to look at, 6,000 loops at its one node, and lists of 1,024 nodes. ");
     add("The ratio is to the library's plan for the path's last node, measured by turns.\n\n");
     add("| table | n | m | nodes of the path | keeping, µs | to the plan |\n|---|--:|--:|--:|--:|--:|\n");
     keeping.iter().for_each(|row| add(&(keeping_line(row) + "\n")));

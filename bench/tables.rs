@@ -57,9 +57,9 @@ pub fn sparse(n: usize) -> Table {
     with_lengths(n, tree.into_iter().chain(others))
 }
 
-/// Two nodes with as many arcs as there may be, half of them each way: where a step looks at the most arcs.
-pub fn two_nodes() -> Table {
-    with_lengths(2, (0..6_000).map(|place| (place % 2, 1 - place % 2)))
+/// One node with as many loops as there may be: where a step of a path looks at the most arcs.
+pub fn loops() -> Table {
+    with_lengths(1, (0..6_000).map(|_| (0, 0)))
 }
 
 fn dense(n: usize) -> Table {

@@ -9,11 +9,11 @@ use native.Mathlib.Omega.{arith}
 use lib.Dec.{leb, eqb}
 use lib.ListN.{length, getD}
 use borrow.Author.Tests.{eq-eqb, ne-eqb, lt-leb}
-use Rattle.table.specs.Table.{Table, no-distance}
+use Rattle.table.specs.Table.{Table}
 use Rattle.table.specs.Refusals.{refusal, no-refusal}
 use Rattle.table.proofs.Basics.{same-or, and-false, some-none}
 use Rattle.keeping.specs.Keeping.{lent-total, first-of, last-of, same-ends, no-greater, stays, fresh-refusal, kept, choice}
-use Rattle.keeper.specs.Totals.{total-of, chosen}
+use Rattle.keeper.specs.Totals.{above-totals, total-of, chosen}
 use Rattle.keeper.proofs.Totalling.{no-total, some-total, lent-none}
 
 -- a list with a total has a node
@@ -42,7 +42,7 @@ module _ (t : Table) (standing fresh : List ℕ) where
       rw (ne-eqb (getD standing (length standing - 1) 0) (getD fresh (length fresh - 1) 0) d, and-false (eqb (first-of standing) (first-of fresh)) false refl)
 
   pub by-total : (d most : ℕ) → getD standing 0 0 ≡ getD fresh 0 0 → getD standing (length standing - 1) 0 ≡ getD fresh (length fresh - 1) 0 →
-      total-of d ≡ lent-total t standing → total-of most ≡ lent-total t fresh → most < no-distance → leb d most ≡ stays t standing fresh
+      total-of d ≡ lent-total t standing → total-of most ≡ lent-total t fresh → most < above-totals → leb d most ≡ stays t standing fresh
   unfolding stays same-ends first-of last-of no-greater
   by-total d most first last ed em low =
       rw (
@@ -52,16 +52,16 @@ module _ (t : Table) (standing fresh : List ℕ) where
         ← em,
         some-total most (λ z. omega (arith, z, low)),
       )
-      (⊎-elim (λ (z : d ≡ no-distance). rw (no-total d z) (lt-leb d most (omega (arith, z, low)))) (λ (z : d ≡ no-distance → ⊥). rw (some-total d z))
-      (same-or d no-distance))
+      (⊎-elim (λ (z : d ≡ above-totals). rw (no-total d z) (lt-leb d most (omega (arith, z, low)))) (λ (z : d ≡ above-totals → ⊥). rw (some-total d z))
+      (same-or d above-totals))
 
 -- WHAT IS ANSWERED
 module _ (t : Table) (standing fresh : List ℕ) (most : ℕ) (e : total-of most ≡ lent-total t fresh) where
-  pub refused : most ≡ no-distance → kept 15 0 0 0 ≡ chosen t standing fresh
+  pub refused : most ≡ above-totals → kept 15 0 0 0 ≡ chosen t standing fresh
   unfolding chosen fresh-refusal refusal
   refused z = rw (← e, no-total most z)
 
-  module _ (d : most ≡ no-distance → ⊥) where
+  module _ (d : most ≡ above-totals → ⊥) where
     pub fresh-total : lent-total t fresh ≡ some most
     fresh-total = sym e ∙ some-total most d
 

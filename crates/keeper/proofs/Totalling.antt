@@ -7,10 +7,10 @@ use native.Mathlib.Omega.{arith}
 use lib.ListN.{length, getD, drop, drop-of-length-le}
 use lib.Seq.{drop-cons}
 use borrow.Author.Tests.{eq-eqb, ne-eqb, lt-ltb, le-ltb}
-use Rattle.table.specs.Table.{Table, no-distance, most-nodes, longest}
+use Rattle.table.specs.Table.{Table, most-nodes, longest}
 use Rattle.forward_star.specs.Lists.{star, Outgoing}
 use Rattle.keeping.specs.Keeping.{step-length, sum, total, lent-total}
-use Rattle.keeper.specs.Totals.{total-of}
+use Rattle.keeper.specs.Totals.{above-totals, total-of}
 
 -- SUMS
 sum-zero : (a : Option ℕ) → sum (some 0) a ≡ a
@@ -24,13 +24,13 @@ sum-same a b none = refl
 sum-same a b (some c) = ap some (omega arith)
 
 -- a number that stands for a total, or for none
-pub no-total : (d : ℕ) → d ≡ no-distance → total-of d ≡ none
+pub no-total : (d : ℕ) → d ≡ above-totals → total-of d ≡ none
 unfolding total-of
-no-total d e = rw (eq-eqb d no-distance e)
+no-total d e = rw (eq-eqb d above-totals e)
 
-pub some-total : (d : ℕ) → (d ≡ no-distance → ⊥) → total-of d ≡ some d
+pub some-total : (d : ℕ) → (d ≡ above-totals → ⊥) → total-of d ≡ some d
 unfolding total-of
-some-total d e = rw (ne-eqb d no-distance e)
+some-total d e = rw (ne-eqb d above-totals e)
 
 -- THE TOTAL from a node on
 module _ (t : Table) (vs : List ℕ) (i : ℕ) where

@@ -6,11 +6,11 @@ ghost use mathlib.Core.List.{[]};
 ghost use Prim.Native.Nat.{ℕ, _≤_, _<_};
 ghost use lib.Dec.{ltb, eqb};
 ghost use lib.ListN.{length};
-ghost use Rattle.table.specs.Table.{Table, is-table, most-nodes, no-distance};
+ghost use Rattle.table.specs.Table.{Table, is-table, most-nodes};
 ghost use Rattle.table.specs.Slices.{was};
 ghost use Rattle.forward_star.specs.Lists.{star, lent-star, Outgoing, Some-table};
 ghost use Rattle.keeping.specs.Keeping.{step-length, lent-total, stays, table-in, keeps, Part, Says};
-ghost use Rattle.keeper.specs.Totals.{step-of, total-of, chosen};
+ghost use Rattle.keeper.specs.Totals.{above-totals, step-of, total-of, chosen};
 use forward_star::link_arcs;
 use keeping::Kept;
 use refusals::table_refusal;
@@ -99,7 +99,7 @@ fn stays(
     next: &[u16],
 ) -> bool
     requires { ⌜ Some-table (star (now heads) (now lengths) (now first) (now next)) ⌝ }
-    requires { ⌜ (length (now first) ≤ most-nodes) × ((0 < length (now fresh)) × (most < no-distance)) ⌝ }
+    requires { ⌜ (length (now first) ≤ most-nodes) × ((0 < length (now fresh)) × (most < above-totals)) ⌝ }
     ensures { λ r. ⌜ ((t : Table) → Outgoing t (lent-star heads lengths first next) → total-of most ≡ lent-total t (was fresh) →
         r ≡ stays t (was standing) (was fresh)) ⌝ }
 {

@@ -15,7 +15,6 @@ use Rattle.auction.specs.Absent.{without-absent, place-of}
 use Rattle.auction.proofs.Good.{good}
 use Rattle.auction.proofs.Without.Places.{place-in, tail-there, head-there, length-there, every}
 use Rattle.keeping.specs.Keeping.{step-length, total}
-use Rattle.keeping.specs.Promises.{Totals-without-absent}
 use Rattle.keeping.proofs.Steps.{At-most, step-arc, step-least}
 
 module _ (t : Table) (ws : List ℕ) (ok : is-table t ws ≡ true) (u v : ℕ) (low : u < t .n) where
@@ -61,12 +60,12 @@ module _ (t : Table) (ws : List ℕ) (ok : is-table t ws ≡ true) (u v : ℕ) (
       (option-or (step-length t u v))
 
 -- THE TOTAL of a list
-pub totals-without-absent : Totals-without-absent
-unfolding Totals-without-absent total without-absent table
-totals-without-absent t ws [] ok = refl
-totals-without-absent t ws (v ∷ []) ok = refl
-totals-without-absent t ws (u ∷ v ∷ vs) ok =
+pub same-total : (t : Table) (ws vs : List ℕ) → is-table t ws ≡ true → total (without-absent t) vs ≡ total t vs
+unfolding total without-absent table
+same-total t ws [] ok = refl
+same-total t ws (v ∷ []) ok = refl
+same-total t ws (u ∷ v ∷ vs) ok =
     ⊎-elim
-    (λ (h : ltb u (t .n) ≡ true). rw (h, same-step t ws ok u v (ltb-true u (t .n) h), totals-without-absent t ws (v ∷ vs) ok))
+    (λ (h : ltb u (t .n) ≡ true). rw (h, same-step t ws ok u v (ltb-true u (t .n) h), same-total t ws (v ∷ vs) ok))
     (λ (h : ltb u (t .n) ≡ false). rw h)
     (true-or (ltb u (t .n)))
