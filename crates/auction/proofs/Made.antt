@@ -27,7 +27,7 @@ rooms-so n m a b c d e =
     let s = both-true (eqb d m) true (r .1) in
     (eqb-true a n (p .0), eqb-true b n (q .0), eqb-true c n (r .0), eqb-true d m (s .0))
 
--- and buffers that are fit; of a table without them the same refusal applies
+-- buffers of these lengths fit; and where buffers fit, the refusal is that of the table without any
 pub fitting : (n m : ℕ) {a b c d : ℕ} → a ≡ n → b ≡ n → c ≡ n → d ≡ m → rooms-fit (rooms n m a b c d) ≡ true
 unfolding rooms-fit rooms room
 fitting n m {a} {b} {c} {d} ea eb ec ed = rw (eq-eqb a n ea, eq-eqb b n eb, eq-eqb c n ec, eq-eqb d m ed)

@@ -13,13 +13,13 @@ use Rattle.auction.proofs.Good.{good}
 use Rattle.auction.proofs.Invariant.Starting.{fresh-status, fresh-kept, fresh-origin}
 use Rattle.steps.specs.declared.state.Progress.{Progress}
 use Rattle.steps.specs.Seen.{seen, greatest-sum}
-use Rattle.forward_star.specs.Lists.{star, Linked}
+use Rattle.forward_star.specs.Lists.{star, Outgoing}
 use Rattle.steps.specs.Memory.{Tails-known, Kept-arcs, Remembering, but}
 use Rattle.solver.specs.Runs.{Begun, All-forgotten}
 use Rattle.steps.proofs.Arrays.{seen-bound, seen-kept, seen-status, some-arc}
 use Rattle.solver.proofs.run.Ready.{bound-value}
 use Rattle.table.proofs.Columns.{nodes-so, origin-so}
-use Rattle.forward_star.proofs.Columns.{tails-held, tails-below, outgoing}
+use Rattle.forward_star.proofs.Columns.{tails-held, tails-below}
 
 module _ {t : Table} {ws : List ℕ} {o : ℕ} {ts hs ls first nexts : List ℕ} where
   module _ (p u b k s : List ℕ) (g : Progress) (bg : Begun fresh t ws o (star hs ls first nexts) ts (seen p u b k s g)) where
@@ -72,11 +72,11 @@ module _ {t : Table} {ws : List ℕ} {o : ℕ} {ts hs ls first nexts : List ℕ}
 
 -- the columns of a table that is not refused, and the lists of its outgoing arcs
 pub begun-fresh : (n o : ℕ) (ts hs ls ws : List ℕ) (eh : length hs ≡ length ts) (el : length ls ≡ length ts) →
-    is-table (table-of n o ts hs ls) ws ≡ true → {first nexts : List ℕ} {x : State} (at : ℕ) → at ≡ o → Linked (table-of n o ts hs ls) first nexts →
+    is-table (table-of n o ts hs ls) ws ≡ true → {first nexts : List ℕ} {x : State} (at : ℕ) → at ≡ o → Outgoing (table-of n o ts hs ls) (star hs ls first nexts) →
     x ≡ fresh (table-of n o ts hs ls) → Begun fresh (table-of n o ts hs ls) ws at (star hs ls first nexts) ts x
-begun-fresh n o ts hs ls ws eh el ok at ea linked e =
+begun-fresh n o ts hs ls ws eh el ok at ea listed e =
     record {
-      listed = outgoing n o ts hs ls ws eh el ok linked;
+      listed = listed;
       tailed = tails-held n o ts hs ls ws eh el ok;
       tails-in = λ i h. omega (arith, tails-below n o ts hs ls ws eh el ok i h, nodes-so n o ts hs ls eh el);
       origin-is = origin-so n o ts hs ls eh el ∙ sym ea;
