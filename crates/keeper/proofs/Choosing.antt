@@ -1,6 +1,6 @@
 -- Whether the standing list is kept, and what is answered then. Assumes nothing.
 use mathlib.Core.Path.{_≡_, refl, sym, ap, _∙_}
-use mathlib.Core.Bool.{Bool, true, false}
+use mathlib.Core.Bool.{Bool, false, cond}
 use mathlib.Core.List.{List}
 use mathlib.Core.Logic.{⊎-elim}
 use mathlib.Core.Option.{Option, none, some}
@@ -12,7 +12,7 @@ use borrow.Author.Tests.{eq-eqb, ne-eqb, lt-leb}
 use Rattle.table.specs.Table.{Table}
 use Rattle.table.specs.Refusals.{refusal, no-refusal}
 use Rattle.table.proofs.Basics.{same-or, and-false, some-none}
-use Rattle.keeping.specs.Keeping.{lent-total, first-of, last-of, same-ends, no-greater, stays, fresh-refusal, kept, choice}
+use Rattle.keeping.specs.Keeping.{lent-total, first-node, last-node, same-ends, no-greater, stays, fresh-refusal, kept, choice}
 use Rattle.keeper.specs.Totals.{above-totals, total-of, chosen}
 use Rattle.keeper.proofs.Totalling.{no-total, some-total, lent-none}
 
@@ -33,17 +33,17 @@ module _ (t : Table) (standing fresh : List ℕ) where
       sym (and-false (same-ends standing fresh) _ (ap (λ (o : Option ℕ). no-greater o (lent-total t fresh)) (lent-none t standing e) ∙ no-greater-none (lent-total t fresh)))
 
   pub other-first : (getD standing 0 0 ≡ getD fresh 0 0 → ⊥) → false ≡ stays t standing fresh
-  unfolding stays same-ends first-of
+  unfolding stays same-ends first-node
   other-first d = rw (ne-eqb (getD standing 0 0) (getD fresh 0 0) d)
 
   pub other-last : (getD standing (length standing - 1) 0 ≡ getD fresh (length fresh - 1) 0 → ⊥) → false ≡ stays t standing fresh
-  unfolding stays same-ends last-of
+  unfolding stays same-ends last-node
   other-last d =
-      rw (ne-eqb (getD standing (length standing - 1) 0) (getD fresh (length fresh - 1) 0) d, and-false (eqb (first-of standing) (first-of fresh)) false refl)
+      rw (ne-eqb (getD standing (length standing - 1) 0) (getD fresh (length fresh - 1) 0) d, and-false (eqb (first-node standing) (first-node fresh)) false refl)
 
   pub by-total : (d most : ℕ) → getD standing 0 0 ≡ getD fresh 0 0 → getD standing (length standing - 1) 0 ≡ getD fresh (length fresh - 1) 0 →
       total-of d ≡ lent-total t standing → total-of most ≡ lent-total t fresh → most < above-totals → leb d most ≡ stays t standing fresh
-  unfolding stays same-ends first-of last-of no-greater
+  unfolding stays same-ends first-node last-node no-greater
   by-total d most first last ed em low =
       rw (
         eq-eqb (getD standing 0 0) (getD fresh 0 0) first,
@@ -65,10 +65,6 @@ module _ (t : Table) (standing fresh : List ℕ) (most : ℕ) (e : total-of most
     pub fresh-total : lent-total t fresh ≡ some most
     fresh-total = sym e ∙ some-total most d
 
-    pub keeps-standing : (b : Bool) → b ≡ stays t standing fresh → b ≡ true → kept 0 0 1 (length standing) ≡ chosen t standing fresh
+    pub gives : (b : Bool) → stays t standing fresh ≡ b → cond b (kept 0 0 1 (length standing)) (kept 0 0 0 (length fresh)) ≡ chosen t standing fresh
     unfolding chosen fresh-refusal no-refusal refusal choice
-    keeps-standing b same e′ = rw (fresh-total, ← same, e′)
-
-    pub gives-fresh : (b : Bool) → b ≡ stays t standing fresh → b ≡ false → kept 0 0 0 (length fresh) ≡ chosen t standing fresh
-    unfolding chosen fresh-refusal no-refusal refusal choice
-    gives-fresh b same e′ = rw (fresh-total, ← same, e′)
+    gives b e′ = rw (fresh-total, e′)

@@ -9,17 +9,17 @@ use lib.Seq.{drop-cons}
 use borrow.Author.Tests.{eq-eqb, ne-eqb, lt-ltb, le-ltb}
 use Rattle.table.specs.Table.{Table, most-nodes, longest}
 use Rattle.forward_star.specs.Lists.{star, Outgoing}
-use Rattle.keeping.specs.Keeping.{step-length, sum, total, lent-total}
+use Rattle.keeping.specs.Keeping.{step-length, plus, total, lent-total}
 use Rattle.keeper.specs.Totals.{above-totals, total-of}
 
 -- SUMS
-sum-zero : (a : Option ℕ) → sum (some 0) a ≡ a
-unfolding sum
+sum-zero : (a : Option ℕ) → plus (some 0) a ≡ a
+unfolding plus
 sum-zero none = refl
 sum-zero (some a) = ap some (omega arith)
 
-sum-same : (a b : ℕ) (c : Option ℕ) → sum (some a) (sum (some b) c) ≡ sum (some (a + b)) c
-unfolding sum
+sum-same : (a b : ℕ) (c : Option ℕ) → plus (some a) (plus (some b) c) ≡ plus (some (a + b)) c
+unfolding plus
 sum-same a b none = refl
 sum-same a b (some c) = ap some (omega arith)
 
@@ -46,14 +46,14 @@ module _ (t : Table) (vs : List ℕ) (i : ℕ) where
   too-high h high = rw (two-left h, le-ltb (getD vs i 0) (t .n) high)
 
   pub no-step-there : suc i < length vs → getD vs i 0 < t .n → step-length t (getD vs i 0) (getD vs (suc i) 0) ≡ none → total t (drop i vs) ≡ none
-  unfolding total sum
+  unfolding total plus
   no-step-there h low e = rw (two-left h, lt-ltb (getD vs i 0) (t .n) low, e)
 
   pub one-step : suc i < length vs → getD vs i 0 < t .n → (s : ℕ) → step-length t (getD vs i 0) (getD vs (suc i) 0) ≡ some s →
-      total t (drop i vs) ≡ sum (some s) (total t (drop (suc i) vs))
+      total t (drop i vs) ≡ plus (some s) (total t (drop (suc i) vs))
   unfolding total
   one-step h low s e =
-      rw (two-left h, lt-ltb (getD vs i 0) (t .n) low, e) (ap (λ (l : List ℕ). sum (some s) (total t l)) (sym (drop-cons vs (suc i) 0 h)))
+      rw (two-left h, lt-ltb (getD vs i 0) (t .n) low, e) (ap (λ (l : List ℕ). plus (some s) (total t l)) (sym (drop-cons vs (suc i) 0 h)))
 
   -- it is the last node
   pub last-high : suc i ≡ length vs → t .n ≤ getD vs i 0 → total t (drop i vs) ≡ none
@@ -85,7 +85,7 @@ pub record Adding (heads lengths first next list : List ℕ) (added i : ℕ) : T
   -- what is added is no more than so many steps can be
   pub few : added ≤ i * longest
   -- with the total of what is left it is the list's
-  pub rest : (t : Table) → Outgoing t (star heads lengths first next) → sum (some added) (total t (drop i list)) ≡ total t list
+  pub rest : (t : Table) → Outgoing t (star heads lengths first next) → plus (some added) (total t (drop i list)) ≡ total t list
 
 module _ (hs ls first next list : List ℕ) where
   pub begins : 0 < length list → Adding hs ls first next list 0 0
@@ -94,8 +94,8 @@ module _ (hs ls first next list : List ℕ) where
   module _ {added i : ℕ} (inv : Adding hs ls first next list added i) where
     -- what is left has no total
     pub stops : (t : Table) → Outgoing t (star hs ls first next) → total t (drop i list) ≡ none → total t list ≡ none
-    unfolding sum
-    stops t here e = sym (inv .rest t here) ∙ ap (sum (some added)) e
+    unfolding plus
+    stops t here e = sym (inv .rest t here) ∙ ap (plus (some added)) e
 
     pub goes-on : suc i < length list → (s : ℕ) → s ≤ longest → getD list i 0 < length first →
         ((t : Table) → Outgoing t (star hs ls first next) → step-length t (getD list i 0) (getD list (suc i) 0) ≡ some s) →
@@ -106,14 +106,14 @@ module _ (hs ls first next list : List ℕ) where
           few = omega (arith, inv .few);
           rest = λ t here.
               sym (sum-same added s (total t (drop (suc i) list)))
-              ∙ ap (sum (some added)) (sym (one-step t list i h (omega (arith, here .linked .first-count)) s (step t here)))
+              ∙ ap (plus (some added)) (sym (one-step t list i h (omega (arith, here .linked .first-count)) s (step t here)))
               ∙ inv .rest t here;
         }
 
     pub ends : suc i ≡ length list → getD list i 0 < length first → (t : Table) → Outgoing t (star hs ls first next) → total t list ≡ some added
-    unfolding sum
+    unfolding plus
     ends h node t here =
         let plain : added + 0 ≡ added = omega arith in
         sym (inv .rest t here)
-        ∙ ap (sum (some added)) (last-low t list i h (omega (arith, here .linked .first-count)))
+        ∙ ap (plus (some added)) (last-low t list i h (omega (arith, here .linked .first-count)))
         ∙ ap some plain

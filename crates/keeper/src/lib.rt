@@ -186,6 +186,7 @@ pub fn decide(
 ) -> Kept
     ensures { λ r. ⌜ r ≡ keeps n tails heads lengths standing fresh ⌝ }
 {
+    // 1, 2, 6 and 7 alone: node 0 stands for an origin, nothing is wanted, and the lengths fit.
     let nodes = n as usize;
     let refusal = table_refusal(
         n,

@@ -14,7 +14,7 @@ use Rattle.table.proofs.Present.{leaves-present}
 use Rattle.auction.specs.Absent.{without-absent, place-of}
 use Rattle.auction.proofs.Good.{good}
 use Rattle.auction.proofs.Without.Places.{place-in, tail-there, head-there, length-there, every}
-use Rattle.keeping.specs.Keeping.{step-length, total}
+use Rattle.keeping.specs.Keeping.{step-length, total, lent-total, stays, fresh-refusal, choice}
 use Rattle.keeping.proofs.Steps.{At-most, step-arc, step-least}
 
 module _ (t : Table) (ws : List ℕ) (ok : is-table t ws ≡ true) (u v : ℕ) (low : u < t .n) where
@@ -69,3 +69,11 @@ same-total t ws (u ∷ v ∷ vs) ok =
     (λ (h : ltb u (t .n) ≡ true). rw (h, same-step t ws ok u v (ltb-true u (t .n) h), same-total t ws (v ∷ vs) ok))
     (λ (h : ltb u (t .n) ≡ false). rw h)
     (true-or (ltb u (t .n)))
+
+-- THE CHOICE
+pub same-choice : (t : Table) (ws standing fresh : List ℕ) → is-table t ws ≡ true →
+    (fresh-refusal (lent-total (without-absent t) fresh) ≡ fresh-refusal (lent-total t fresh))
+    × (choice (without-absent t) standing fresh ≡ choice t standing fresh)
+unfolding choice stays lent-total
+same-choice t ws standing fresh ok =
+    (rw (same-total t ws fresh ok) refl, rw (same-total t ws fresh ok, same-total t ws standing ok) refl)

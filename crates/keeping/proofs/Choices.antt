@@ -13,7 +13,7 @@ use borrow.Author.Tests.{ltb-false, le-ltb, eqb-true, eq-eqb, leb-true, le-leb}
 use Rattle.table.specs.Table.{Table, most-nodes}
 use Rattle.table.proofs.Basics.{true-or, both-true, not-both, some-none}
 use Rattle.keeping.specs.declared.Kept.{Kept}
-use Rattle.keeping.specs.Keeping.{total, lent-total, first-of, last-of, same-ends, no-greater, stays, kept, choice, is-standing, given}
+use Rattle.keeping.specs.Keeping.{total, lent-total, first-node, last-node, same-ends, no-greater, stays, kept, choice, is-standing, given}
 use Rattle.keeping.specs.Promises.{Kept-short}
 use Rattle.keeping.proofs.Steps.{At-most}
 
@@ -38,28 +38,28 @@ lesser-so (some a) b e = (a, refl, leb-true a b e)
 module _ (t : Table) (standing fresh : List ℕ) (d : ℕ) (e : lent-total t fresh ≡ some d) where
   -- THE STANDING LIST STAYS where it is a walk between the same nodes, and no longer
   pub record Stays : Type 0 where
-    pub begins : first-of standing ≡ first-of fresh
-    pub ends : last-of standing ≡ last-of fresh
+    pub begins : first-node standing ≡ first-node fresh
+    pub ends : last-node standing ≡ last-node fresh
     pub short : At-most (lent-total t standing) d
 
   pub stays-so : stays t standing fresh ≡ true → Stays
   unfolding stays same-ends
   stays-so h =
       let p = both-true (same-ends standing fresh) (no-greater (lent-total t standing) (lent-total t fresh)) h in
-      let q = both-true (eqb (first-of standing) (first-of fresh)) (eqb (last-of standing) (last-of fresh)) (p .0) in
+      let q = both-true (eqb (first-node standing) (first-node fresh)) (eqb (last-node standing) (last-node fresh)) (p .0) in
       record {
-        begins = eqb-true (first-of standing) (first-of fresh) (q .0);
-        ends = eqb-true (last-of standing) (last-of fresh) (q .1);
+        begins = eqb-true (first-node standing) (first-node fresh) (q .0);
+        ends = eqb-true (last-node standing) (last-node fresh) (q .1);
         short = lesser-so (lent-total t standing) d (ap (no-greater (lent-total t standing)) (sym e) ∙ p .1);
       }
 
-  so-stays : length standing ≤ most-nodes → first-of standing ≡ first-of fresh → last-of standing ≡ last-of fresh → (c : ℕ) →
+  so-stays : length standing ≤ most-nodes → first-node standing ≡ first-node fresh → last-node standing ≡ last-node fresh → (c : ℕ) →
       total t standing ≡ some c → c ≤ d → stays t standing fresh ≡ true
   unfolding stays same-ends no-greater
   so-stays few begins ends c f low =
       rw (
-        eq-eqb (first-of standing) (first-of fresh) begins,
-        eq-eqb (last-of standing) (last-of fresh) ends,
+        eq-eqb (first-node standing) (first-node fresh) begins,
+        eq-eqb (last-node standing) (last-node fresh) ends,
         lent-few t standing few ∙ f,
         e,
         le-leb c d low,

@@ -18,9 +18,9 @@ use Rattle.listing.specs.Collecting.{turned-round, listing-to-collector}
 use Rattle.listing.specs.Promises.{nodes-of-walk, nodes-from, Plans-listed, Senders-listed}
 use Rattle.listing.proofs.Promised.{plans-listed, senders-listed}
 use Rattle.listing.proofs.Given.{listed-given, only-listed}
-use Rattle.keeping.specs.Promises.{Total-is-least, No-total-no-walk, Totals-without-absent, Kept-is-short, Keep-refusals, Beside, Standing-kept, Standing-kept-in}
+use Rattle.keeping.specs.Promises.{Total-is-least, No-total-no-walk, Totals-without-absent, Kept-without-absent, Kept-is-short, Keep-refusals, Beside, Standing-kept, Standing-kept-in}
 use Rattle.keeping.proofs.Totals.{has-total, least-through}
-use Rattle.keeping.proofs.Absent.{same-total}
+use Rattle.keeping.proofs.Absent.{same-total, same-choice}
 use Rattle.keeping.proofs.Outcomes.{short, refused}
 use Rattle.keeping.proofs.Beside.{beside-walk}
 
@@ -35,6 +35,10 @@ no-total-no-walk t vs low e walk x = some-none (has-total t vs walk low x .1) e
 pub totals-without-absent : Totals-without-absent
 unfolding Totals-without-absent
 totals-without-absent = same-total
+
+pub kept-without-absent : Kept-without-absent
+unfolding Kept-without-absent
+kept-without-absent = same-choice
 
 pub kept-is-short : Kept-is-short
 unfolding Kept-is-short

@@ -15,19 +15,19 @@ use Rattle.table.proofs.Basics.{true-or, both-true, true-both, some-none, some-
 use Rattle.auction.proofs.Good.{Good}
 use Rattle.auction.proofs.Back.{first}
 use Rattle.listing.specs.Promises.{heads-along, nodes-from}
-use Rattle.keeping.specs.Keeping.{step-length, sum, total, first-of, last-of}
+use Rattle.keeping.specs.Keeping.{step-length, plus, total, first-node, last-node}
 use Rattle.keeping.specs.Promises.{Through, Least-through, Shortest}
 use Rattle.keeping.proofs.Steps.{At-most, Joins, step-arc, step-least}
 
--- a sum that is there is that of two numbers
-summed : (a b : Option ℕ) (d : ℕ) → sum a b ≡ some d → (x : ℕ) × (y : ℕ) × (a ≡ some x) × (b ≡ some y) × (x + y ≡ d)
-unfolding sum
+-- where two lengths together are there, each of them is
+summed : (a b : Option ℕ) (d : ℕ) → plus a b ≡ some d → (x : ℕ) × (y : ℕ) × (a ≡ some x) × (b ≡ some y) × (x + y ≡ d)
+unfolding plus
 summed none b d e = absurd (some-none e refl)
 summed (some x) none d e = absurd (some-none e refl)
 summed (some x) (some y) d e = (x, y, refl, refl, some-same refl e)
 
-last-on : (u v : ℕ) (vs : List ℕ) → last-of (u ∷ v ∷ vs) ≡ last-of (v ∷ vs)
-unfolding last-of
+last-on : (u v : ℕ) (vs : List ℕ) → last-node (u ∷ v ∷ vs) ≡ last-node (v ∷ vs)
+unfolding last-node
 last-on u v vs =
     let e : length (u ∷ v ∷ vs) - 1 ≡ suc (length (v ∷ vs) - 1) = omega arith in
     ap (λ (k : ℕ). getD (u ∷ v ∷ vs) k 0) e
@@ -35,9 +35,9 @@ last-on u v vs =
 module _ (t : Table) where
   -- A WALK THROUGH u, v AND MORE is an arc from u to v and a walk through v and more
   put-together : (u v d i : ℕ) (vs is : List ℕ) → i < arc-count t → Joins t u v d i → Through t is (v ∷ vs) → Through t (i ∷ is) (u ∷ v ∷ vs)
-  unfolding leads first-of nodes-from heads-along
+  unfolding leads first-node nodes-from heads-along
   put-together u v d i vs is h j x =
-      let on = leads t (head-at t i) is (last-of (u ∷ v ∷ vs)) in
+      let on = leads t (head-at t i) is (last-node (u ∷ v ∷ vs)) in
       let rest : on ≡ true = rw (last-on u v vs, j .into) (x .leads-on) in
       record {
         leads-on =
@@ -52,9 +52,9 @@ module _ (t : Table) where
     rest : Through t is (v ∷ vs)
 
   taken-apart : (u v i : ℕ) (vs is : List ℕ) → Through t (i ∷ is) (u ∷ v ∷ vs) → Apart u v i vs is
-  unfolding first-of nodes-from heads-along
+  unfolding first-node nodes-from heads-along
   taken-apart u v i vs is x =
-      let f = first t u i is (last-of (u ∷ v ∷ vs)) (x .leads-on) in
+      let f = first t u i is (last-node (u ∷ v ∷ vs)) (x .leads-on) in
       let into : head-at t i ≡ v = ap (λ (l : List ℕ). getD l 1 0) (x .nodes) in
       record {
         listed = f .listed;
@@ -62,19 +62,19 @@ module _ (t : Table) where
         rest =
             record {
               leads-on =
-                  ap (λ (z : ℕ). leads t z is (last-of (v ∷ vs))) (sym into) ∙ ap (leads t (head-at t i) is) (sym (last-on u v vs)) ∙ f .rest;
+                  ap (λ (z : ℕ). leads t z is (last-node (v ∷ vs))) (sym into) ∙ ap (leads t (head-at t i) is) (sym (last-on u v vs)) ∙ f .rest;
               nodes = ap (λ (z : ℕ). z ∷ heads-along t is) (sym into) ∙ ap (drop 1) (x .nodes);
             };
       }
 
   total-on : (u v : ℕ) (vs : List ℕ) (x y : ℕ) → ltb u (t .n) ≡ true → step-length t u v ≡ some x → total t (v ∷ vs) ≡ some y →
       total t (u ∷ v ∷ vs) ≡ some (x + y)
-  unfolding total sum
+  unfolding total plus
   total-on u v vs x y low e f = rw (low, e, f)
 
   -- WHERE THERE IS A WALK there is a total, no greater than its length
   pub has-total : (vs walk : List ℕ) → nodes-below (t .n) vs ≡ true → Through t walk vs → At-most (total t vs) (walk-length t walk)
-  unfolding total nodes-below nodes-from first-of walk-length heads-along
+  unfolding total nodes-below nodes-from first-node walk-length heads-along
   has-total [] walk low x = absurd (omega (arith, ap length (x .nodes)))
   has-total (v ∷ []) walk low x = (0, rw (both-true (ltb v (t .n)) true low .0) refl, omega arith)
   has-total (u ∷ v ∷ vs) [] low x = absurd (omega (arith, ap length (x .nodes)))
@@ -98,7 +98,7 @@ module _ (t : Table) where
       }
 
   pub least-through : (vs : List ℕ) (d : ℕ) → total t vs ≡ some d → Least-through t vs d
-  unfolding total sum nodes-below nodes-from first-of last-of leads walk-length heads-along
+  unfolding total plus nodes-below nodes-from first-node last-node leads walk-length heads-along
   least-through [] d e = absurd (some-none e refl)
   least-through (v ∷ []) d e =
       ⊎-elim
@@ -118,8 +118,8 @@ module _ (t : Table) where
       (true-or (ltb u (t .n)))
 
   -- A WALK of a table that is not refused goes through its nodes, which are below n
-  ends-there : (is : List ℕ) (u v : ℕ) → leads t u is v ≡ true → last-of (nodes-from t u is) ≡ v
-  unfolding leads nodes-from heads-along last-of
+  ends-there : (is : List ℕ) (u v : ℕ) → leads t u is v ≡ true → last-node (nodes-from t u is) ≡ v
+  unfolding leads nodes-from heads-along last-node
   ends-there [] u v e = eqb-true u v e
   ends-there (i ∷ is) u v e = last-on u (head-at t i) (heads-along t is) ∙ ends-there is (head-at t i) v (first t u i is v e .rest)
 
@@ -134,7 +134,7 @@ module _ (t : Table) where
   -- so the nodes of a shortest walk are a shortest path
   pub walk-shortest : Good t → (is : List ℕ) (u v : ℕ) → u < t .n → leads t u is v ≡ true →
       ((other : List ℕ) → leads t u other v ≡ true → walk-length t is ≤ walk-length t other) → Shortest t u v (nodes-from t u is)
-  unfolding first-of nodes-from
+  unfolding first-node nodes-from
   walk-shortest g is u v low e least =
       let ends = ends-there is u v e in
       let m = has-total (nodes-from t u is) is (all-low g is u v low e) (record { leads-on = ap (leads t u is) ends ∙ e; nodes = refl }) in

@@ -34,31 +34,31 @@ shortest-from (suc k) i t u v = lesser (between t u v i) (shortest-from k (suc i
 unfoldable pub step-length : Table → (u v : ℕ) → Option ℕ
 step-length t u v = shortest-from (arc-count t) 0 t u v
 
--- the sum of two lengths, none where one of them is none
-unfoldable pub sum : Option ℕ → Option ℕ → Option ℕ
-sum none b = none
-sum (some a) none = none
-sum (some a) (some b) = some (a + b)
+-- two lengths together, none where one of them is none
+unfoldable pub plus : Option ℕ → Option ℕ → Option ℕ
+plus none b = none
+plus (some a) none = none
+plus (some a) (some b) = some (a + b)
 
 -- THE TOTAL of a list of nodes. It has one where it is a walk: where it has a node, its nodes are below n and each step has an arc.
 unfoldable pub total : Table → List ℕ → Option ℕ
 total t [] = none
 total t (v ∷ []) = cond (ltb v (t .n)) (some 0) none
-total t (u ∷ v ∷ vs) = cond (ltb u (t .n)) (sum (step-length t u v) (total t (v ∷ vs))) none
+total t (u ∷ v ∷ vs) = cond (ltb u (t .n)) (plus (step-length t u v) (total t (v ∷ vs))) none
 
 -- the same of a list that is lent, which has at most 1,024 nodes
 unfoldable pub lent-total : Table → List ℕ → Option ℕ
 lent-total t vs = cond (ltb most-nodes (length vs)) none (total t vs)
 
 -- its first and its last node
-unfoldable pub first-of : List ℕ → ℕ
-first-of vs = getD vs 0 0
+unfoldable pub first-node : List ℕ → ℕ
+first-node vs = getD vs 0 0
 
-unfoldable pub last-of : List ℕ → ℕ
-last-of vs = getD vs (length vs - 1) 0
+unfoldable pub last-node : List ℕ → ℕ
+last-node vs = getD vs (length vs - 1) 0
 
 unfoldable pub same-ends : List ℕ → List ℕ → Bool
-same-ends vs ws = eqb (first-of vs) (first-of ws) && eqb (last-of vs) (last-of ws)
+same-ends vs ws = eqb (first-node vs) (first-node ws) && eqb (last-node vs) (last-node ws)
 
 -- both are totals, and the first is no greater
 unfoldable pub no-greater : Option ℕ → Option ℕ → Bool

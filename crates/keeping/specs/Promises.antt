@@ -15,12 +15,12 @@ use Rattle.listing.specs.Listing.{tree-in, listing}
 use Rattle.listing.specs.Collecting.{listing-to-collector}
 use Rattle.listing.specs.Promises.{nodes-from}
 use Rattle.keeping.specs.declared.Kept.{Kept}
-use Rattle.keeping.specs.Keeping.{total, lent-total, first-of, last-of, table-in, keep, given}
+use Rattle.keeping.specs.Keeping.{total, lent-total, first-node, last-node, table-in, fresh-refusal, choice, keep, given}
 
 -- A WALK THROUGH A LIST: these arcs lead from the list's first node to its last, and the nodes on the way are the list's.
 pub record Through (t : Table) (walk vs : List ℕ) : Type 0 where
-  pub leads-on : leads t (first-of vs) walk (last-of vs) ≡ true
-  pub nodes : nodes-from t (first-of vs) walk ≡ vs
+  pub leads-on : leads t (first-node vs) walk (last-node vs) ≡ true
+  pub nodes : nodes-from t (first-node vs) walk ≡ vs
 
 -- A TOTAL IS THE LEAST over the walks through just these nodes: some such walk is as long, and none is shorter.
 pub record Least-through (t : Table) (vs : List ℕ) (d : ℕ) : Type 0 where
@@ -37,23 +37,30 @@ Total-is-least = (t : Table) (vs : List ℕ) (d : ℕ) → total t vs ≡ some d
 unfoldable pub No-total-no-walk : Type 0
 No-total-no-walk = (t : Table) (vs : List ℕ) → nodes-below (t .n) vs ≡ true → total t vs ≡ none → (walk : List ℕ) → Through t walk vs → ⊥
 
--- LINKS THAT ARE DOWN. A list has the total that it has in the table without its absent arcs, and the table comes into the choice by totals alone.
+-- LINKS THAT ARE DOWN. A list has the total that it has in the table without its absent arcs,
 unfoldable pub Totals-without-absent : Type 0
 Totals-without-absent = (t : Table) (wanted vs : List ℕ) → is-table t wanted ≡ true → total (without-absent t) vs ≡ total t vs
+
+-- and so the same fresh lists are refused, and the same list is kept.
+unfoldable pub Kept-without-absent : Type 0
+Kept-without-absent =
+    (t : Table) (wanted standing fresh : List ℕ) → is-table t wanted ≡ true →
+    (fresh-refusal (lent-total (without-absent t) fresh) ≡ fresh-refusal (lent-total t fresh))
+    × (choice (without-absent t) standing fresh ≡ choice t standing fresh)
 
 -- NUMBER 0: one of the two lists is given, whole; it is a walk between the same two nodes as the fresh one, and no longer.
 pub record Kept-short (t : Table) (standing fresh list : List ℕ) (k : Kept) : Type 0 where
   pub one-of : ((k .standing ≡ 1) × (list ≡ standing)) ⊎ ((k .standing ≡ 0) × (list ≡ fresh))
   pub few : length list ≤ most-nodes
-  pub begins : first-of list ≡ first-of fresh
-  pub ends : last-of list ≡ last-of fresh
+  pub begins : first-node list ≡ first-node fresh
+  pub ends : last-node list ≡ last-node fresh
   pub fresh-total : ℕ
   pub fresh-walk : total t fresh ≡ some fresh-total
   pub list-total : ℕ
   pub walk : total t list ≡ some list-total
   pub no-longer : list-total ≤ fresh-total
   -- It is the standing list wherever all of that holds of the standing list, also where it is just as long.
-  pub standing-stays : length standing ≤ most-nodes → first-of standing ≡ first-of fresh → last-of standing ≡ last-of fresh → (d : ℕ) →
+  pub standing-stays : length standing ≤ most-nodes → first-node standing ≡ first-node fresh → last-node standing ≡ last-node fresh → (d : ℕ) →
       total t standing ≡ some d → d ≤ fresh-total → k .standing ≡ 1
 
 unfoldable pub Kept-is-short : Type 0
@@ -81,8 +88,8 @@ Keep-refusals =
 
 -- A SHORTEST PATH as a list of nodes: it is a walk from u to v, and no walk between them is shorter.
 pub record Shortest (t : Table) (u v : ℕ) (vs : List ℕ) : Type 0 where
-  pub begins : first-of vs ≡ u
-  pub ends : last-of vs ≡ v
+  pub begins : first-node vs ≡ u
+  pub ends : last-node vs ≡ v
   pub length-of : ℕ
   pub walk : total t vs ≡ some length-of
   pub least : (other : List ℕ) → leads t u other v ≡ true → length-of ≤ walk-length t other

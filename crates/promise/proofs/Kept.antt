@@ -25,7 +25,7 @@ use Rattle.listing.proofs.Promised.{routes-listed, plans-listed, senders-listed
 use Rattle.listing.proofs.Examples as Paths
 use Rattle.keeping.specs.declared.Kept.{Kept}
 use Rattle.keeping.specs.Promises.{Through, Least-through, Kept-short, Keep-refused, Shortest, Beside}
-use Rattle.keeping.proofs.Promised.{total-is-least, no-total-no-walk, totals-without-absent, kept-is-short, keep-refusals, standing-kept, standing-kept-in}
+use Rattle.keeping.proofs.Promised.{total-is-least, no-total-no-walk, totals-without-absent, kept-without-absent, kept-is-short, keep-refusals, standing-kept, standing-kept-in}
 use Rattle.keeping.proofs.Rows as Keeping
 use Rattle.link_format.proofs.ReadThenWrite.{accepted-files-write-back}
 use Rattle.link_format.proofs.WriteThenRead.{written-tables-read-back, long-files-are-refused}
@@ -94,6 +94,7 @@ kept =
       plan-without-absent = absent .plan-without-absent;
       collected-without-absent = collected-without-absent;
       totals-without-absent = totals-without-absent;
+      kept-without-absent = kept-without-absent;
       same-choice = stability .same-choice;
       route-stays = stability .route-stays;
       wanted-route-stays = stability .wanted-route-stays;

@@ -15,7 +15,7 @@ use Rattle.collector.specs.Rows as Collector
 use Rattle.planner.specs.Promise.{Plans-kept, Refusals-touch-nothing}
 use Rattle.listing.specs.Promises.{Routes-listed, Plans-listed, Senders-listed}
 use Rattle.listing.specs.Examples as Paths
-use Rattle.keeping.specs.Promises.{Total-is-least, No-total-no-walk, Kept-is-short, Keep-refusals, Totals-without-absent, Standing-kept, Standing-kept-in}
+use Rattle.keeping.specs.Promises.{Total-is-least, No-total-no-walk, Kept-is-short, Keep-refusals, Totals-without-absent, Kept-without-absent, Standing-kept, Standing-kept-in}
 use Rattle.keeping.specs.Rows as Keeping
 use Rattle.link_format.specs.Promises.{Accepted-files-write-back, Written-tables-read-back, Long-files-are-refused, Files-refused-by-number, Needless-is-not-canonical, Needless-header-is-not-canonical}
 use Rattle.link_format.specs.Rows as Files
@@ -90,6 +90,7 @@ pub record Promise : Type 0 where
   pub plan-without-absent : Plan-without-absent
   pub collected-without-absent : Collected-without-absent
   pub totals-without-absent : Totals-without-absent
+  pub kept-without-absent : Kept-without-absent
   -- WHAT STAYS: a spare chooses as the old unit did; a route stays while nothing shorter exists, also when a link goes down elsewhere or is added at
   -- the end
   pub same-choice : Same-choice

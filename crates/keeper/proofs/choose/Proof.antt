@@ -1,5 +1,6 @@
 -- The fresh list has no total, or one of the lists is given. Assumes nothing.
 use mathlib.Core.Path.{_≡_, sym, _∙_}
+use mathlib.Core.Bool.{true, false}
 use mathlib.Core.Option.{some}
 use native.Mathlib.Omega.{arith}
 use borrow.Author.Needs.{needs}
@@ -7,7 +8,7 @@ use Rattle.table.specs.Table.{Table}
 use Rattle.forward_star.specs.Lists.{Some-table}
 use Rattle.keeping.specs.Keeping.{lent-total, kept}
 use Rattle.keeping.proofs.Choices.{lent-some, stays-so}
-use Rattle.keeper.proofs.Choosing.{some-node, refused, fresh-total, keeps-standing, gives-fresh}
+use Rattle.keeper.proofs.Choosing.{some-node, refused, fresh-total, gives}
 use Rattle.keeper.proofs.choose.Statement.{statement}
 use Rattle.keeper.proofs.choose.Tie as tie
 
@@ -51,7 +52,7 @@ unfolding kept
 returns-2 c u here =
     let d = c .before .before in
     let e = d .before .total-of .ensures u here in
-    keeps-standing u _ _ _ e (d .if1 .left) _ (c .before .stays .ensures u here e) (c .if2 .taken)
+    gives u _ _ _ e (d .if1 .left) true (sym (c .before .stays .ensures u here e) ∙ c .if2 .taken)
 
 cast-t13 : tie.Need-cast-t13
 cast-t13 c = let d = c .before .before in omega (arith, lent-some (t d) _ _ (total-so d) .0)
@@ -61,7 +62,7 @@ unfolding kept
 returns-3 c u here =
     let d = c .before .before in
     let e = d .before .total-of .ensures u here in
-    gives-fresh u _ _ _ e (d .if1 .left) _ (c .before .stays .ensures u here e) (c .if2 .left)
+    gives u _ _ _ e (d .if1 .left) false (sym (c .before .stays .ensures u here e) ∙ c .if2 .left)
 
 pub choose-spec : {M : Type 1} → statement M
 choose-spec =
