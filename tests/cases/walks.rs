@@ -1,4 +1,4 @@
-//! Keeping the path in use beside a fresh one: all short lists on all small tables, and random walks on random tables.
+//! Keeping the path in use beside a fresh one: short lists on small tables, and random walks on random tables.
 
 use super::*;
 use crate::compare;
@@ -8,7 +8,7 @@ use std::mem::swap;
 
 pub const GROUPS: &[Group] = &[
     Group { name: "keeping: several faults at once", run: several_faults },
-    Group { name: "keeping: all tables of two and three nodes with few arcs, all short lists", run: all_small },
+    Group { name: "keeping: all tables of two and three nodes with few arcs, short lists", run: all_small },
     Group { name: "keeping: parallel arcs and loops", run: parallel },
     Group { name: "keeping: the table without its down links, and with its links in another order", run: other_tables },
     Group { name: "keeping: random walks, tables of 1 to 12 nodes", run: small },
