@@ -1,1 +1,2 @@
 // The auction of document 01 as definitions, with the promises about it.
+#![tactic(auto)]

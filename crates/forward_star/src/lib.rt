@@ -1,4 +1,6 @@
 // THE FORWARD STAR: the lists of each node's outgoing arcs, linked in table order. specs/Lists.antt says what they hold.
+#![tactic(auto)]
+
 ghost use Rattle.std.specs.Prelude.{◌≡◌, ℕ, ◌≤◌, ◌<◌, length, get_or};
 ghost use Rattle.table.specs.Table.{Table, no_arc, most_arcs};
 ghost use Rattle.table.specs.Slices.{was, left};

@@ -1,5 +1,7 @@
 // The hand-over: from the arrays where a run has ended, the answer and what the four buffers hold: a distance, a price and a tree arc for
 // each node, a mark for each arc. The entries of a buffer are made from the last to the first, as the definitions list them.
+#![tactic(auto)]
+
 ghost use Rattle.std.specs.Prelude.{◌≡◌, cond, List, ℕ, max, ◌+◌, ◌≤◌, ◌<◌, ltb, eqb, length, get_or};
 ghost use Rattle.table.specs.Table.{Table, no_arc, no_distance, most_nodes, most_wanted};
 ghost use Rattle.table.specs.Refusals.{no_refusal, refusal};

@@ -1,4 +1,6 @@
 // From the bytes of a link file to the plan of its table.
+#![tactic(auto)]
+
 ghost use Rattle.std.specs.Prelude.{◌≡◌};
 ghost use Rattle.table.specs.Slices.{was, left};
 ghost use Rattle.link_file.specs.Promises.{CountsFit};

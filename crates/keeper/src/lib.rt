@@ -1,5 +1,7 @@
 // Keeping the standing path: the totals of two lists of nodes, and which of the lists is given. crate keeping (specs/Keeping.antt) says which, for every
 // input.
+#![tactic(auto)]
+
 ghost use Rattle.std.specs.Prelude.{◌≡◌, true, ◌&&◌, cond, [], ℕ, ◌≤◌, ◌<◌, ltb, eqb, length};
 ghost use Rattle.table.specs.Table.{Table, is_table, most_nodes};
 ghost use Rattle.table.specs.Slices.{was};

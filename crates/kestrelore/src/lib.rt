@@ -1,5 +1,7 @@
 // The library for firmware: the eight entry points under C names, nothing else. include/kestrelore.h declares them; each has the contract of the function
 // that it hands on to.
+#![tactic(auto)]
+
 ghost use Rattle.std.specs.Prelude.{◌≡◌};
 ghost use Rattle.planner.specs.Plan.{Plans, PlansToCollector};
 ghost use Rattle.limit_answer.specs.Answer.{AnswersLimit};

@@ -1,4 +1,5 @@
 // Whether a node is within a limit: what is answered as definitions, with the promises about it. planner has the code.
+#![tactic(auto)]
 
 // Number and place of a refusal, number 0 where there is none; 1 where the node is within the limit, else 0; the iterations made.
 #[repr(C)]

@@ -1,5 +1,7 @@
 // The link file of a table: reader and writer, over the parts of crates `link_reader` and `link_writer`. Crate `link_format` says what bytes a table has and
 // what reading bytes gives; specs/Entries.antt says what the two entries answer.
+#![tactic(auto)]
+
 ghost use Rattle.std.specs.Prelude.{◌≡◌, ◌≤◌};
 ghost use Rattle.table.specs.Table.{most_nodes, most_arcs, most_wanted};
 ghost use Rattle.link_format.specs.Buffers.{too_short, no_content};

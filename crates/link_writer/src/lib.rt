@@ -1,5 +1,7 @@
 // Writing a table as a link file: the size of each part, and its bytes. Crate `link_file` puts the parts together; specs/Says.antt says what the sizes
 // are and what putting a header asks for.
+#![tactic(auto)]
+
 ghost use Rattle.std.specs.Prelude.{cond, ◌≡◌, ◌*◌, ◌+◌, ◌≤◌, ◌<◌, length, get_or};
 ghost use Rattle.std.proofs.Math.Option.{none};
 ghost use Rattle.std.proofs.lemmas.List.Edits.{sets};

@@ -1,4 +1,5 @@
 // Listing a path: what is listed as definitions, from the origin to a node and from a node to a collector, with the promises about it. paths has the code.
+#![tactic(auto)]
 
 // The refusal's number, 0 where there is none; its place, always 0; and how many nodes are listed, 0 on a refusal.
 #[repr(C)]

@@ -1,4 +1,6 @@
 // How many arcs have each mark, for the last line of a sheet. specs/Tally.antt says what a tally is.
+#![tactic(auto)]
+
 ghost use Rattle.std.specs.Prelude.{◌≡◌};
 ghost use Rattle.table.specs.Slices.{was};
 ghost use Rattle.mark_tally.specs.Tally.{tally_of, Roomy, Counts};

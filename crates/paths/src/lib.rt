@@ -3,6 +3,8 @@
 //
 // The path is followed twice: once to count its nodes, which finds refusal 14 before anything is written, and once to write them, from the last to
 // the first; to a collector, for which tails and heads are exchanged, from the first to the last.
+#![tactic(auto)]
+
 ghost use Rattle.std.specs.Prelude.{◌≡◌, true, ◌++◌, reverse, ◌≤◌, ◌<◌, length, get_or, drop};
 ghost use Rattle.table.specs.Table.{no_arc};
 ghost use Rattle.table.specs.Slices.{was, left};

@@ -1,5 +1,7 @@
 // Planning: the refusals of a table, the run, and the four buffers that are handed over; the same to a collector, with tails and heads exchanged; and the
 // run within a limit, which hands over an answer alone.
+#![tactic(auto)]
+
 ghost use Rattle.std.specs.Prelude.{◌≡◌, true, cond, [], ◌∷◌, ℕ, eqb, length};
 ghost use Rattle.table.specs.Table.{table_of, is_table};
 ghost use Rattle.auction.specs.Auction.{fresh};

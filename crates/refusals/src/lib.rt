@@ -1,4 +1,6 @@
 // The refusals 1 to 7 of a table, in the order in which they are tested.
+#![tactic(auto)]
+
 ghost use Rattle.std.specs.Prelude.{◌≡◌, not, ◌≤◌, length};
 ghost use Rattle.table.specs.Table.{arc, arcs_of, most_arcs};
 ghost use Rattle.table.specs.Refusals.{rooms_fit, arc_fault, arcs_refusal, wanted_refusal, table_refusal};

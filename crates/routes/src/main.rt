@@ -1,6 +1,8 @@
 // The program: reads a link file from standard input, plans its routes and prints the sheet. It only moves bytes: what is printed of an input is defined in
 // crates/sheet (specs/Printed.antt); the three calls that are made here are input::plan_input and path_order::order_paths, once each, and printer::next_piece,
 // until there is no more.
+#![tactic(auto)]
+
 ghost use Rattle.std.specs.Prelude.{◌≤◌, length};
 ghost use Rattle.sheet_lines.specs.Room.{line_room};
 ghost use Rattle.input.specs.Input.{Prints};

@@ -1,5 +1,7 @@
 // The lines of a sheet as bytes: each kind has a function that puts a line of it whole at the start of a buffer and answers its length. crates/sheet says which
 // bytes a line has, and crates/printer which line comes next. Beneath the lines, texts and numbers are put one after the other (text).
+#![tactic(auto)]
+
 mod text;
 
 ghost use Rattle.std.specs.Prelude.{◌≡◌, ◌+◌, ◌≤◌, length};

@@ -3,6 +3,8 @@
 // arrays hold, crate forward_star (specs/Lists.antt) what the lists of outgoing arcs are, specs/Memory.antt what becomes of the children that nodes remember,
 // specs/Steps.antt what a step may rely on and what it does. A function that is lent only some of the arrays says its equation for every
 // table that its columns and lists belong to and for every value of the others.
+#![tactic(auto)]
+
 ghost use Rattle.std.specs.Prelude.{◌≡◌, ◌≤◌};
 ghost use Rattle.table.specs.Table.{longest};
 

@@ -1,5 +1,7 @@
 // The words that every crate above shares: limits and numbers with a meaning, what a refusal is, and the tests that several entries make. specs/Table.antt
 // says what a table and a walk are, specs/Refusals.antt when a table is refused.
+#![tactic(auto)]
+
 ghost use Rattle.std.specs.Prelude.{◌≡◌, ◌<◌};
 ghost use Rattle.table.specs.Refusals.{no_refusal, count_bad, columns_bad};
 
