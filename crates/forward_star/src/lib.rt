@@ -3,7 +3,6 @@
 
 ghost use Rattle.std.specs.Prelude.{◌≡◌, ℕ, ◌≤◌, ◌<◌, length, get_or};
 ghost use Rattle.table.specs.Table.{Table, no_arc, most_arcs};
-ghost use Rattle.table.specs.Slices.{was, left};
 ghost use Rattle.forward_star.specs.Lists.{Tails, Linked};
 
 use table::{DOWN, wide};
@@ -21,7 +20,7 @@ pub fn link_arcs(tails: &[u16], lengths: &[u32], first: &mut [u16], next: &mut [
     requires next_len { (length next.old ≡ length tails.now) × ((length lengths.now ≡ length tails.now) × (length tails.now ≤ most_arcs)) }
     requires by_index { (i : ℕ) → i < length tails.now → get_or tails.now i 0 < length first.old }
     requires by_index_2 { (v : ℕ) → v < length first.old → get_or first.old v 0 ≡ no_arc }
-    ensures { (t : Table) → t.n ≡ length (was first) → Tails t (was tails) (was lengths) → Linked t (left first) (left next) }
+    ensures { (t : Table) → t.n ≡ length first.old → Tails t tails.now lengths.now → Linked t first.new next.new }
 {
     let mut p = tails.len();
     while 0 < p {

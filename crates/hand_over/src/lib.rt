@@ -7,7 +7,6 @@ ghost use Rattle.table.specs.Table.{Table, no_arc, no_distance, most_nodes, most
 ghost use Rattle.table.specs.Refusals.{no_refusal, refusal};
 ghost use Rattle.auction.specs.HandOver.{horizon, reached_count, distances, prices, tree, marks, mark_number};
 ghost use Rattle.steps.specs.declared.state.Progress.{Progress};
-ghost use Rattle.table.specs.Slices.{was, left};
 ghost use Rattle.steps.specs.Seen.{seen, too_many};
 ghost use Rattle.hand_over.specs.Answered.{answered};
 ghost use Rattle.hand_over.specs.ReadOff.{Known, ArcEnds, Fitting, ArcsHeld, NoneFarther, ReadOff, HandsOver, mark_entry};
@@ -33,7 +32,7 @@ pub struct Planned {
 // A reached node's distance, or another number.
 fn distance_or(other: u64, v: usize, bound: &[u64], status: &[u8]) -> u64
     requires { (v < length bound.now) × (v < length status.now) }
-    ensures { result ≡ cond (ltb 0 (get_or (was status) v 0)) (get_or (was bound) v 0) other }
+    ensures { result ≡ cond (ltb 0 (get_or status.now v 0)) (get_or bound.now v 0) other }
 {
     if status[v] == RunState::UNREACHED {
         return other;
@@ -54,8 +53,8 @@ fn larger(a: u64, b: u64) -> u64
 // The horizon: the largest distance reached.
 fn horizon_of(bound: &[u64], status: &[u8]) -> u64
     requires { Known bound.now status.now }
-    ensures so { (kept : List ℕ) → ReadOff horizon (was bound) kept (was status) result }
-    ensures above { NoneFarther result (was bound) (was status) }
+    ensures so { (kept : List ℕ) → ReadOff horizon bound.now kept status.now result }
+    ensures above { NoneFarther result bound.now status.now }
 {
     let mut h: u64 = 0;
     let mut v = status.len();
@@ -69,7 +68,7 @@ fn horizon_of(bound: &[u64], status: &[u8]) -> u64
 // 1 for a reached node, 0 for another.
 fn one_if_reached(v: usize, status: &[u8]) -> u32
     requires { v < length status.now }
-    ensures { result ≡ cond (ltb 0 (get_or (was status) v 0)) 1 0 }
+    ensures { result ≡ cond (ltb 0 (get_or status.now v 0)) 1 0 }
 {
     if status[v] == RunState::UNREACHED {
         return 0;
@@ -80,7 +79,7 @@ fn one_if_reached(v: usize, status: &[u8]) -> u32
 // How many nodes have been reached.
 fn count_reached(status: &[u8]) -> u32
     requires { length status.now ≤ most_nodes }
-    ensures { (bound kept : List ℕ) → ReadOff reached_count bound kept (was status) result }
+    ensures { (bound kept : List ℕ) → ReadOff reached_count bound kept status.now result }
 {
     let mut count: u32 = 0;
     let mut v = status.len();
@@ -95,7 +94,7 @@ fn count_reached(status: &[u8]) -> u32
 fn fill_distances(bound: &[u64], status: &[u8], out: &mut [u64])
     requires known { Known bound.now status.now }
     requires out_len { length out.old ≡ length status.now }
-    ensures { (kept : List ℕ) → ReadOff distances (was bound) kept (was status) (left out) }
+    ensures { (kept : List ℕ) → ReadOff distances bound.now kept status.now out.new }
 {
     let mut node = out.len();
     while 0 < node {
@@ -109,8 +108,8 @@ fn fill_prices(horizon: u64, bound: &[u64], status: &[u8], out: &mut [u64])
     requires known { Known bound.now status.now }
     requires out_len { length out.old ≡ length status.now }
     requires none_farther { NoneFarther horizon bound.now status.now }
-    ensures { (kept : List ℕ) → ReadOff Rattle.auction.specs.HandOver.horizon (was bound) kept (was status) horizon →
-        Read-off prices (was bound) kept (was status) (left out) }
+    ensures { (kept : List ℕ) → ReadOff Rattle.auction.specs.HandOver.horizon bound.now kept status.now horizon →
+        ReadOff prices bound.now kept status.now out.new }
 {
     let mut v = out.len();
     while 0 < v {
@@ -122,7 +121,7 @@ fn fill_prices(horizon: u64, bound: &[u64], status: &[u8], out: &mut [u64])
 // A reached node's kept arc, or no arc.
 fn arc_of(v: usize, kept: &[u16], status: &[u8]) -> u16
     requires { (v < length kept.now) × (v < length status.now) }
-    ensures { result ≡ cond (ltb 0 (get_or (was status) v 0)) (get_or (was kept) v 0) no_arc }
+    ensures { result ≡ cond (ltb 0 (get_or status.now v 0)) (get_or kept.now v 0) no_arc }
 {
     if status[v] == RunState::UNREACHED {
         return NO_ARC;
@@ -133,7 +132,7 @@ fn arc_of(v: usize, kept: &[u16], status: &[u8]) -> u16
 // The tree column: a reached node's kept arc, no arc for another.
 fn fill_tree(kept: &[u16], status: &[u8], out: &mut [u16])
     requires { (length kept.now ≡ length status.now) × (length out.old ≡ length status.now) }
-    ensures { (bound : List ℕ) → ReadOff tree bound (was kept) (was status) (left out) }
+    ensures { (bound : List ℕ) → ReadOff tree bound kept.now status.now out.new }
 {
     let mut v = out.len();
     while 0 < v {
@@ -170,7 +169,7 @@ fn mark_at(
 ) -> u8
     requires arc_ends { ArcEnds tails.now heads.now lengths.now kept.now status.now }
     requires i_in_bounds { (i < length heads.now) × (i < no_arc) }
-    ensures { result ≡ mark_entry (was tails) (was heads) (was lengths) (was kept) (was status) i }
+    ensures { result ≡ mark_entry tails.now heads.now lengths.now kept.now status.now i }
 {
     // set aside from the start: the link is down
     if lengths[i] == DOWN {
@@ -196,8 +195,8 @@ fn fill_marks(
 )
     requires arc_ends { ArcEnds tails.now heads.now lengths.now kept.now status.now }
     requires out_len { (length out.old ≡ length heads.now) × (length heads.now < no_arc) }
-    ensures { (t : Table) (path price bound : List ℕ) (g : Progress) → ArcsHeld t (was tails) (was heads) (was lengths) →
-        left out ≡ marks t (seen path price bound (was kept) (was status) g) }
+    ensures { (t : Table) (path price bound : List ℕ) (g : Progress) → ArcsHeld t tails.now heads.now lengths.now →
+        out.new ≡ marks t (seen path price bound kept.now status.now g) }
 {
     let mut i = out.len();
     while 0 < i {
@@ -239,8 +238,8 @@ pub fn hand_over(
     requires arc_ends { ArcEnds tails.now heads.now lengths.now kept.now status.now }
     requires fitting { Fitting (length status.now) (length heads.now) distances.old prices.old tree.old marks.old }
     requires missing_le_most_wanted { (end.missing ≤ most_wanted) × (end.progress.contractions + end.progress.extensions + end.progress.deletions < too_many) }
-    ensures { HandsOver end wanted (was tails) (was heads) (was lengths) (was bound) (was kept) (was status)
-        (answered result (left distances) (left prices) (left tree) (left marks)) }
+    ensures { HandsOver end wanted tails.now heads.now lengths.now bound.now kept.now status.now
+        (answered result distances.new prices.new tree.new marks.new) }
 {
     let refusal = route_refusal(end.missing, wanted);
     let reached = count_reached(status);

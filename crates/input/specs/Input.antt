@@ -1,7 +1,7 @@
 -- What the function that reads and plans leaves behind. Assumes nothing: these are definitions.
 use Rattle.std.specs.Prelude.{◌≡◌, List, ℕ, ◌≤◌, ◌<◌, length, take}
 use Rattle.table.specs.Table.{most_nodes, most_arcs, most_wanted}
-use Rattle.table.specs.Slices.{Slice, was, left}
+use Rattle.table.specs.Slices.{Slice, was, Buffer, had, left}
 use Rattle.link_format.specs.Format.{Content}
 use Rattle.link_format.specs.Reading.{Outcome, refused}
 use Rattle.link_file.specs.declared.TableRead.{TableRead}
@@ -38,16 +38,16 @@ printing_read r a ts hs ws ds ps tr ms =
     (answered a (take r.n ds) (take r.n ps) (take r.n tr) (take r.arcs ms))
 
 -- what reading the input did, of the slices that were lent
-abbrev pub ReadsInput : (input tails heads lengths wanted : Slice) → TableRead → Type 0
+abbrev pub ReadsInput : (input : Slice) → (tails heads lengths wanted : Buffer) → TableRead → Type 0
 ReadsInput input ts hs ls ws r =
-    LeftByReading (read_input (was input)) (was ts) (was hs) (was ls) (was ws) (left ts) (left hs) (left ls) (left ws) r
+    LeftByReading (read_input (was input)) (had ts) (had hs) (had ls) (had ws) (left ts) (left hs) (left ls) (left ws) r
 
 -- a reader's refusal has a number, and it is not 8, on which a plan is made all the same
 unfoldable pub RefusesWell : Outcome Content → Type 0
 RefusesWell o = (n p : ℕ) → o ≡ refused n p → (0 < n) × (n ≡ 8 → ⊥)
 
 -- Planning what was read: whatever reading gave it, what is printed of it are the lines of that.
-abbrev pub PlansRead : TableRead → (tails heads lengths wanted distances prices tree marks : Slice) → Planned → Type 0
+abbrev pub PlansRead : TableRead → (tails heads lengths wanted : Slice) → (distances prices tree marks : Buffer) → Planned → Type 0
 PlansRead r ts hs ls ws ds ps tr ms a =
     (o : Outcome Content) (ts₀ hs₀ ls₀ ws₀ : List ℕ) → RefusesWell o → LeftByReading o ts₀ hs₀ ls₀ ws₀ (was ts) (was hs) (was ls) (was ws) r →
     sheet (printing_read r a (was ts) (was hs) (was ws) (left ds) (left ps) (left tr) (left ms)) ≡ lines_of o

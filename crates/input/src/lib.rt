@@ -2,7 +2,6 @@
 #![tactic(auto)]
 
 ghost use Rattle.std.specs.Prelude.{◌≡◌};
-ghost use Rattle.table.specs.Slices.{was, left};
 ghost use Rattle.link_file.specs.Promises.{CountsFit};
 ghost use Rattle.input.specs.Input.{ColumnsRoomy, BuffersRoomy, refused_file, ReadsInput, PlansRead, Ready};
 
@@ -113,7 +112,7 @@ pub fn plan_input(
 ) -> PlannedInput
     requires columns_roomy { ColumnsRoomy tails.old heads.old lengths.old wanted.old }
     requires buffers_roomy { BuffersRoomy distances.old prices.old tree.old marks.old }
-    ensures { Ready (was input) result (left tails) (left heads) (left wanted) (left distances) (left prices) (left tree) (left marks) }
+    ensures { Ready input.now result tails.new heads.new wanted.new distances.new prices.new tree.new marks.new }
 {
     let read = read_input(input, tails, heads, lengths, wanted);
     let answer = plan_read(

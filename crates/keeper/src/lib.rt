@@ -4,7 +4,6 @@
 
 ghost use Rattle.std.specs.Prelude.{◌≡◌, true, ◌&&◌, cond, [], ℕ, ◌≤◌, ◌<◌, ltb, eqb, length};
 ghost use Rattle.table.specs.Table.{Table, is_table, most_nodes};
-ghost use Rattle.table.specs.Slices.{was};
 ghost use Rattle.forward_star.specs.Lists.{star, lent_star, Outgoing, SomeTable};
 ghost use Rattle.keeping.specs.Keeping.{step_length, lent_total, stays, table_in, keeps, Part, Says};
 ghost use Rattle.keeper.specs.Totals.{above_totals, step_of, total_of, chosen};
@@ -54,7 +53,7 @@ fn step_length(
 fn total_of(list: &[u16], heads: &[u16], lengths: &[u32], first: &[u16], next: &[u16]) -> u64
     requires some_table { SomeTable (star heads.now lengths.now first.now next.now) }
     requires first_len_bound { length first.now ≤ most_nodes }
-    ensures { (t : Table) → Outgoing t (lent_star heads lengths first next) → total_of result ≡ lent_total t (was list) }
+    ensures { (t : Table) → Outgoing t (lent_star heads lengths first next) → total_of result ≡ lent_total t list.now }
 {
     let count = list.len();
     if count == 0 || MOST_NODES < count {
@@ -93,8 +92,8 @@ fn stays(
 ) -> bool
     requires some_table { SomeTable (star heads.now lengths.now first.now next.now) }
     requires first_len_bound { (length first.now ≤ most_nodes) × ((0 < length fresh.now) × (most < above_totals)) }
-    ensures { (t : Table) → Outgoing t (lent_star heads lengths first next) → total_of most ≡ lent_total t (was fresh) →
-        result ≡ stays t (was standing) (was fresh) }
+    ensures { (t : Table) → Outgoing t (lent_star heads lengths first next) → total_of most ≡ lent_total t fresh.now →
+        result ≡ stays t standing.now fresh.now }
 {
     let count = standing.len();
     if count == 0 {
@@ -120,7 +119,7 @@ fn choose(
 ) -> Kept
     requires some_table { SomeTable (star heads.now lengths.now first.now next.now) }
     requires first_len_bound { length first.now ≤ most_nodes }
-    ensures { (t : Table) → Outgoing t (lent_star heads lengths first next) → result ≡ chosen t (was standing) (was fresh) }
+    ensures { (t : Table) → Outgoing t (lent_star heads lengths first next) → result ≡ chosen t standing.now fresh.now }
 {
     let most = total_of(fresh, heads, lengths, first, next);
     if most == NO_TOTAL {
@@ -158,7 +157,7 @@ fn compare(
 ) -> Kept
     requires heads_len { (length heads.now ≡ length tails.now) × (length lengths.now ≡ length tails.now) }
     requires lengths_value { is_table (table_in n tails.now heads.now lengths.now) [] ≡ true }
-    ensures { result ≡ chosen (table_in n (was tails) (was heads) (was lengths)) (was standing) (was fresh) }
+    ensures { result ≡ chosen (table_in n tails.now heads.now lengths.now) standing.now fresh.now }
 {
     let m = tails.len();
     let mut first: [u16; MOST_NODES] = [NO_ARC; MOST_NODES];

@@ -1,6 +1,5 @@
 // Fields of so many bytes, the lowest byte first; refusals, and the numbers of an answer.
 ghost use Rattle.std.specs.Prelude.{◌≡◌, ◌+◌, ◌≤◌, ◌<◌, length};
-ghost use Rattle.table.specs.Slices.{was, left};
 ghost use Rattle.table.specs.Refusals.{refusal};
 ghost use Rattle.link_format.specs.Format.{length_width, limit, bytes, field_bytes};
 ghost use Rattle.link_format.specs.Reading.{field};
@@ -35,7 +34,7 @@ fn value_of(byte: u8) -> usize
 // The field of so many bytes at an offset of a part of the file.
 pub fn read_field(part: &[u8], from: usize, width: usize) -> Field
     requires { (from ≤ length part.now) × (width ≤ length_width) }
-    ensures { FieldSays result (field width) (was part) from width (limit width) }
+    ensures { FieldSays result (field width) part.now from width (limit width) }
 {
     if part.len() - from < width {
         return Field::Cut;
@@ -52,7 +51,7 @@ pub fn read_field(part: &[u8], from: usize, width: usize) -> Field
 // A field that may be absent, and what its absence says.
 pub fn read_optional(part: &[u8], from: usize, width: usize, stands: bool, absent: usize) -> Field
     requires { (from ≤ length part.now) × (width ≤ length_width) }
-    ensures { OptionalSays result stands absent (was part) from width }
+    ensures { OptionalSays result stands absent part.now from width }
 {
     if stands {
         return read_field(part, from, width);
@@ -82,7 +81,7 @@ pub fn refuse(number: u32, place: usize) -> Refusal
 // Puts a number of so many bytes at an offset, and gives the next one.
 pub fn put_field(output: &mut [u8], at: usize, width: usize, value: usize) -> usize
     requires { at + width ≤ length output.old }
-    ensures { Put (was output) at (bytes width value) result (left output) }
+    ensures { Put output.old at (bytes width value) result output.new }
 {
     let mut left = value;
     let mut i = 0;
@@ -97,7 +96,7 @@ pub fn put_field(output: &mut [u8], at: usize, width: usize, value: usize) -> us
 // Puts a field where it stands.
 pub fn put_optional(output: &mut [u8], at: usize, width: usize, stands: bool, value: usize) -> usize
     requires { at + length (field_bytes stands width value) ≤ length output.old }
-    ensures { Put (was output) at (field_bytes stands width value) result (left output) }
+    ensures { Put output.old at (field_bytes stands width value) result output.new }
 {
     if stands {
         return put_field(output, at, width, value);

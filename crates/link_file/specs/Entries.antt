@@ -2,7 +2,7 @@
 -- own answers. Assumes nothing: these are definitions.
 use Rattle.std.specs.Prelude.{List, ◌≡◌, ℕ, length}
 use Rattle.table.specs.declared.Refusal.{Refusal}
-use Rattle.table.specs.Slices.{Slice, was, left}
+use Rattle.table.specs.Slices.{Slice, was, Buffer, had, left}
 use Rattle.link_format.specs.Buffers.{over, reading, refusal_of, content_of, file_of, writing, put_bytes}
 use Rattle.link_format.specs.Format.{Content, tails_of, heads_of, lengths_of}
 use Rattle.link_format.specs.Reading.{Outcome}
@@ -27,8 +27,8 @@ abbrev pub ReadSays : (file tails heads lengths wanted tails' heads' lengths' wa
 ReadSays file ts hs ls ws ts' hs' ls' ws' r = LeftByReading (reading file ts hs ls ws) ts hs ls ws ts' hs' ls' ws' r
 
 -- THE CONTRACT of read_link_file, of the slices that are lent
-abbrev pub ReadsFile : (file tails heads lengths wanted : Slice) → TableRead → Type 0
-ReadsFile file ts hs ls ws r = ReadSays (was file) (was ts) (was hs) (was ls) (was ws) (left ts) (left hs) (left ls) (left ws) r
+abbrev pub ReadsFile : (file : Slice) → (tails heads lengths wanted : Buffer) → TableRead → Type 0
+ReadsFile file ts hs ls ws r = ReadSays (was file) (had ts) (had hs) (had ls) (had ws) (left ts) (left hs) (left ls) (left ws) r
 
 -- the writer's answer
 unfoldable pub write_answer : Refusal → (size : ℕ) → Written
@@ -45,5 +45,5 @@ WriteSays n o ts hs ls ws output output' r =
     LeftByWriting (writing n o ts hs ls ws (length output)) (file_of n o ts hs ls ws) output output' r
 
 -- THE CONTRACT of write_link_file, of the slices that are lent
-abbrev pub WritesFile : (n origin : ℕ) → (tails heads lengths wanted output : Slice) → Written → Type 0
-WritesFile n o ts hs ls ws output r = WriteSays n o (was ts) (was hs) (was ls) (was ws) (was output) (left output) r
+abbrev pub WritesFile : (n origin : ℕ) → (tails heads lengths wanted : Slice) → (output : Buffer) → Written → Type 0
+WritesFile n o ts hs ls ws output r = WriteSays n o (was ts) (was hs) (was ls) (was ws) (had output) (left output) r

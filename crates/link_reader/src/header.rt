@@ -1,7 +1,6 @@
 // Reading the header: the node count, the origin and the wanted list.
 ghost use Rattle.std.specs.Prelude.{◌&&◌, ◌≡◌, ◌+◌, ◌*◌, ◌≤◌, length, drop};
 ghost use Rattle.std.proofs.lemmas.List.Edits.{sets};
-ghost use Rattle.table.specs.Slices.{was, left};
 ghost use Rattle.table.specs.Table.{most_nodes, most_wanted};
 ghost use Rattle.link_format.specs.Format.{map_width, node_width, count_up};
 ghost use Rattle.link_format.specs.Reading.{forbidden_header};
@@ -53,7 +52,7 @@ fn both(a: bool, b: bool) -> bool
 // Every one of so many nodes is read, and compared with its index.
 fn check_nodes(file: &[u8], from: usize, count: usize) -> NodesRead
     requires { (from ≤ length file.now) × (count ≤ most_wanted) }
-    ensures { NodesSays result (was file) from count }
+    ensures { NodesSays result file.now from count }
 {
     let mut at = from;
     let mut ascending = true;
@@ -72,7 +71,7 @@ fn check_nodes(file: &[u8], from: usize, count: usize) -> NodesRead
 // The wanted list of n nodes.
 fn read_wanted(file: &[u8], from: usize, listed: bool, n: usize) -> WantedRead
     requires { (from ≤ length file.now) × ((from ≤ map_width + node_width + node_width) × (n ≤ most_nodes)) }
-    ensures { WantedSays result (was file) from listed n }
+    ensures { WantedSays result file.now from listed n }
 {
     if !listed {
         return WantedRead::Read(n, from, true);
@@ -101,7 +100,7 @@ fn forbidden(bits: u8) -> bool
 
 // The header at the start of a file.
 pub fn read_header(file: &[u8]) -> HeaderRead
-    ensures { HeaderSays result (was file) }
+    ensures { HeaderSays result file.now }
 {
     if file.len() == 0 {
         return HeaderRead::Refused(refuse(Refusal::CUT, 0));
@@ -143,7 +142,7 @@ pub fn read_header(file: &[u8]) -> HeaderRead
 fn fill_nodes(file: &[u8], from: usize, count: usize, wanted: &mut [u16])
     requires count_in_bounds { from + node_width * count ≤ length file.now }
     requires count_le_most_wanted { (count ≤ most_wanted) × (most_wanted ≤ length wanted.old) }
-    ensures { left wanted ≡ sets (was wanted) 0 (nodes_in count (drop from (was file))) }
+    ensures { wanted.new ≡ sets wanted.old 0 (nodes_in count (drop from file.now)) }
 {
     let mut at = from;
     let mut i = 0;
@@ -160,7 +159,7 @@ fn fill_nodes(file: &[u8], from: usize, count: usize, wanted: &mut [u16])
 // All n nodes, ascending, at the start of a buffer.
 fn fill_all(n: usize, wanted: &mut [u16])
     requires { (n ≤ most_nodes) × (most_wanted ≤ length wanted.old) }
-    ensures { left wanted ≡ sets (was wanted) 0 (count_up 0 n) }
+    ensures { wanted.new ≡ sets wanted.old 0 (count_up 0 n) }
 {
     let mut i = 0;
     while i < n {
@@ -172,7 +171,7 @@ fn fill_all(n: usize, wanted: &mut [u16])
 // The wanted list of a header that was read, at the start of a buffer.
 pub fn fill_wanted(file: &[u8], header: Header, wanted: &mut [u16])
     requires { HeaderGot file.now header × (most_wanted ≤ length wanted.old) }
-    ensures { left wanted ≡ sets (was wanted) 0 (wanted_of (was file) header) }
+    ensures { wanted.new ≡ sets wanted.old 0 (wanted_of file.now header) }
 {
     let count = header.wanted;
     if header.listed {

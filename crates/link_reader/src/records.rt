@@ -1,7 +1,6 @@
 // Reading the records of arcs.
 ghost use Rattle.std.specs.Prelude.{◌≡◌, ◌≤◌, ◌<◌, length};
 ghost use Rattle.std.proofs.lemmas.List.Edits.{sets};
-ghost use Rattle.table.specs.Slices.{was, left};
 ghost use Rattle.link_format.specs.Format.{tails_of, heads_of, lengths_of, most_header, most_file};
 ghost use Rattle.link_fields.specs.Fields.{arc_before};
 ghost use Rattle.link_reader.specs.Says.{RecordSays, count_of, records_from, arcs_from, Fillable};
@@ -21,7 +20,7 @@ pub enum RecordRead {
 // The record at the start of a part of the file, which begins at an offset of the file.
 pub fn read_record(part: &[u8], at: usize, previous: Previous) -> RecordRead
     requires { (0 < length part.now) × (at ≤ most_file) }
-    ensures { RecordSays result (arc_before previous) (was part) at }
+    ensures { RecordSays result (arc_before previous) part.now at }
 {
     let bits = part[0];
     let file_length = at + part.len();
@@ -77,7 +76,7 @@ pub enum Counted {
 // The first pass: every record from an offset to the end of the file is read, and counted.
 pub fn count_records(file: &[u8], start: usize) -> Counted
     requires { (start ≤ length file.now) × (start ≤ most_header) }
-    ensures { result ≡ count_of 0 (records_from (was file) start) }
+    ensures { result ≡ count_of 0 (records_from file.now start) }
 {
     let mut at = start;
     let mut count = 0;
@@ -110,9 +109,9 @@ pub fn fill_records(
     lengths: &mut [u32],
 )
     requires { Fillable file.now start tails.old heads.old lengths.old }
-    ensures tails { left tails ≡ sets (was tails) 0 (tails_of (arcs_from (was file) start)) }
-    ensures heads { left heads ≡ sets (was heads) 0 (heads_of (arcs_from (was file) start)) }
-    ensures lengths { left lengths ≡ sets (was lengths) 0 (lengths_of (arcs_from (was file) start)) }
+    ensures tails { tails.new ≡ sets tails.old 0 (tails_of (arcs_from file.now start)) }
+    ensures heads { heads.new ≡ sets heads.old 0 (heads_of (arcs_from file.now start)) }
+    ensures lengths { lengths.new ≡ sets lengths.old 0 (lengths_of (arcs_from file.now start)) }
 {
     let mut at = start;
     let mut i = 0;

@@ -5,7 +5,6 @@
 ghost use Rattle.std.specs.Prelude.{cond, ◌≡◌, ◌*◌, ◌+◌, ◌≤◌, ◌<◌, length, get_or};
 ghost use Rattle.std.proofs.Math.Option.{none};
 ghost use Rattle.std.proofs.lemmas.List.Edits.{sets};
-ghost use Rattle.table.specs.Slices.{was, left};
 ghost use Rattle.table.specs.Table.{most_arcs, arc, arcs_of, most_wanted};
 ghost use Rattle.link_format.specs.Buffers.{EqualColumns};
 ghost use Rattle.link_format.specs.Format.{most_record, all_nodes, header_bits, header_bytes, nodes_bytes, wanted_bytes, record_bytes, records_bytes};
@@ -37,7 +36,7 @@ fn record_size(bits: u8) -> usize
 // The arc at a position of the columns.
 fn arc_at(tails: &[u16], heads: &[u16], lengths: &[u32], i: usize) -> Arc
     requires { (i < length tails.now) × ((i < length heads.now) × (i < length lengths.now)) }
-    ensures { arc_of result ≡ arc (get_or (was tails) i 0) (get_or (was heads) i 0) (get_or (was lengths) i 0) }
+    ensures { arc_of result ≡ arc (get_or tails.now i 0) (get_or heads.now i 0) (get_or lengths.now i 0) }
 {
     Arc {
         tail: tails[i],
@@ -49,7 +48,7 @@ fn arc_at(tails: &[u16], heads: &[u16], lengths: &[u32], i: usize) -> Arc
 // The size of all records.
 pub fn records_size(tails: &[u16], heads: &[u16], lengths: &[u32]) -> usize
     requires { EqualColumns tails.now heads.now lengths.now }
-    ensures same { result ≡ length (records_bytes none (arcs_of (was tails) (was heads) (was lengths))) }
+    ensures same { result ≡ length (records_bytes none (arcs_of tails.now heads.now lengths.now)) }
     ensures low { result ≤ most_record * most_arcs }
 {
     let mut size: usize = 0;
@@ -67,7 +66,7 @@ pub fn records_size(tails: &[u16], heads: &[u16], lengths: &[u32]) -> usize
 // Puts one record.
 fn write_record(output: &mut [u8], at: usize, previous: Previous, arc: Arc) -> usize
     requires { at + length (record_bytes (arc_before previous) (arc_of arc)) ≤ length output.old }
-    ensures { Put (was output) at (record_bytes (arc_before previous) (arc_of arc)) result (left output) }
+    ensures { Put output.old at (record_bytes (arc_before previous) (arc_of arc)) result output.new }
 {
     let bits = arcs::record_bits(previous, arc);
     output[at] = bits;
@@ -84,7 +83,7 @@ fn write_record(output: &mut [u8], at: usize, previous: Previous, arc: Arc) -> u
 pub fn write_records(tails: &[u16], heads: &[u16], lengths: &[u32], start: usize, output: &mut [u8])
     requires equal_columns { EqualColumns tails.now heads.now lengths.now }
     requires lengths_in_bounds { start + length (records_bytes none (arcs_of tails.now heads.now lengths.now)) ≤ length output.old }
-    ensures { left output ≡ sets (was output) start (records_bytes none (arcs_of (was tails) (was heads) (was lengths))) }
+    ensures { output.new ≡ sets output.old start (records_bytes none (arcs_of tails.now heads.now lengths.now)) }
 {
     let mut at = start;
     let mut previous = Previous::Nothing;
@@ -99,7 +98,7 @@ pub fn write_records(tails: &[u16], heads: &[u16], lengths: &[u32], start: usize
 
 // Whether a wanted list is all n nodes, ascending.
 fn is_all(n: usize, wanted: &[u16]) -> bool
-    ensures { result ≡ all_nodes n (was wanted) }
+    ensures { result ≡ all_nodes n wanted.now }
 {
     if wanted.len() != n {
         return false;
@@ -116,7 +115,7 @@ fn is_all(n: usize, wanted: &[u16]) -> bool
 
 // The canonical bit map of a header.
 pub fn header_bits(n: usize, origin: u16, wanted: &[u16]) -> u8
-    ensures { result ≡ header_bits n origin (was wanted) }
+    ensures { result ≡ header_bits n origin wanted.now }
 {
     arcs::bits_of(true, origin != 0, !is_all(n, wanted))
 }
@@ -137,7 +136,7 @@ pub fn header_size(bits: u8, wanted: usize) -> usize
 // Puts the wanted nodes.
 fn write_nodes(wanted: &[u16], start: usize, output: &mut [u8]) -> usize
     requires { start + length (nodes_bytes wanted.now) ≤ length output.old }
-    ensures { Put (was output) start (nodes_bytes (was wanted)) result (left output) }
+    ensures { Put output.old start (nodes_bytes wanted.now) result output.new }
 {
     let mut at = start;
     let mut i = 0;
@@ -151,7 +150,7 @@ fn write_nodes(wanted: &[u16], start: usize, output: &mut [u8]) -> usize
 // Puts the wanted list where it stands: its count and its nodes.
 fn write_wanted(output: &mut [u8], at: usize, stands: bool, wanted: &[u16]) -> usize
     requires { (at + length (wanted_bytes stands wanted.now) ≤ length output.old) × (length wanted.now ≤ most_wanted) }
-    ensures { Put (was output) at (wanted_bytes stands (was wanted)) result (left output) }
+    ensures { Put output.old at (wanted_bytes stands wanted.now) result output.new }
 {
     if !stands {
         return at;
@@ -163,7 +162,7 @@ fn write_wanted(output: &mut [u8], at: usize, stands: bool, wanted: &[u16]) -> u
 // Puts the header, whose canonical bit map is given.
 pub fn write_header(n: usize, origin: u16, wanted: &[u16], bits: u8, output: &mut [u8]) -> usize
     requires { HeaderAsks n origin wanted.now bits output.old }
-    ensures { Put (was output) 0 (header_bytes n origin (was wanted)) result (left output) }
+    ensures { Put output.old 0 (header_bytes n origin wanted.now) result output.new }
 {
     output[0] = bits;
     let origin_at = put_field(output, MAP_WIDTH, NODE_WIDTH, n);

@@ -2,7 +2,7 @@
 -- heads exchanged, turned round; so an entry leads on where it is an arc's position, the arc's tail is the node, and its head is below n. Assumes nothing:
 -- these are definitions.
 use Rattle.std.specs.Prelude.{reverse, ℕ, length}
-use Rattle.table.specs.Slices.{Slice, was, left}
+use Rattle.table.specs.Slices.{Slice, Buffer, had, left}
 use Rattle.listing.specs.declared.Listed.{Listed}
 use Rattle.listing.specs.Listing.{Tree, tree_in, lent_tree, Listing, listing, Lists}
 
@@ -18,5 +18,5 @@ unfoldable pub listing_to_collector : (collector node : ℕ) → Tree → (room 
 listing_to_collector c v k room = turned_round (listing c v (exchanged_tree k) room)
 
 -- THE CONTRACT of list_to_collector, of the slices that are lent
-abbrev pub ListsToCollector : (collector node : ℕ) → (tails heads tree output : Slice) → Listed → Type 0
-ListsToCollector c v ts hs k out r = Lists (listing_to_collector c v (lent_tree ts hs k) (length (was out))) r (was out) (left out)
+abbrev pub ListsToCollector : (collector node : ℕ) → (tails heads tree : Slice) → (output : Buffer) → Listed → Type 0
+ListsToCollector c v ts hs k out r = Lists (listing_to_collector c v (lent_tree ts hs k) (length (had out))) r (had out) (left out)

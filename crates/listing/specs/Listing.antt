@@ -4,7 +4,7 @@ use Rattle.std.specs.Prelude.{◌≡◌, Bool, ◌&&◌, cond, List, [], ◌∷�
 use Rattle.std.proofs.Math.Option.{Option, none, some}
 use Rattle.table.specs.Table.{no_arc}
 use Rattle.table.specs.Refusals.{count_bad, columns_bad}
-use Rattle.table.specs.Slices.{Slice, was, left}
+use Rattle.table.specs.Slices.{Slice, was, Buffer, had, left}
 use Rattle.listing.specs.declared.Listed.{Listed}
 
 -- What a listing goes by: the arcs' tails and heads, and a tree column, which has an entry for each node (a predecessor arc, in the field's terms).
@@ -98,5 +98,5 @@ pub record Lists (l : Listing) (answer : Listed) (output_before output_after : L
   pub output : output_after ≡ l.nodes ++ drop (length l.nodes) output_before
 
 -- THE CONTRACT of list_path, of the slices that are lent
-abbrev pub ListsPath : (origin node : ℕ) → (tails heads tree output : Slice) → Listed → Type 0
-ListsPath o v ts hs k out r = Lists (listing o v (lent_tree ts hs k) (length (was out))) r (was out) (left out)
+abbrev pub ListsPath : (origin node : ℕ) → (tails heads tree : Slice) → (output : Buffer) → Listed → Type 0
+ListsPath o v ts hs k out r = Lists (listing o v (lent_tree ts hs k) (length (had out))) r (had out) (left out)

@@ -2,7 +2,6 @@
 #![tactic(auto)]
 
 ghost use Rattle.std.specs.Prelude.{◌≡◌};
-ghost use Rattle.table.specs.Slices.{was};
 ghost use Rattle.mark_tally.specs.Tally.{tally_of, Roomy, Counts};
 
 // How many arcs have both ends unreached, are dropped, are kept into an unreached node, and are the tree arc of a reached node: marks 0 to 3.
@@ -50,7 +49,7 @@ fn with_mark(tally: Tally, mark: u8) -> Tally
 
 // The tally of all marks, in one pass from the last to the first.
 pub fn tally_marks(marks: &[u8]) -> Tally
-    ensures { result ≡ tally_of (was marks) }
+    ensures { result ≡ tally_of marks.now }
 {
     let mut tally = Tally {
         unreached: 0,

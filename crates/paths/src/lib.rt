@@ -7,7 +7,6 @@
 
 ghost use Rattle.std.specs.Prelude.{◌≡◌, true, ◌++◌, reverse, ◌≤◌, ◌<◌, length, get_or, drop};
 ghost use Rattle.table.specs.Table.{no_arc};
-ghost use Rattle.table.specs.Slices.{was, left};
 ghost use Rattle.listing.specs.Listing.{tree_in, lent_tree, node_before, leads_back, path, nodes_of, early_number, listing, Tested, ListsPath};
 ghost use Rattle.listing.specs.Collecting.{ListsToCollector};
 
@@ -36,7 +35,7 @@ fn early_number(n: usize, tails: usize, heads: usize, origin: u16, node: u16) ->
 // A node's tree entry.
 fn entry_at(node: u16, tree: &[u16]) -> usize
     requires { node < length tree.now }
-    ensures { result ≡ get_or (was tree) node no_arc }
+    ensures { result ≡ get_or tree.now node no_arc }
 {
     wide(tree[wide(node)])
 }
@@ -101,7 +100,7 @@ fn write_nodes(
     requires count_value { count ≡ length (nodes_of (path origin node (tree_in tails.now heads.now tree.now))) }
     requires count_nonzero { 0 < count }
     requires count_in_bounds { count ≤ length output.old }
-    ensures { left output ≡ nodes_of (path origin node (lent_tree tails heads tree)) ++ drop count (was output) }
+    ensures { output.new ≡ nodes_of (path origin node (lent_tree tails heads tree)) ++ drop count output.old }
 {
     let mut v = node;
     let mut at = count - 1;
@@ -128,7 +127,7 @@ fn write_onward(
     requires count_value { count ≡ length (nodes_of (path collector node (tree_in heads.now tails.now tree.now))) }
     requires count_nonzero { 0 < count }
     requires count_in_bounds { count ≤ length output.old }
-    ensures { left output ≡ reverse (nodes_of (path collector node (lent_tree heads tails tree))) ++ drop count (was output) }
+    ensures { output.new ≡ reverse (nodes_of (path collector node (lent_tree heads tails tree))) ++ drop count output.old }
 {
     let last = count - 1;
     let mut v = node;

@@ -3,7 +3,7 @@
 use Rattle.std.specs.Prelude.{◌≡◌, List, ℕ}
 use Rattle.auction.specs.Plan.{plan}
 use Rattle.collector.specs.Plan.{plan_to_collector}
-use Rattle.table.specs.Slices.{Slice, was, left}
+use Rattle.table.specs.Slices.{Slice, was, Buffer, had, left}
 use Rattle.hand_over.specs.declared.Planned.{Planned}
 use Rattle.hand_over.specs.Answered.{answered}
 
@@ -13,12 +13,12 @@ abbrev pub PlanMade : (n origin : ℕ) →
 PlanMade n o ts hs ls ws ds ps tr ms ds' ps' tr' ms' r = answered r ds' ps' tr' ms' ≡ plan n o ts hs ls ws ds ps tr ms
 
 -- and as a contract says it, of the slices that are lent
-abbrev pub Plans : (n origin : ℕ) → (tails heads lengths wanted distances prices tree marks : Slice) → Planned → Type 0
+abbrev pub Plans : (n origin : ℕ) → (tails heads lengths wanted : Slice) → (distances prices tree marks : Buffer) → Planned → Type 0
 Plans n o ts hs ls ws ds ps tr ms r =
-    PlanMade n o (was ts) (was hs) (was ls) (was ws) (was ds) (was ps) (was tr) (was ms) (left ds) (left ps) (left tr) (left ms) r
+    PlanMade n o (was ts) (was hs) (was ls) (was ws) (had ds) (had ps) (had tr) (had ms) (left ds) (left ps) (left tr) (left ms) r
 
 -- THE ANSWER IS THE PLAN TO A COLLECTOR, of the slices that are lent
-abbrev pub PlansToCollector : (n collector : ℕ) → (tails heads lengths senders distances prices tree marks : Slice) → Planned → Type 0
+abbrev pub PlansToCollector : (n collector : ℕ) → (tails heads lengths senders : Slice) → (distances prices tree marks : Buffer) → Planned → Type 0
 PlansToCollector n c ts hs ls ss ds ps tr ms r =
     answered r (left ds) (left ps) (left tr) (left ms)
-    ≡ plan_to_collector n c (was ts) (was hs) (was ls) (was ss) (was ds) (was ps) (was tr) (was ms)
+    ≡ plan_to_collector n c (was ts) (was hs) (was ls) (was ss) (had ds) (had ps) (had tr) (had ms)

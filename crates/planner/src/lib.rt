@@ -8,7 +8,6 @@ ghost use Rattle.auction.specs.Auction.{fresh};
 ghost use Rattle.steps.specs.Seen.{seen, Sized};
 ghost use Rattle.auction.specs.Plan.{routes_of};
 ghost use Rattle.limit_answer.specs.Answer.{limit_of, AnswersLimit};
-ghost use Rattle.table.specs.Slices.{was, left};
 ghost use Rattle.hand_over.specs.Answered.{answered};
 ghost use Rattle.hand_over.specs.ReadOff.{Fitting};
 ghost use Rattle.planner.specs.Plan.{Plans, PlansToCollector};
@@ -44,8 +43,8 @@ fn run_lent(
     requires progress_value { seen path.old price.old bound.old kept.old status.old progress
         ≡ fresh (table_of (length status.old) origin tails.now heads.now lengths.now) }
     requires fitting { Fitting (length status.old) (length heads.now) distances.old prices.old tree.old marks.old }
-    ensures { answered result (left distances) (left prices) (left tree) (left marks)
-        ≡ routes-of (table_of (length (was status)) origin (was tails) (was heads) (was lengths)) (was wanted) }
+    ensures { answered result distances.new prices.new tree.new marks.new
+        ≡ routes_of (table_of (length status.old) origin tails.now heads.now lengths.now) wanted.now }
 {
     let end = run(
         progress, origin, NO_LIMIT, tails, heads, lengths, wanted, path, price, bound, kept, status,
@@ -82,8 +81,8 @@ fn plan_table(
     requires heads_len { (length heads.now ≡ length tails.now) × (length lengths.now ≡ length tails.now) }
     requires wanted_value { is_table (table_of n origin tails.now heads.now lengths.now) wanted.now ≡ true }
     requires fitting { Fitting n (length heads.now) distances.old prices.old tree.old marks.old }
-    ensures { answered result (left distances) (left prices) (left tree) (left marks)
-        ≡ routes-of (table_of n origin (was tails) (was heads) (was lengths)) (was wanted) }
+    ensures { answered result distances.new prices.new tree.new marks.new
+        ≡ routes_of (table_of n origin tails.now heads.now lengths.now) wanted.now }
 {
     let state = RunState::fresh(origin);
     let mut path = state.path;
@@ -200,7 +199,7 @@ fn limit_table(
 ) -> Within
     requires heads_len { (length heads.now ≡ length tails.now) × (length lengths.now ≡ length tails.now) }
     requires wanted_value { is_table (table_of n origin tails.now heads.now lengths.now) wanted.now ≡ true }
-    ensures { (v : ℕ) → was wanted ≡ v ∷ [] → result ≡ limit_of (table_of n origin (was tails) (was heads) (was lengths)) v limit }
+    ensures { (v : ℕ) → wanted.now ≡ v ∷ [] → result ≡ limit_of (table_of n origin tails.now heads.now lengths.now) v limit }
 {
     let state = RunState::fresh(origin);
     let mut path = state.path;

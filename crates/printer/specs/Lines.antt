@@ -1,6 +1,6 @@
 -- Which lines of a sheet are still to come from a cursor, and what the functions that put one line of it say. Assumes nothing: these are definitions.
 use Rattle.std.specs.Prelude.{◌≡◌, Bool, true, List, [], ◌∷◌, ◌++◌, ℕ, ◌-◌, ◌≤◌, ◌<◌, drop}
-use Rattle.table.specs.Slices.{Slice, was, left}
+use Rattle.table.specs.Slices.{Slice, was, Buffer, had, left}
 use Rattle.hand_over.specs.declared.Planned.{Planned}
 use Rattle.hand_over.specs.Answered.{answered}
 use Rattle.sheet.specs.Sheet.{Finished, to_print, node_count, has_distance, passing, node_lines, path_lines, marks_lines, after_nodes, from_counts, from_reached, sheet}
@@ -50,18 +50,18 @@ abbrev pub lent_printing : Planned → (origin : ℕ) → (tails heads order dis
 lent_printing a o ts hs vs ds ps tr ms = printing a o (was ts) (was hs) (was vs) (was ds) (was ps) (was tr) (was ms)
 
 -- THE CONTRACT of next_line: the next of the lines that are to come from a cursor, at the start of a buffer
-abbrev pub NextLine : Cursor → Finished → (out : Slice) → Line → Type 0
-NextLine c p out r = Gives p (rest p c) r (was out) (left out)
+abbrev pub NextLine : Cursor → Finished → (out : Buffer) → Line → Type 0
+NextLine c p out r = Gives p (rest p c) r (had out) (left out)
 
 -- the same of the first line, for which the answer is enough: it is put whatever the origin and the columns are
-abbrev pub FirstLine : Planned → (out : Slice) → Line → Type 0
+abbrev pub FirstLine : Planned → (out : Buffer) → Line → Type 0
 FirstLine a out r = (o : ℕ) (ts hs vs ds ps tr ms : List ℕ) → NextLine Start (printing a o ts hs vs ds ps tr ms) out r
 
 -- of a node's line, whatever the answer is, and of a path line, whatever the answer, the distances and the prices are
-abbrev pub NextNode : (from origin : ℕ) → (tails heads order distances prices tree marks out : Slice) → Line → Type 0
+abbrev pub NextNode : (from origin : ℕ) → (tails heads order distances prices tree marks : Slice) → (out : Buffer) → Line → Type 0
 NextNode v o ts hs vs ds ps tr ms out r = (a : Planned) → NextLine (Node v) (lent_printing a o ts hs vs ds ps tr ms) out r
 
-abbrev pub NextPath : (at origin : ℕ) → (tails heads order tree marks out : Slice) → Line → Type 0
+abbrev pub NextPath : (at origin : ℕ) → (tails heads order tree marks : Slice) → (out : Buffer) → Line → Type 0
 NextPath i o ts hs vs tr ms out r =
     (a : Planned) (ds ps : List ℕ) → NextLine (Path i) (printing a o (was ts) (was hs) (was vs) ds ps (was tr) (was ms)) out r
 

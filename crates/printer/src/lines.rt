@@ -1,7 +1,6 @@
 // The lines of a sheet one after the other: which comes next, and where the one behind it stands.
 ghost use Rattle.std.specs.Prelude.{◌≡◌, ◌≤◌, length, get_or};
 ghost use Rattle.table.specs.Table.{no_arc, most_nodes};
-ghost use Rattle.table.specs.Slices.{was};
 ghost use Rattle.sheet.specs.Sheet.{node_count, has_distance};
 ghost use Rattle.sheet_lines.specs.Room.{line_room};
 ghost use Rattle.printer.specs.Lines.{lent_printing, NextLine, FirstLine, NextNode, NextPath, FirstPassing};
@@ -33,8 +32,8 @@ pub enum Line {
 
 // How many nodes may have lines: as many as there are distances, but no more than a table has.
 fn node_count(distances: &[u64]) -> usize
-    ensures value { result ≡ node_count (was distances) }
-    ensures upper_bound { (result ≤ length (was distances)) × (result ≤ most_nodes) }
+    ensures value { result ≡ node_count distances.now }
+    ensures upper_bound { (result ≤ length distances.now) × (result ≤ most_nodes) }
 {
     if distances.len() < MOST_NODES {
         distances.len()
@@ -46,7 +45,7 @@ fn node_count(distances: &[u64]) -> usize
 // The first node with a distance, from a node on; n where there is none below n.
 fn next_with_distance(from: usize, n: usize, distances: &[u64]) -> usize
     requires { n ≤ length distances.now }
-    ensures { FirstPassing (has_distance (was distances)) n from result }
+    ensures { FirstPassing (has_distance distances.now) n from result }
 {
     let mut v = from;
     while v < n {
@@ -60,14 +59,14 @@ fn next_with_distance(from: usize, n: usize, distances: &[u64]) -> usize
 
 // A node's price, 0 where the prices have no entry for it.
 fn price_at(node: usize, prices: &[u64]) -> u64
-    ensures { result ≡ get_or (was prices) node 0 }
+    ensures { result ≡ get_or prices.now node 0 }
 {
     if node < prices.len() { prices[node] } else { 0 }
 }
 
 // The position of a node's tree arc, no arc where the tree column has no entry for it.
 fn arc_at(node: usize, tree: &[u16]) -> u16
-    ensures { result ≡ get_or (was tree) node no_arc }
+    ensures { result ≡ get_or tree.now node no_arc }
 {
     if node < tree.len() {
         tree[node]

@@ -1,6 +1,5 @@
 // A sheet in pieces: as many whole lines as fit into a buffer.
 ghost use Rattle.std.specs.Prelude.{◌≤◌, length};
-ghost use Rattle.table.specs.Slices.{left};
 ghost use Rattle.sheet_lines.specs.Room.{line_room};
 ghost use Rattle.printer.specs.Lines.{lent_printing};
 ghost use Rattle.printer.specs.Pieces.{Continues};
@@ -32,7 +31,7 @@ pub fn next_piece(
     out: &mut [u8],
 ) -> Piece
     requires { line_room ≤ length out.old }
-    ensures { Continues (lent_printing answer origin tails heads order distances prices tree marks) cursor result (left out) }
+    ensures { Continues (lent_printing answer origin tails heads order distances prices tree marks) cursor result out.new }
 {
     let mut nodes = [0u16; MOST_NODES];
     let mut at = 0;

@@ -5,7 +5,6 @@ ghost use Rattle.std.specs.Prelude.{◌≡◌, not, ◌≤◌, length};
 ghost use Rattle.table.specs.Table.{arc, arcs_of, most_arcs};
 ghost use Rattle.table.specs.Refusals.{rooms_fit, arc_fault, arcs_refusal, wanted_refusal, table_refusal};
 ghost use Rattle.auction.specs.Plan.{rooms};
-ghost use Rattle.table.specs.Slices.{was};
 
 use table::{MOST_WANTED, Refusal, bad_columns, bad_count, wide};
 
@@ -42,7 +41,7 @@ fn bad_buffers(
 
 // 5: too many wanted nodes, or the first one not below n.
 fn wanted_refusal(n: usize, wanted: &[u16]) -> Refusal
-    ensures { result ≡ wanted_refusal n (was wanted) }
+    ensures { result ≡ wanted_refusal n wanted.now }
 {
     if MOST_WANTED < wanted.len() {
         return Refusal {
@@ -82,7 +81,7 @@ fn arc_refusal(n: usize, tail: u16, head: u16, length: u32) -> u32
 // 6 and 7: the refusal of the first arc that has one.
 fn arcs_refusal(n: usize, tails: &[u16], heads: &[u16], lengths: &[u32]) -> Refusal
     requires { (length heads.now ≡ length tails.now) × ((length lengths.now ≡ length tails.now) × (length tails.now ≤ most_arcs)) }
-    ensures { result ≡ arcs_refusal n (arcs_of (was tails) (was heads) (was lengths)) }
+    ensures { result ≡ arcs_refusal n (arcs_of tails.now heads.now lengths.now) }
 {
     let mut position = 0;
     while position < tails.len() {
@@ -111,8 +110,8 @@ pub fn table_refusal(
     tree: usize,
     marks: usize,
 ) -> Refusal
-    ensures { result ≡ table_refusal n origin (was tails) (was heads) (was lengths) (was wanted)
-        (rooms n (length (was tails)) distances prices tree marks) }
+    ensures { result ≡ table_refusal n origin tails.now heads.now lengths.now wanted.now
+        (rooms n (length tails.now) distances prices tree marks) }
 {
     let nodes = n as usize;
     let arcs = tails.len();

@@ -6,7 +6,6 @@ mod text;
 
 ghost use Rattle.std.specs.Prelude.{◌≡◌, ◌+◌, ◌≤◌, length};
 ghost use Rattle.table.specs.Table.{most_nodes};
-ghost use Rattle.table.specs.Slices.{was, left};
 ghost use Rattle.sheet.specs.Text.{spaced};
 ghost use Rattle.sheet.specs.Sheet.{refused_line, reached_line, counts_line, marks_line, arc_text, node_line, path_line};
 ghost use Rattle.sheet_lines.specs.Buffers.{PutsLine, Extends, PutsBehind};
@@ -67,7 +66,7 @@ pub fn put_marks(tally: Tally, out: &mut [u8]) -> usize
 fn put_arc(arc: u16, at: usize, out: &mut [u8]) -> usize
     requires { at + most_digits ≤ length out.old }
     ensures begins { PutsBehind (arc_text arc) at out result }
-    ensures long { (result ≤ at + most_digits) × (length (left out) ≡ length (was out)) }
+    ensures long { (result ≤ at + most_digits) × (length out.new ≡ length out.old) }
 {
     if arc == table::NO_ARC {
         return put(b"-", at, out);
@@ -92,8 +91,8 @@ pub fn put_node(node: usize, distance: u64, price: u64, arc: u16, out: &mut [u8]
 fn put_spaced(nodes: &[u16], at: usize, out: &mut [u8]) -> usize
     requires nodes_len_bound { length nodes.now ≤ most_nodes }
     requires most_path_in_bounds { at + most_path ≤ length out.old }
-    ensures begins { Extends (λ with. spaced with (was nodes)) at out result }
-    ensures long { (result ≤ at + most_path) × (length (left out) ≡ length (was out)) }
+    ensures begins { Extends (λ with. spaced with nodes.now) at out result }
+    ensures long { (result ≤ at + most_path) × (length out.new ≡ length out.old) }
 {
     let mut end = at;
     let mut i = 0;
@@ -108,7 +107,7 @@ fn put_spaced(nodes: &[u16], at: usize, out: &mut [u8]) -> usize
 pub fn put_path(node: usize, nodes: &[u16], out: &mut [u8]) -> usize
     requires nodes_len_bound { length nodes.now ≤ most_nodes }
     requires line_room_in_bounds { line_room ≤ length out.old }
-    ensures { PutsLine (path_line node (was nodes)) out result }
+    ensures { PutsLine (path_line node nodes.now) out result }
 {
     let a = put_field(b"path ", node as u64, 0, out);
     let b = put(b":", a, out);

@@ -1,6 +1,5 @@
 // Putting texts and numbers one after the other at the start of a buffer.
 ghost use Rattle.std.specs.Prelude.{◌≡◌, ◌++◌, ◌+◌, ◌≤◌, length};
-ghost use Rattle.table.specs.Slices.{was, left};
 ghost use Rattle.sheet.specs.Text.{decimal};
 ghost use Rattle.sheet_lines.specs.Buffers.{Extends, PutsBehind};
 ghost use Rattle.sheet_lines.specs.Room.{most_digits};
@@ -11,8 +10,8 @@ pub const MOST_DIGITS: usize = 20;
 // Puts a text at an offset of a buffer, behind what it begins with, and answers the offset behind the text.
 pub fn put(text: &[u8], at: usize, out: &mut [u8]) -> usize
     requires { at + length text.now ≤ length out.old }
-    ensures begins { PutsBehind (was text) at out result }
-    ensures long { (result ≡ at + length (was text)) × (length (left out) ≡ length (was out)) }
+    ensures begins { PutsBehind text.now at out result }
+    ensures long { (result ≡ at + length text.now) × (length out.new ≡ length out.old) }
 {
     let mut i = 0;
     while i < text.len() {
@@ -26,7 +25,7 @@ pub fn put(text: &[u8], at: usize, out: &mut [u8]) -> usize
 pub fn put_number(n: u64, at: usize, out: &mut [u8]) -> usize
     requires { at + most_digits ≤ length out.old }
     ensures begins { PutsBehind (decimal n) at out result }
-    ensures long { (result ≤ at + most_digits) × (length (left out) ≡ length (was out)) }
+    ensures long { (result ≤ at + most_digits) × (length out.new ≡ length out.old) }
 {
     let mut digits = [0u8; MOST_DIGITS];
     let k = io::decimal(n, &mut digits);
@@ -36,8 +35,8 @@ pub fn put_number(n: u64, at: usize, out: &mut [u8]) -> usize
 // Puts a text and then a number in decimal.
 pub fn put_field(name: &[u8], n: u64, at: usize, out: &mut [u8]) -> usize
     requires { at + (length name.now + most_digits) ≤ length out.old }
-    ensures begins { Extends (λ with. with ++ was name ++ decimal n) at out result }
-    ensures long { (result ≤ at + (length (was name) + most_digits)) × (length (left out) ≡ length (was out)) }
+    ensures begins { Extends (λ with. with ++ name.now ++ decimal n) at out result }
+    ensures long { (result ≤ at + (length name.now + most_digits)) × (length out.new ≡ length out.old) }
 {
     let next = put(name, at, out);
     put_number(n, next, out)

@@ -2,7 +2,6 @@
 ghost use Rattle.std.specs.Prelude.{◌≡◌, true, List, ℕ, ◌+◌, ◌≤◌, ◌<◌, length, get_or};
 ghost use Rattle.table.specs.Table.{Table, table_of, is_table};
 ghost use Rattle.auction.specs.Auction.{fresh, start};
-ghost use Rattle.table.specs.Slices.{was};
 ghost use Rattle.steps.specs.Seen.{seen, lent, back, held, Sized};
 ghost use Rattle.forward_star.specs.Lists.{star, lent_star};
 ghost use Rattle.solver.specs.Runs.{Begun, RanWithin, Runs, AllForgotten, FirstFrom};
@@ -20,7 +19,7 @@ pub const NO_LIMIT: u64 = 18446744073709551615;
 // The index of the first wanted node, from an index on, that has not been reached.
 fn first_unreached(from: usize, wanted: &[u16], status: &[u8]) -> usize
     requires { (from ≤ length wanted.now) × ((k : ℕ) → k < length wanted.now → get_or wanted.now k 0 < length status.now) }
-    ensures { FirstFrom from (was wanted) (was status) result }
+    ensures { FirstFrom from wanted.now status.now result }
 {
     let mut w = from;
     while w < wanted.len() {
@@ -59,7 +58,7 @@ fn iterate(
         (seen path.old price.old bound.old kept.old status.old begun) }
     requires path_len { (length path.old ≡ length first.now) × Sized (length first.now) price.old bound.old kept.old status.old }
     requires all_forgotten { AllForgotten (length first.now) remembered.old }
-    ensures { Runs start (was wanted) limit origin (lent_star heads lengths first next) (was tails)
+    ensures { Runs start wanted.now limit origin (lent_star heads lengths first next) tails.now
         (lent path price bound kept status begun) (back path price bound kept status result.progress) result.missing result.scans }
 {
     let mut g = begun;
@@ -128,7 +127,7 @@ fn run_listed(
         (seen path.old price.old bound.old kept.old status.old begun) }
     requires path_len { (length path.old ≡ length first.now) × Sized (length first.now) price.old bound.old kept.old status.old }
     requires all_forgotten { AllForgotten (length first.now) remembered.old }
-    ensures { Runs fresh (was wanted) limit origin (lent_star heads lengths first next) (was tails)
+    ensures { Runs fresh wanted.now limit origin (lent_star heads lengths first next) tails.now
         (lent path price bound kept status begun) (back path price bound kept status result.progress) result.missing result.scans }
 {
     reach(
@@ -160,7 +159,7 @@ pub fn run(
     requires path_len { (length path.old ≡ length status.old) × Sized (length status.old) price.old bound.old kept.old status.old }
     requires begun_value { seen path.old price.old bound.old kept.old status.old begun
         ≡ fresh (table_of (length status.old) origin tails.now heads.now lengths.now) }
-    ensures { RanWithin (table_of (length (was status)) origin (was tails) (was heads) (was lengths)) (was wanted) limit result.missing result.scans
+    ensures { RanWithin (table_of (length status.old) origin tails.now heads.now lengths.now) wanted.now limit result.missing result.scans
         (held (back path price bound kept status result.progress)) }
 {
     let n = status.len();

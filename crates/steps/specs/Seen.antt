@@ -5,7 +5,7 @@ use Rattle.table.specs.Table.{no_arc, no_distance, most_nodes, longest}
 use Rattle.auction.specs.Auction.{State, state, Bid, bid}
 use Rattle.steps.specs.declared.state.Progress.{Progress}
 use Rattle.steps.specs.declared.state.RunState.{RunState}
-use Rattle.table.specs.Slices.{Slice, was, left}
+use Rattle.table.specs.Slices.{Buffer, had, left}
 
 -- a number that stands for a bound, for a kept arc, for the least bid; one that stands for none
 unfoldable pub bound_of : ℕ → Option ℕ
@@ -32,10 +32,10 @@ abbrev pub arrays : (path price bound kept status : List ℕ) → Progress → R
 arrays p u b k s g = record { path = p; price = u; bound = b; kept = k; status = s; progress = g }
 
 -- as they are lent, and as they come back
-abbrev pub lent : (path price bound kept status : Slice) → Progress → RunState
-lent p u b k s g = arrays (was p) (was u) (was b) (was k) (was s) g
+abbrev pub lent : (path price bound kept status : Buffer) → Progress → RunState
+lent p u b k s g = arrays (had p) (had u) (had b) (had k) (had s) g
 
-abbrev pub back : (path price bound kept status : Slice) → Progress → RunState
+abbrev pub back : (path price bound kept status : Buffer) → Progress → RunState
 back p u b k s g = arrays (left p) (left u) (left b) (left k) (left s) g
 
 -- their first n entries

@@ -4,7 +4,6 @@ ghost use lib.ListN.{length, get_or};
 ghost use Rattle.table.specs.Table.{Table, head_at, length_at, no_arc};
 ghost use Rattle.auction.specs.Auction.{best};
 ghost use Rattle.steps.specs.declared.state.Progress.{Progress};
-ghost use Rattle.table.specs.Slices.{was};
 ghost use Rattle.steps.specs.Seen.{AllLong, seen, greatest_sum};
 ghost use Rattle.forward_star.specs.Lists.{star, lent_star, Outgoing, SomeTable};
 ghost use Rattle.steps.specs.Steps.{lower_of, bid_in, bid_over, Leads};
@@ -36,7 +35,7 @@ fn lower_bid(
     requires head_bound { (head < lib.ListN.length price.now) × ((head < lib.ListN.length kept.now) × (head < lib.ListN.length status.now)) }
     requires position_lt_no_arc { (position < no_arc) × (get_or price.now head 0 ≤ greatest_sum) }
     ensures lower { (t : Table) (path bound : List ℕ) (g : Progress) → head_at t position ≡ head → length_at t position ≡ length →
-        bid-in result ≡ lower_of (bid-in least) (bid-over t position (seen path (was price) bound (was kept) (was status) g)) }
+        bid_in result ≡ lower_of (bid_in least) (bid_over t position (seen path price.now bound kept.now status.now g)) }
     ensures leads { (heads : List ℕ) → Leads heads least.arc least.child → child ≡ get_or heads position 0 → Leads heads result.arc result.child }
 {
     if kept[head] != position || status[head] == RunState::DELETED {
@@ -68,8 +67,8 @@ pub fn least_bid(
     requires all_long { AllLong (length first.now) (price.now ∷ kept.now ∷ status.now ∷ []) }
     requires v_in_bounds { (v < length first.now) × ((u : ℕ) → get_or price.now u 0 ≤ greatest_sum) }
     ensures least { (t : Table) (path bound : List ℕ) (g : Progress) → Outgoing t (lent_star heads lengths first next) →
-        bid-in result ≡ best t v (seen path (was price) bound (was kept) (was status) g) }
-    ensures leads { Leads (was heads) result.arc result.child }
+        bid_in result ≡ best t v (seen path price.now bound kept.now status.now g) }
+    ensures leads { Leads heads.now result.arc result.child }
 {
     let mut least = LeastBid {
         value: 0,

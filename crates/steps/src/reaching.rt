@@ -3,7 +3,6 @@ ghost use Rattle.std.specs.Prelude.{◌≡◌, List, [], ◌∷◌, ℕ, ◌+◌
 ghost use Rattle.table.specs.Table.{arc_count, no_arc, no_distance};
 ghost use Rattle.auction.specs.Auction.{improves, offers, reach};
 ghost use Rattle.steps.specs.declared.state.Progress.{Progress};
-ghost use Rattle.table.specs.Slices.{was, left};
 ghost use Rattle.steps.specs.Seen.{AllLong, bound_of, arc_of, arrays, greatest_sum};
 ghost use Rattle.forward_star.specs.Lists.{star, lent_star, SomeTable};
 ghost use Rattle.steps.specs.Memory.{without_tail, GivesUp, KeptIn, TailsKnown, Remembers, but};
@@ -28,7 +27,7 @@ fn improves(offered: u64, position: u16, bound: u64, kept: u16) -> bool
 // An arc is given up: the node that it leaves has lost a child, so it forgets the child that it remembers and scans again.
 fn forget_tail(arc: u16, tails: &[u16], remembered: &mut [u16])
     requires { (arc ≡ no_arc → ⊥) → (arc < length tails.now) × (get_or tails.now arc 0 < length remembered.old) }
-    ensures { left remembered ≡ without_tail arc (was tails) (was remembered) }
+    ensures { remembered.new ≡ without_tail arc tails.now remembered.old }
 {
     if arc != NO_ARC {
         let i = wide(arc);
@@ -51,8 +50,8 @@ fn offer(
     requires head_in_bounds { (head < length bound.old) × ((head < length kept.old) × (head < length status.now)) }
     requires offered_lt_no_distance { (offered < no_distance) × (position < no_arc) }
     requires kept_in { KeptIn (length remembered.old) tails.now kept.old }
-    ensures offers { ArcOffered head position offered (was bound) (was kept) (was status) (left bound) (left kept) }
-    ensures gives_up { GivesUp head position (was tails) (was status) (was kept) (was remembered) (left kept) (left remembered) }
+    ensures offers { ArcOffered head position offered bound.old kept.old status.now bound.new kept.new }
+    ensures gives_up { GivesUp head position tails.now status.now kept.old remembered.old kept.new remembered.new }
 {
     if status[head] == RunState::UNREACHED {
         if improves(offered, position, bound[head], kept[head]) {
@@ -82,9 +81,9 @@ fn offer_arcs(
     requires v_in_bounds { (v < length first.now) × ((distance ≤ greatest_sum) × ((0 < get_or status.now v 0) × (get_or bound.old v 0 ≡ distance))) }
     requires tails_known { TailsKnown (length first.now) tails.now heads.now kept.old }
     ensures offers { (path price : List ℕ) (g : Progress) → Becomes (lent_star heads lengths first next) (λ t. offers (arc_count t) 0 t v)
-        (arrays path price (was bound) (was kept) (was status) g) (arrays path price (left bound) (left kept) (was status) g) }
-    ensures remembers { (path price : List ℕ) (g : Progress) → Remembers (lent_star heads lengths first next) (was tails) (but v) (was remembered) (left remembered)
-        (arrays path price (was bound) (was kept) (was status) g) (arrays path price (left bound) (left kept) (was status) g) }
+        (arrays path price bound.old kept.old status.now g) (arrays path price bound.new kept.new status.now g) }
+    ensures remembers { (path price : List ℕ) (g : Progress) → Remembers (lent_star heads lengths first next) tails.now (but v) remembered.old remembered.new
+        (arrays path price bound.old kept.old status.now g) (arrays path price bound.new kept.new status.now g) }
 {
     let mut p = first[v];
     while p != NO_ARC {
@@ -114,10 +113,10 @@ pub fn reach(
     requires v_in_bounds { (v < length first.now) × (get_or bound.old v 0 ≤ greatest_sum) }
     requires tails_known { TailsKnown (length first.now) tails.now heads.now kept.old }
     ensures reaches { (path price : List ℕ) (g : Progress) → Becomes (lent_star heads lengths first next) (λ t. reach t v)
-        (arrays path price (was bound) (was kept) (was status) g) (arrays path price (left bound) (left kept) (left status) g) }
-    ensures remembers { (path price : List ℕ) (g : Progress) → get_or (was status) v 0 ≡ 0 →
-        Remembers (lent-star heads lengths first next) (was tails) (but v) (was remembered) (left remembered)
-        (arrays path price (was bound) (was kept) (was status) g) (arrays path price (left bound) (left kept) (left status) g) }
+        (arrays path price bound.old kept.old status.old g) (arrays path price bound.new kept.new status.new g) }
+    ensures remembers { (path price : List ℕ) (g : Progress) → get_or status.old v 0 ≡ 0 →
+        Remembers (lent_star heads lengths first next) tails.now (but v) remembered.old remembered.new
+        (arrays path price bound.old kept.old status.old g) (arrays path price bound.new kept.new status.new g) }
 {
     status[v] = RunState::REACHED;
     let distance = bound[v];

@@ -2,7 +2,6 @@
 ghost use Rattle.std.specs.Prelude.{◌≡◌, List, [], ◌∷◌, ℕ, ◌+◌, ◌≤◌, ◌<◌, length, get_or};
 ghost use Rattle.table.specs.Table.{Table};
 ghost use Rattle.auction.specs.Auction.{deletion, contraction, extension};
-ghost use Rattle.table.specs.Slices.{was, left};
 ghost use Rattle.steps.specs.Seen.{AllLong, seen, arrays, lent, back, greatest_sum, too_many};
 ghost use Rattle.forward_star.specs.Lists.{star, lent_star, SomeTable};
 ghost use Rattle.steps.specs.Memory.{without_before, HasBefore, TailsKnown, Remembers, Remembered, those_reached};
@@ -16,7 +15,7 @@ use table::{NO_ARC, wide};
 // The node before the terminal one on the path forgets the child that it remembers, which is the terminal node: it scans again.
 fn forget_before(depth: usize, path: &[u16], remembered: &mut [u16])
     requires { HasBefore depth path.now remembered.old }
-    ensures { left remembered ≡ without_before depth (was path) (was remembered) }
+    ensures { remembered.new ≡ without_before depth path.now remembered.old }
 {
     let u = wide(path[depth - 2]);
     remembered[u] = NO_NODE;
@@ -32,8 +31,8 @@ fn delete(
 ) -> Progress
     requires { HasBefore g.depth path.now remembered.old × ((v < length status.old) × (g.deletions < too_many)) }
     ensures deletes { (nodes price bound kept : List ℕ) →
-        seen nodes price bound kept (left status) result ≡ deletion v (seen nodes price bound kept (was status) g) }
-    ensures remembers { left remembered ≡ without_before g.depth (was path) (was remembered) }
+        seen nodes price bound kept status.new result ≡ deletion v (seen nodes price bound kept status.old g) }
+    ensures remembers { remembered.new ≡ without_before g.depth path.now remembered.old }
 {
     forget_before(g.depth, path, remembered);
     status[v] = RunState::DELETED;
@@ -58,9 +57,9 @@ fn contract(
     requires le_depth { (1 ≤ g.depth) × ((v < length price.old) × (g.contractions < too_many)) }
     requires has_before { (v ≡ origin → ⊥) → HasBefore g.depth path.now remembered.old }
     ensures contracts { (t : Table) (nodes bound kept status : List ℕ) → t.origin ≡ origin →
-        seen nodes (left price) bound kept status result ≡ contraction t v value (seen nodes (was price) bound kept status g) }
-    ensures at_origin { v ≡ origin → left remembered ≡ was remembered }
-    ensures remembers { (v ≡ origin → ⊥) → left remembered ≡ without_before g.depth (was path) (was remembered) }
+        seen nodes price.new bound kept status result ≡ contraction t v value (seen nodes price.old bound kept status g) }
+    ensures at_origin { v ≡ origin → remembered.new ≡ remembered.old }
+    ensures remembers { (v ≡ origin → ⊥) → remembered.new ≡ without_before g.depth path.now remembered.old }
 {
     price[v] = value;
     let contractions = g.contractions + 1;
@@ -101,9 +100,9 @@ pub fn extend(
     requires child_in_bounds { (child < length first.now) × ((get_or bound.old child 0 ≤ greatest_sum) × ((g.depth < length path.old) × (g.extensions < too_many))) }
     requires tails_known { TailsKnown (length first.now) tails.now heads.now kept.old }
     ensures extends { (price : List ℕ) → Becomes (lent_star heads lengths first next) (λ t. extension t child)
-        (arrays (was path) price (was bound) (was kept) (was status) g) (arrays (left path) price (left bound) (left kept) (left status) result) }
-    ensures remembers { (price : List ℕ) → Remembers (lent_star heads lengths first next) (was tails) those_reached (was remembered) (left remembered)
-        (arrays (was path) price (was bound) (was kept) (was status) g) (arrays (left path) price (left bound) (left kept) (left status) result) }
+        (arrays path.old price bound.old kept.old status.old g) (arrays path.new price bound.new kept.new status.new result) }
+    ensures remembers { (price : List ℕ) → Remembers (lent_star heads lengths first next) tails.now those_reached remembered.old remembered.new
+        (arrays path.old price bound.old kept.old status.old g) (arrays path.new price bound.new kept.new status.new result) }
 {
     let depth = g.depth;
     path[depth] = child;
@@ -150,7 +149,7 @@ pub fn step(
     requires has_before { (v ≡ origin → ⊥) → HasBefore g.depth path.old remembered.old }
     requires tails_known { TailsKnown (length first.now) tails.now heads.now kept.old }
     ensures steps { Steps v origin least (lent_star heads lengths first next) (lent path price bound kept status g) (back path price bound kept status result) }
-    ensures remembers { Remembered v origin least (lent_star heads lengths first next) (was tails) (was remembered) (left remembered)
+    ensures remembers { Remembered v origin least (lent_star heads lengths first next) tails.now remembered.old remembered.new
         (lent path price bound kept status g) (back path price bound kept status result) }
 {
     let arc = least.arc;

@@ -1,0 +1,17 @@
+-- The arcs from p on are linked; p falls to 0. Assumes nothing.
+use Prim.Native.Nat.{◌-◌, ◌<◌}
+use borrow.Author.Rules.{rules}
+use native.Mathlib.Omega.{arith}
+use lib.ListN.{length}
+use Rattle.forward_star.proofs.Linking.{Linking, begins, goes_on, goes_past, ends}
+use Rattle.forward_star.proofs.link_arcs.Goals as goal
+
+pub loop-p-init : goal.loop-p-init
+loop-p-init c = begins c.requires.next_len.0 c.requires.by_index_2
+
+pub loop-p-preserved-then-lengths-p : goal.loop-p-preserved-then-lengths-p
+loop-p-preserved-then-lengths-p c = goes_on c.wide-v.result c.narrow.result c.loop-p.invariant c.loop-p-test.true c.if-lengths-p.true c.wide-v.ensures.same
+    c.narrow.ensures c.requires.by_index
+
+pub loop-p-preserved : goal.loop-p-preserved
+loop-p-preserved c = goes_past c.loop-p.invariant c.loop-p-test.true c.if-lengths-p.false

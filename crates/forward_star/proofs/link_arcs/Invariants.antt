@@ -1,0 +1,13 @@
+-- The arcs from p on are linked; p falls to 0. Assumes nothing.
+use Prim.Native.Nat.{◌-◌, ◌<◌}
+use borrow.Author.Rules.{rules}
+use native.Mathlib.Omega.{arith}
+use lib.ListN.{length}
+use Rattle.forward_star.proofs.Linking.{Linking, begins, goes_on, goes_past, ends}
+use Rattle.forward_star.proofs.link_arcs.Given as goal
+
+abbrev pub invariant-loop-p : goal.invariant-loop-p
+invariant-loop-p l = Linking l.tails l.lengths l.initial.first l.first l.next l.p
+
+abbrev pub decreases-loop-p : goal.decreases-loop-p
+decreases-loop-p l = l.p
