@@ -1,0 +1,19 @@
+-- The arcs from p on are left to offer, and the nodes remember what they should after those before; p rises along the node's list. Assumes nothing.
+use mathlib.Core.Path.{◌≡◌, ap, sym, subst, ◌∙◌}
+use Prim.Native.Nat.{ℕ, ◌+◌, ◌≤◌, ◌<◌, ◌-◌}
+use borrow.Author.Rules.{rules}
+use native.Mathlib.Omega.{arith}
+use lib.ListN.{length, get_or}
+use Rattle.table.specs.Table.{no_arc}
+use Rattle.steps.specs.Memory.{KeptIn}
+use Rattle.steps.proofs.reaching.Offering.{Offering, begins, goes_on, ends}
+use Rattle.steps.proofs.reaching.Losing.{Forgetting, none_yet, one_more}
+use Rattle.forward_star.proofs.Along.{Readable, readable}
+use Rattle.steps.proofs.reaching.offer_arcs.Given as goal
+
+abbrev pub invariant-loop-p : goal.invariant-loop-p
+invariant-loop-p l = (Offering l.heads l.lengths l.first l.next l.v l.distance l.initial.bound l.initial.kept l.status l.bound l.kept l.p)
+    × ((Forgetting l.heads l.lengths l.first l.next l.tails l.v l.initial.bound l.initial.kept l.initial.remembered l.status l.bound l.kept l.remembered) × (l.p ≤ no_arc))
+
+abbrev pub decreases-loop-p : goal.decreases-loop-p
+decreases-loop-p l = no_arc - l.p
