@@ -16,7 +16,7 @@ use table::{DOWN, NO_ARC, NO_DISTANCE, Refusal, wide};
 
 // Number and place of a refusal, number 0 where there is none; nodes reached, horizon and the counts of the run.
 #[repr(C)]
-#[derive(Drop)]
+#[derive(Clone, Copy)]
 pub struct Planned {
     pub number: u32,
     pub place: u32,

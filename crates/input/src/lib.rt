@@ -13,7 +13,7 @@ use table::{MOST_ARCS, Refusal};
 pub const MOST_INPUT: usize = 65536;
 
 // What was read, and the plan of it.
-#[derive(Drop)]
+#[derive(Clone, Copy)]
 pub struct PlannedInput {
     pub read: TableRead,
     pub answer: Planned,

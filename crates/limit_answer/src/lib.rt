@@ -3,7 +3,7 @@
 
 // Number and place of a refusal, number 0 where there is none; 1 where the node is within the limit, else 0; the iterations made.
 #[repr(C)]
-#[derive(Drop)]
+#[derive(Clone, Copy)]
 pub struct Within {
     pub number: u32,
     pub place: u32,

@@ -17,7 +17,7 @@ use table::{MOST_ARCS, MOST_WANTED, Refusal};
 // What reading a link file answers: the refusal's number and place, both 0 where there is none, and the node count, the origin and how many
 // arcs and wanted nodes there are, all 0 in a refusal.
 #[repr(C)]
-#[derive(Drop)]
+#[derive(Clone, Copy)]
 pub struct TableRead {
     pub number: u32,
     pub place: u32,
@@ -29,7 +29,7 @@ pub struct TableRead {
 
 // What writing a link file answers: the refusal's number and place, both 0 where there is none, and the file's length, 0 in a refusal.
 #[repr(C)]
-#[derive(Drop)]
+#[derive(Clone, Copy)]
 pub struct Written {
     pub number: u32,
     pub place: u32,

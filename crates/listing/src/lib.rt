@@ -3,7 +3,7 @@
 
 // The refusal's number, 0 where there is none; its place, always 0; and how many nodes are listed, 0 on a refusal.
 #[repr(C)]
-#[derive(Drop)]
+#[derive(Clone, Copy)]
 pub struct Listed {
     pub number: u32,
     pub place: u32,

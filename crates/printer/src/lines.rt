@@ -13,7 +13,7 @@ use table::{MOST_NODES, Refusal, wide};
 // Where in a sheet the next line stands: at its start; at the line of the reached nodes; at the line of the other counts; at the line of the first node
 // that has one, from a node on, and past the last of these at the first path line; at the path line of the node at an index of their order, and past the last
 // of these at the line of the marks; or past all lines.
-#[derive(Drop)]
+#[derive(Clone, Copy)]
 pub enum Cursor {
     Start,
     Reached,
@@ -24,7 +24,7 @@ pub enum Cursor {
 }
 
 // The next line was put: how many bytes it has, and the cursor of the one behind it. Or there is no line any more.
-#[derive(Drop)]
+#[derive(Clone, Copy)]
 pub enum Line {
     Put(usize, Cursor),
     Last,

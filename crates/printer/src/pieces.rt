@@ -10,7 +10,7 @@ use sheet_lines::LINE_ROOM;
 use table::MOST_NODES;
 
 // How many bytes a piece has, and the cursor of the line behind it. No byte: there is no line any more.
-#[derive(Drop)]
+#[derive(Clone, Copy)]
 pub struct Piece {
     pub count: usize,
     pub next: Cursor,

@@ -13,7 +13,7 @@ use super::state::RunState;
 use table::{NO_ARC, wide};
 
 // A bid's value, the position of the child's kept arc and the child; no arc where there is no child.
-#[derive(Drop)]
+#[derive(Clone, Copy)]
 pub struct LeastBid {
     pub value: u64,
     pub arc: u16,

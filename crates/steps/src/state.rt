@@ -10,7 +10,7 @@ use table::{MOST_NODES, NO_ARC, NO_DISTANCE, wide};
 pub const NO_NODE: u16 = 65535;
 
 // How many nodes are on the path, and the three counts.
-#[derive(Drop)]
+#[derive(Clone, Copy)]
 pub struct Progress {
     pub depth: usize,
     pub contractions: u64,
@@ -20,7 +20,7 @@ pub struct Progress {
 
 // Where a run has ended: the index of the first wanted node that was not reached, which is their number where all were; the scans and
 // the other counts.
-#[derive(Drop)]
+#[derive(Clone, Copy)]
 pub struct RunEnd {
     pub missing: usize,
     pub scans: u64,

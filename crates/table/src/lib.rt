@@ -22,7 +22,7 @@ pub const NO_ARC: u16 = 65535;
 pub const NO_DISTANCE: u64 = 18446744073709551615;
 
 // A refusal's number and place; number 0 is no refusal, and a place is 0 where none is named.
-#[derive(Drop)]
+#[derive(Clone, Copy)]
 pub struct Refusal {
     pub number: u32,
     pub place: u32,
