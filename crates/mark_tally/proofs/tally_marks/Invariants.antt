@@ -1,10 +1,8 @@
 -- `mark_tally::tally_marks` meets its contract: the tally is that of the marks from the index on. Assumes nothing.
-use mathlib.Core.Path.{◌≡◌, ap, ◌∙◌}
-use native.Mathlib.Omega.{arith}
+use mathlib.Core.Path.{◌≡◌}
 use Prim.Native.Nat.{◌≤◌}
 use lib.ListN.{length, drop}
 use Rattle.mark_tally.specs.Tally.{tally_of}
-use Rattle.mark_tally.proofs.Counting.{none_left, one_before, roomy}
 use Rattle.mark_tally.proofs.tally_marks.Given as goal
 
 abbrev pub invariant-loop-i : goal.invariant-loop-i
