@@ -2,7 +2,6 @@
 use Prim.Native.Nat.{◌<◌}
 use native.Mathlib.Omega.{arith}
 use Rattle.refusals.proofs.Refusing.{bad_tail, bad_head, zero_length, good_arc}
-use borrow.Author.Rules.{rules}
 use Rattle.refusals.proofs.arc_refusal.Goals as goal
 use Rattle.refusals.proofs.arc_refusal.Goals.{Else-n-wide, Else-n-wide-2}
 

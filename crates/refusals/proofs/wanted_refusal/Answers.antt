@@ -1,11 +1,8 @@
 -- What is left to test from i on decides. Assumes nothing.
-use mathlib.Core.Path.{◌≡◌, ◌∙◌}
-use Prim.Native.Nat.{◌≤◌, ◌-◌}
+use mathlib.Core.Path.{◌∙◌}
 use borrow.Author.Rules.{rules}
 use native.Mathlib.Omega.{arith}
-use lib.ListN.{length, drop}
-use Rattle.table.specs.Table.{most_wanted}
-use Rattle.table.specs.Refusals.{refusal, wanted_from, wanted_refusal}
+use Rattle.table.specs.Refusals.{refusal}
 use Rattle.refusals.proofs.Refusing.{too_many, few_enough, wanted_good, wanted_bad, wanted_done}
 use Rattle.refusals.proofs.wanted_refusal.Goals as goal
 
