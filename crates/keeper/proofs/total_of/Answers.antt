@@ -16,91 +16,90 @@ use Rattle.keeper.specs.Totals.{step_of}
 use Rattle.keeper.proofs.Stepping.{no_step, some_step}
 use Rattle.keeper.proofs.Totalling.{Adding, no_total, some_total, lent_none, lent_many, begins, goes_on, stops, ends, too_high, no_step_there, last_high}
 use Rattle.keeper.proofs.total_of.Goals as goal
-use Rattle.keeper.proofs.total_of.Goals.{After-step_length-step, After-wide, After-wide-from, At-loop-i, Else-count-gt-MOST_NODES}
+use Rattle.keeper.proofs.total_of.Goals.{At-loop-i, After-step_length-step, After-wide}
 
--- THE PLACES on the way, each named from the one after it: where the list is neither empty nor too long; at the loop's c; where the node at i is c,
--- and where it is below n; where its step is c; c the loop, where the last node is c.
-module _ (c : Else-count-gt-MOST_NODES) where
+-- THE PLACES on the way: at the loop's head; where the step from the node at i is known; behind the loop, where the last node is known.
+module _ (c : At-loop-i) where
   some_node : 0 < length c.args.list.now
   some_node = omega (arith, c.if-count-eq0.false)
 
   few : length c.args.list.now ≤ most_nodes
-  few = ltb-false most_nodes (length c.args.list.now) c.if-count-gt-MOST_NODES.false
-
-module _ (c : At-loop-i) where
-  abbrev nodes : List ℕ
-  nodes = c.args.list.now
-
-  abbrev inv : Adding c.args.heads.now c.args.lengths.now c.args.first.now c.args.next.now nodes c.loop-i.total c.loop-i.i
-  inv = c.loop-i.invariant
+  few = c.if-count-gt-MOST_NODES.false
 
   -- no total from here on, and so none at all
   none_left : (t : Table) → Outgoing t (star c.args.heads.now c.args.lengths.now c.args.first.now c.args.next.now) →
-      total t (drop c.loop-i.i nodes) ≡ none → none ≡ lent_total t nodes
-  none_left t here e =
-      sym (lent_few t nodes (few c.before) ∙ stops _ _ _ _ _ inv t here e)
-
-module _ (c : After-wide-from) where
-  node : c.wide-from.result ≡ get_or (nodes c.before.before.before) c.loop-i.i 0
-  node = c.wide-from.ensures.same
-
-  follows : suc c.loop-i.i < length (nodes c.before.before.before)
-  follows = omega (arith, c.loop-i-test.taken)
+      total t (drop c.loop-i.i c.args.list.now) ≡ none → none ≡ lent_total t c.args.list.now
+  none_left t here e = sym (lent_few t c.args.list.now few ∙ stops _ _ _ _ _ c.loop-i.invariant t here e)
 
 module _ (c : After-step_length-step) where
-  low : get_or (nodes c.before.before.before.before.before.before) c.loop-i.i 0 < length (c).args.first.now
-  low = omega (arith, node c.before.before.before, c.if-first-from.false)
+  follows : suc c.loop-i.i < length c.args.list.now
+  follows = omega (arith, c.loop-i-test.true)
+
+  low : get_or c.args.list.now c.loop-i.i 0 < length c.args.first.now
+  low = omega (arith, c.wide-from.ensures.same, c.if-first-from.false)
 
   next-node : c.loop-i.i + 1 ≡ suc c.loop-i.i
   next-node = omega arith
 
   -- it is the step from this node to the next one
   step : (t : Table) →
-      let a = (c).args in
+      let a = c.args in
       Outgoing t (star a.heads.now a.lengths.now a.first.now a.next.now) →
-      step_of c.step_length-step.result ≡ step_length t (get_or (nodes c.before.before.before.before.before.before) c.loop-i.i 0) (get_or (nodes c.before.before.before.before.before.before) (suc c.loop-i.i) 0)
+      step_of c.step_length-step.result ≡ step_length t (get_or a.list.now c.loop-i.i 0) (get_or a.list.now (suc c.loop-i.i) 0)
   step t here =
-      let vs = nodes c.before.before.before.before.before.before in
+      let vs = c.args.list.now in
       let i = c.loop-i.i in
       c.step_length-step.ensures t here
-      ∙ ap (λ (u : ℕ). step_length t u (get_or vs (i + 1) 0)) (node c.before.before.before)
+      ∙ ap (λ (u : ℕ). step_length t u (get_or vs (i + 1) 0)) c.wide-from.ensures.same
       ∙ ap (λ (m : ℕ). step_length t (get_or vs i 0) (get_or vs m 0)) next-node
 
 module _ (c : After-wide) where
-  at_last : suc c.loop-i.i ≡ length (nodes c.before.before.before)
-  at_last = omega (arith, (inv c.before.before.before).low, c.loop-i-test.false, some_node c.before.before.before.before)
+  at_last : suc c.loop-i.i ≡ length c.args.list.now
+  at_last = omega (arith, c.loop-i.invariant.low, c.loop-i-test.false, c.if-count-eq0.false)
 
-  last_node : c.wide.result ≡ get_or (nodes c.before.before.before) c.loop-i.i 0
+  last_node : c.wide.result ≡ get_or c.args.list.now c.loop-i.i 0
   last_node =
-      let here : length (nodes c.before.before.before) - 1 ≡ c.loop-i.i = omega (arith, at_last) in
-      c.wide.ensures.same ∙ ap (λ (m : ℕ). get_or (nodes c.before.before.before) m 0) here
+      let here : length c.args.list.now - 1 ≡ c.loop-i.i = omega (arith, at_last) in
+      c.wide.ensures.same ∙ ap (λ (m : ℕ). get_or c.args.list.now m 0) here
 
 pub returns-then-count-eq0 : goal.returns-then-count-eq0
-returns-then-count-eq0 c t here = no_total _ refl
-    ∙ sym
-    (⊎_elim (λ p. lent_none t _ p.taken) (λ p. lent_many t _ (ltb-true most_nodes _ p.1.taken))
-    c.if-count-eq0.branch)
+returns-then-count-eq0 c t here =
+    no_total _ refl ∙ sym (⊎_elim (λ z. lent_none t _ z) (λ z. lent_many t _ z.1) c.then-count-eq0.either)
 
 pub loop-i-init : goal.loop-i-init
-loop-i-init c = begins _ _ _ _ _ (some_node (goal.at.loop-i-init c).Else-count-gt-MOST_NODES)
+loop-i-init c = begins _ _ _ _ _ (omega (arith, c.if-count-eq0.false))
 
 pub returns-then-first-from : goal.returns-then-first-from
-returns-then-first-from c t here = no_total _ refl ∙ none_left (goal.at.returns-then-first-from c).At-loop-i t here (too_high t (nodes (goal.at.returns-then-first-from c).At-loop-i) c.loop-i.i (follows (goal.at.returns-then-first-from c).After-wide-from) (omega (arith, node (goal.at.returns-then-first-from c).After-wide-from, c.if-first-from.true, here.linked.first_count)))
+returns-then-first-from c t here =
+    no_total _ refl
+    ∙ none_left (goal.at.returns-then-first-from c).At-loop-i t here
+    (too_high t c.args.list.now c.loop-i.i (omega (arith, c.loop-i-test.true))
+    (omega (arith, c.wide-from.ensures.same, c.if-first-from.true, here.linked.first_count)))
 
 pub returns-then-step : goal.returns-then-step
-returns-then-step c t here = no_total _ refl
+returns-then-step c t here =
+    let k = (goal.at.returns-then-step c).After-step_length-step in
+    no_total _ refl
     ∙ none_left (goal.at.returns-then-step c).At-loop-i t here
-    (no_step_there t (nodes (goal.at.returns-then-step c).At-loop-i) c.loop-i.i (follows (goal.at.returns-then-step c).After-wide-from) (omega (arith, low (goal.at.returns-then-step c).After-step_length-step, here.linked.first_count)) (sym (step (goal.at.returns-then-step c).After-step_length-step t here) ∙ no_step _ c.if-step.true))
+    (no_step_there t c.args.list.now c.loop-i.i (follows k) (omega (arith, low k, here.linked.first_count)) (sym (step k t here) ∙ no_step _ c.if-step.true))
 
 pub loop-i-preserved : goal.loop-i-preserved
-loop-i-preserved c = let a = c.args in
-    subst (λ (m : ℕ). Adding a.heads.now a.lengths.now a.first.now a.next.now (nodes (goal.at.loop-i-preserved c).At-loop-i) (c.loop-i.total + c.step_length-step.result) m) (sym (next-node (goal.at.loop-i-preserved c).After-step_length-step))
-    (goes_on _ _ _ _ _ (inv (goal.at.loop-i-preserved c).At-loop-i) (follows (goal.at.loop-i-preserved c).After-wide-from) c.step_length-step.result (omega arith) (low (goal.at.loop-i-preserved c).After-step_length-step) (λ t here. sym (step (goal.at.loop-i-preserved c).After-step_length-step t here) ∙ some_step _ c.if-step.false))
+loop-i-preserved c =
+    let k = (goal.at.loop-i-preserved c).After-step_length-step in
+    let a = c.args in
+    subst (λ (m : ℕ). Adding a.heads.now a.lengths.now a.first.now a.next.now a.list.now (c.loop-i.total + c.step_length-step.result) m) (sym (next-node k))
+    (goes_on _ _ _ _ _ c.loop-i.invariant (follows k) c.step_length-step.result (omega arith) (low k) (λ t here. sym (step k t here) ∙ some_step _ c.if-step.false))
 
 pub returns-then-first-wide : goal.returns-then-first-wide
-returns-then-first-wide c t here = no_total _ refl
-    ∙ none_left (goal.at.returns-then-first-wide c).At-loop-i t here (last_high t (nodes (goal.at.returns-then-first-wide c).At-loop-i) c.loop-i.i (at_last (goal.at.returns-then-first-wide c).After-wide) (omega (arith, last_node (goal.at.returns-then-first-wide c).After-wide, c.if-first-wide.true, here.linked.first_count)))
+returns-then-first-wide c t here =
+    let w = (goal.at.returns-then-first-wide c).After-wide in
+    no_total _ refl
+    ∙ none_left (goal.at.returns-then-first-wide c).At-loop-i t here
+    (last_high t c.args.list.now c.loop-i.i (at_last w) (omega (arith, last_node w, c.if-first-wide.true, here.linked.first_count)))
 
 pub returns : goal.returns
-returns c t here = some_total c.loop-i.total (λ e. omega (arith, e, (inv (goal.at.returns c).At-loop-i).few, (inv (goal.at.returns c).At-loop-i).low, few (goal.at.returns c).Else-count-gt-MOST_NODES))
-    ∙ sym (lent_few t (nodes (goal.at.returns c).At-loop-i) (few (goal.at.returns c).Else-count-gt-MOST_NODES) ∙ ends _ _ _ _ _ (inv (goal.at.returns c).At-loop-i) (at_last (goal.at.returns c).After-wide) (omega (arith, last_node (goal.at.returns c).After-wide, c.if-first-wide.false)) t here)
+returns c t here =
+    let h = (goal.at.returns c).At-loop-i in
+    let w = (goal.at.returns c).After-wide in
+    some_total c.loop-i.total (λ e. omega (arith, e, c.loop-i.invariant.few, c.loop-i.invariant.low, few h))
+    ∙ sym (lent_few t c.args.list.now (few h) ∙ ends _ _ _ _ _ c.loop-i.invariant (at_last w) (omega (arith, last_node w, c.if-first-wide.false)) t here)
