@@ -3,7 +3,6 @@ use mathlib.Core.Path.{◌≡◌, sym, ◌∙◌}
 use mathlib.Core.Bool.{true, false}
 use mathlib.Core.Option.{some}
 use native.Mathlib.Omega.{arith}
-use borrow.Author.Rules.{rules}
 use Rattle.table.specs.Table.{Table}
 use Rattle.forward_star.specs.Lists.{SomeTable}
 use Rattle.keeping.specs.Keeping.{lent_total, kept}

@@ -1,7 +1,6 @@
 -- The lists of outgoing arcs fill the first parts of two arrays, by which the lists of nodes are compared. Assumes nothing.
 use mathlib.Core.Path.{sym}
 use mathlib.Core.List.{[]}
-use native.Mathlib.Omega.{arith}
 use lib.ListN.{length}
 use Rattle.table.specs.Table.{Table}
 use Rattle.forward_star.specs.Lists.{SomeTable}
@@ -19,15 +18,15 @@ module _ (c : Start) where
   unfolding table_in
   ready = let a = c.args in linkable a.n 0 a.tails.now a.heads.now a.lengths.now [] c.requires.heads_len.0 c.requires.heads_len.1 c.requires.lengths_value
 
--- where the arcs have been c, and the lists are lent again
-module _ (c : After-link_arcs) where
-  again : let a = c.args in
-      Relent (t c.before.before.before.before.before.before.before.before) a.n (length a.tails.now) a.heads.now a.lengths.now c.link_arcs.new.1.1.0 c.link_arcs.new.1.1.1.0
-  unfolding table_in
-  again =
-      let a = c.args in
-      relent a.n 0 a.tails.now a.heads.now a.lengths.now [] c.requires.heads_len.0 c.requires.heads_len.1 c.requires.lengths_value
-      c.link_arcs.auto.1.1.0 c.link_arcs.auto.1.1.1.0 c.link_arcs.ensures
+-- where the arcs have been linked, and the lists are lent again
+again : (c : After-link_arcs) →
+    let a = c.args in
+    Relent (table_in a.n a.tails.now a.heads.now a.lengths.now) a.n (length a.tails.now) a.heads.now a.lengths.now c.link_arcs.new.first c.link_arcs.new.next
+unfolding table_in
+again c =
+    let a = c.args in
+    relent a.n 0 a.tails.now a.heads.now a.lengths.now [] c.requires.heads_len.0 c.requires.heads_len.1 c.requires.lengths_value
+    c.link_arcs.auto.first c.link_arcs.auto.next c.link_arcs.ensures
 
 pub slice_bounds-first-end : goal.slice_bounds-first-end
 slice_bounds-first-end c = (ready (goal.at.slice_bounds-first-end c).Start).few_nodes
@@ -42,16 +41,15 @@ pub slice_bounds-link_arcs-end-2 : goal.slice_bounds-link_arcs-end-2
 slice_bounds-link_arcs-end-2 c = (ready (goal.at.slice_bounds-link_arcs-end-2 c).Start).next_long
 
 pub link_arcs-requires-clause-next_len : goal.link_arcs-requires-clause-next_len
-link_arcs-requires-clause-next_len c = let r = ready (goal.at.link_arcs-requires-clause-next_len c).Start in
+link_arcs-requires-clause-next_len c =
+    let r = ready (goal.at.link_arcs-requires-clause-next_len c).Start in
     (sym r.next_long, (c.requires.heads_len.1, r.few_arcs))
 
 pub link_arcs-requires-clause-by_index : goal.link_arcs-requires-clause-by_index
-link_arcs-requires-clause-by_index c = let r = ready (goal.at.link_arcs-requires-clause-by_index c).Start in
-    r.tails_in
+link_arcs-requires-clause-by_index c = (ready (goal.at.link_arcs-requires-clause-by_index c).Start).tails_in
 
 pub link_arcs-requires-clause-by_index_2 : goal.link_arcs-requires-clause-by_index_2
-link_arcs-requires-clause-by_index_2 c = let r = ready (goal.at.link_arcs-requires-clause-by_index_2 c).Start in
-    r.no_first
+link_arcs-requires-clause-by_index_2 c = (ready (goal.at.link_arcs-requires-clause-by_index_2 c).Start).no_first
 
 pub slice_bounds-first-end-2 : goal.slice_bounds-first-end-2
 slice_bounds-first-end-2 c = (again (goal.at.slice_bounds-first-end-2 c).After-link_arcs).first_part

@@ -2,7 +2,6 @@
 use mathlib.Core.Path.{◌≡◌, refl, sym, ap, ◌∙◌}
 use mathlib.Core.List.{[]}
 use lib.ListN.{length}
-use borrow.Author.Rules.{rules}
 use Rattle.table.specs.Table.{Below}
 use Rattle.table.specs.declared.Refusal.{Refusal}
 use Rattle.table.specs.Refusals.{table_refusal}
@@ -32,19 +31,14 @@ returns-then-refusal-ne-NONE c = let a = c.args in
     ∙ sym
     (refused_so a.n a.tails.now a.heads.now a.lengths.now a.standing.now a.fresh.now (λ e. c.if-refusal-ne-NONE.true (number ∙ e)))
 
-pub compare-requires-clause-heads_len : goal.compare-requires-clause-heads_len
+pub compare-requires : goal.compare-requires
 unfolding table_in Below
-compare-requires-clause-heads_len c = let a = c.args in
-    let lengths-fit = c.shared_slice_known-3-1.given in
-    let u = unrefused a.n 0 a.tails.now a.heads.now a.lengths.now [] [] (λ i. (lengths-fit i).fits) (ap (λ (g : Refusal). g.number) (sym (tested (goal.at.compare-requires-clause-heads_len c).After-table_refusal-refusal)) ∙ c.if-refusal-ne-NONE.false) in
-    (sym u.heads_count, sym (u.heads_count ∙ u.lengths_count))
-
-pub compare-requires-clause-lengths_value : goal.compare-requires-clause-lengths_value
-unfolding table_in Below
-compare-requires-clause-lengths_value c = let a = c.args in
-    let lengths-fit = c.shared_slice_known-3-1.given in
-    let u = unrefused a.n 0 a.tails.now a.heads.now a.lengths.now [] [] (λ i. (lengths-fit i).fits) (ap (λ (g : Refusal). g.number) (sym (tested (goal.at.compare-requires-clause-lengths_value c).After-table_refusal-refusal)) ∙ c.if-refusal-ne-NONE.false) in
-    u.table_good
+compare-requires c =
+    let r = (goal.at.compare-requires c).After-table_refusal-refusal in
+    let a = c.args in
+    let u = unrefused a.n 0 a.tails.now a.heads.now a.lengths.now [] [] (λ i. (c.type_inv.lengths i).fits)
+    (ap (λ (g : Refusal). g.number) (sym (tested r)) ∙ c.if-refusal-ne-NONE.false) in
+    record { heads_len = (sym u.heads_count, sym (u.heads_count ∙ u.lengths_count)); lengths_value = u.table_good }
 
 pub returns : goal.returns
 unfolding chosen

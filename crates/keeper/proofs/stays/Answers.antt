@@ -1,5 +1,4 @@
 -- The ends are compared, then the totals. Assumes nothing.
-use borrow.Author.Rules.{rules}
 use Rattle.keeper.proofs.Choosing.{no_standing, other_first, other_last, by_total}
 use Rattle.keeper.proofs.stays.Goals as goal
 

@@ -1,12 +1,9 @@
 -- The arcs from p on are left to compare; p rises along the node's list. Assumes nothing.
 use mathlib.Core.Path.{◌≡◌, refl, ap}
-use Prim.Native.Nat.{ℕ, ◌≤◌, ◌-◌}
-use borrow.Author.Rules.{rules}
 use native.Mathlib.Omega.{arith}
 use lib.ListN.{get_or}
-use Rattle.table.specs.Table.{no_arc}
 use Rattle.forward_star.proofs.Along.{Readable, readable}
-use Rattle.keeper.proofs.Stepping.{Comparing, begins, goes_on, ends}
+use Rattle.keeper.proofs.Stepping.{begins, goes_on, ends}
 use Rattle.keeper.proofs.step_length.Goals as goal
 use Rattle.keeper.proofs.step_length.Goals.{In-loop-p}
 
