@@ -2,21 +2,24 @@
 use mathlib.Core.Path.{◌≡◌, refl, sym, ◌∙◌}
 use native.Mathlib.Omega.{arith}
 use lib.ListN.{length}
-use Rattle.listing.specs.Listing.{tree_in, node_count, path, nodes_of, listing, early_of}
+use Rattle.listing.specs.Listing.{Tree, tree_in, node_count, path, nodes_of, listing, early_of}
 use Rattle.listing.proofs.Early.{Passed, passed}
 use Rattle.listing.proofs.Answers.{at_most_n, refused_early, without_path, without_room, fits, refuses, gives}
 use Rattle.paths.proofs.test_listing.Goals as goal
 use Rattle.paths.proofs.test_listing.Goals.{Else-number-ne-NONE}
 
--- where they have been passed
+-- where the refusals 1, 2, 4 and 5 have been passed: the tree that the arguments are
 module _ (c : Else-number-ne-NONE) where
-  early : early_of c.args.origin c.args.node (let a = c.args in tree_in a.tails.now a.heads.now a.tree.now) ≡ 0
+  abbrev subject : Tree
+  subject = let a = c.args in tree_in a.tails.now a.heads.now a.tree.now
+
+  early : early_of c.args.origin c.args.node subject ≡ 0
   unfolding early_of
   early = sym c.early_number-number.ensures ∙ c.if-number-ne-NONE.false
 
-  sound : Passed (node_count (let a = c.args in tree_in a.tails.now a.heads.now a.tree.now)) (length (let a = c.args in tree_in a.tails.now a.heads.now a.tree.now).tails) (length (let a = c.args in tree_in a.tails.now a.heads.now a.tree.now).heads) c.args.node
+  sound : Passed (node_count subject) (length subject.tails) (length subject.heads) c.args.node
   unfolding early_of
-  sound = passed (node_count (let a = c.args in tree_in a.tails.now a.heads.now a.tree.now)) (length (let a = c.args in tree_in a.tails.now a.heads.now a.tree.now).tails) (length (let a = c.args in tree_in a.tails.now a.heads.now a.tree.now).heads) c.args.origin c.args.node early
+  sound = passed (node_count subject) (length subject.tails) (length subject.heads) c.args.origin c.args.node early
 
 pub returns-then-number-ne-NONE : goal.returns-then-number-ne-NONE
 unfolding early_of

@@ -1,5 +1,5 @@
--- `paths::write_onward` meets its contract. The loop's invariant is `Onward`: before `at` the output has the path's nodes from the last on, and v comes
--- next. The measure is how many are still to be written. Assumes nothing.
+-- `paths::write_onward` meets its contract. The loop's invariant is `Onward`: before `at` the output has the path's nodes from the last on, and v
+-- comes next. The measure is how many are still to be written. Assumes nothing.
 use Prim.Native.Nat.{◌-◌}
 use Rattle.listing.specs.Listing.{tree_in, path, nodes_of}
 use Rattle.paths.proofs.Onward.{Onward}

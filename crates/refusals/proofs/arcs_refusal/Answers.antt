@@ -18,7 +18,8 @@ module _ (c : After-arc_refusal-number) where
       let a = c.args in
       arcs_from position a.n (arcs_of (drop position a.tails.now) (drop position a.heads.now) (drop position a.lengths.now))
 
-  bad : (place : ℕ) → place ≡ c.loop-position.position → (c.arc_refusal-number.result ≡ 0 → ⊥) → refusal c.arc_refusal-number.result place ≡ left c.loop-position.position
+  bad : (place : ℕ) → place ≡ c.loop-position.position → (c.arc_refusal-number.result ≡ 0 → ⊥) →
+      refusal c.arc_refusal-number.result place ≡ left c.loop-position.position
   bad place at d =
       let a = c.args in
       arc_bad a.n a.tails.now a.heads.now a.lengths.now c.requires.0 c.requires.1.0 c.loop-position.position c.loop-position-test.true
@@ -36,13 +37,18 @@ loop-position-init c = (search rules, refl)
 
 pub returns-then-number-ne-NONE : goal.returns-then-number-ne-NONE
 unfolding refusal
-returns-then-number-ne-NONE c = bad (goal.at.returns-then-number-ne-NONE c).After-arc_refusal-number c.place.result c.place.ensures c.if-number-ne-NONE.true ∙ c.loop-position.invariant.1
+returns-then-number-ne-NONE c =
+    let after_arc_refusal_number = (goal.at.returns-then-number-ne-NONE c).After-arc_refusal-number in
+    bad after_arc_refusal_number c.place.result c.place.ensures c.if-number-ne-NONE.true ∙ c.loop-position.invariant.1
 
 pub loop-position-preserved : goal.loop-position-preserved
-loop-position-preserved c = (omega arith, good (goal.at.loop-position-preserved c).After-arc_refusal-number c.if-number-ne-NONE.false ∙ c.loop-position.invariant.1)
+loop-position-preserved c =
+    let after_arc_refusal_number = (goal.at.loop-position-preserved c).After-arc_refusal-number in
+    (omega arith, good after_arc_refusal_number c.if-number-ne-NONE.false ∙ c.loop-position.invariant.1)
 
 pub returns : goal.returns
-returns c = let a = c.args in
+returns c =
+    let a = c.args in
     c.none.ensures
     ∙ arcs_done a.n a.tails.now a.heads.now a.lengths.now c.requires.0 c.requires.1.0 c.loop-position.position c.loop-position-test.false
     ∙ c.loop-position.invariant.1

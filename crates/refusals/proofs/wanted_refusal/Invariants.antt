@@ -7,7 +7,8 @@ use Rattle.table.specs.Refusals.{wanted_from, wanted_refusal}
 use Rattle.refusals.proofs.wanted_refusal.Given as goal
 
 abbrev pub invariant-loop-i : goal.invariant-loop-i
-invariant-loop-i l = (length l.wanted ≤ most_wanted) × (l.i ≤ length l.wanted) × (wanted_from l.i l.n (drop l.i l.wanted) ≡ wanted_refusal l.n l.wanted)
+invariant-loop-i l = (length l.wanted ≤ most_wanted) × (l.i ≤ length l.wanted) ×
+    (wanted_from l.i l.n (drop l.i l.wanted) ≡ wanted_refusal l.n l.wanted)
 
 abbrev pub decreases-loop-i : goal.decreases-loop-i
 decreases-loop-i l = length l.wanted - l.i
