@@ -16,12 +16,14 @@ module _ (c : Start) where
 
   ready : Linkable c.args.n c.args.tails.now
   unfolding table_in
-  ready = let a = c.args in linkable a.n 0 a.tails.now a.heads.now a.lengths.now [] c.requires.heads_len.0 c.requires.heads_len.1 c.requires.lengths_value
+  ready = let a = c.args in
+      linkable a.n 0 a.tails.now a.heads.now a.lengths.now [] c.requires.heads_len.0 c.requires.heads_len.1 c.requires.lengths_value
 
 -- where the arcs have been linked, and the lists are lent again
 again : (c : After-link_arcs) →
     let a = c.args in
-    Relent (table_in a.n a.tails.now a.heads.now a.lengths.now) a.n (length a.tails.now) a.heads.now a.lengths.now c.link_arcs.new.first c.link_arcs.new.next
+    Relent (table_in a.n a.tails.now a.heads.now a.lengths.now) a.n (length a.tails.now) a.heads.now a.lengths.now c.link_arcs.new.first
+    c.link_arcs.new.next
 unfolding table_in
 again c =
     let a = c.args in
@@ -65,7 +67,13 @@ slice_bounds-choose-end-2 c = (again (goal.at.slice_bounds-choose-end-2 c).After
 
 pub choose-requires-clause-some_table : goal.choose-requires-clause-some_table
 unfolding SomeTable
-choose-requires-clause-some_table c = (t (goal.at.choose-requires-clause-some_table c).Start, (again (goal.at.choose-requires-clause-some_table c).After-link_arcs).listed)
+choose-requires-clause-some_table c =
+    let start = (goal.at.choose-requires-clause-some_table c).Start in
+    let after_link_arcs = (goal.at.choose-requires-clause-some_table c).After-link_arcs in
+    (t start, (again after_link_arcs).listed)
 
 pub returns : goal.returns
-returns c = c.choose.ensures (t (goal.at.returns c).Start) (again (goal.at.returns c).After-link_arcs).listed
+returns c =
+    let start = (goal.at.returns c).Start in
+    let after_link_arcs = (goal.at.returns c).After-link_arcs in
+    c.choose.ensures (t start) (again after_link_arcs).listed

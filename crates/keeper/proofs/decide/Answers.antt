@@ -25,9 +25,11 @@ module _ (c : After-table_refusal-refusal) where
 
 pub returns-then-refusal-ne-NONE : goal.returns-then-refusal-ne-NONE
 unfolding kept
-returns-then-refusal-ne-NONE c = let a = c.args in
-    let number = ap (λ (g : Refusal). g.number) (tested (goal.at.returns-then-refusal-ne-NONE c).After-table_refusal-refusal) in
-    ap (λ (g : Refusal). kept g.number g.place 0 0) (tested (goal.at.returns-then-refusal-ne-NONE c).After-table_refusal-refusal)
+returns-then-refusal-ne-NONE c =
+    let after_table_refusal_refusal = (goal.at.returns-then-refusal-ne-NONE c).After-table_refusal-refusal in
+    let a = c.args in
+    let number = ap (λ (g : Refusal). g.number) (tested after_table_refusal_refusal) in
+    ap (λ (g : Refusal). kept g.number g.place 0 0) (tested after_table_refusal_refusal)
     ∙ sym
     (refused_so a.n a.tails.now a.heads.now a.lengths.now a.standing.now a.fresh.now (λ e. c.if-refusal-ne-NONE.true (number ∙ e)))
 
@@ -42,7 +44,8 @@ compare-requires c =
 
 pub returns : goal.returns
 unfolding chosen
-returns c = let a = c.args in
+returns c =
+    let a = c.args in
     c.compare.ensures
     ∙ sym
     (chosen_so a.n a.tails.now a.heads.now a.lengths.now a.standing.now a.fresh.now

@@ -1,10 +1,10 @@
 -- The part is the one that the answer names. Assumes nothing.
-use mathlib.Core.Path.{◌≡◌, refl, sym, ap}
+use mathlib.Core.Path.{◌≡◌, refl, sym}
 use mathlib.Core.Bool.{Bool, true, false, cond}
 use lib.ListN.{length, take}
 use lib.Seq.{length-take-le}
 use Rattle.keeping.specs.declared.Kept.{Kept}
-use Rattle.keeping.specs.Keeping.{keep, is_standing, Says}
+use Rattle.keeping.specs.Keeping.{keep, is_standing}
 use Rattle.keeper.proofs.Giving.{standing_named, fresh_named, named_fits, part_of}
 use Rattle.keeper.proofs.keep_path.Goals as goal
 use Rattle.keeper.proofs.keep_path.Goals.{After-decide-kept}
@@ -23,17 +23,22 @@ module _ (c : After-decide-kept) where
       sym (length-take-le k.count (cond b a.standing.now a.fresh.now)
       (named_fits a.standing.now a.fresh.now a.n a.tails.now a.heads.now a.lengths.now k decided b named))
 
-  says : let a = c.args in Says (keep a.n a.tails.now a.heads.now a.lengths.now a.standing.now a.fresh.now) k.number k.place
-  says = (ap (λ (x : Kept). x.number) decided, ap (λ (x : Kept). x.place) decided)
-
 pub slice_bounds-result-end : goal.slice_bounds-result-end
-slice_bounds-result-end c = as_many (goal.at.slice_bounds-result-end c).After-decide-kept true (standing_named (k (goal.at.slice_bounds-result-end c).After-decide-kept) c.if-kept-eq1.true)
+slice_bounds-result-end c =
+    let after_decide_kept = (goal.at.slice_bounds-result-end c).After-decide-kept in
+    as_many after_decide_kept true (standing_named (k after_decide_kept) c.if-kept-eq1.true)
 
 pub returns-then-kept-eq1-clause-part : goal.returns-then-kept-eq1-clause-part
-returns-then-kept-eq1-clause-part c = part_of (k (goal.at.returns-then-kept-eq1-clause-part c).After-decide-kept) _ (decided (goal.at.returns-then-kept-eq1-clause-part c).After-decide-kept) _ _ _ true (standing_named (k (goal.at.returns-then-kept-eq1-clause-part c).After-decide-kept) c.if-kept-eq1.true) refl refl
+returns-then-kept-eq1-clause-part c =
+    let after_decide_kept = (goal.at.returns-then-kept-eq1-clause-part c).After-decide-kept in
+    part_of (k after_decide_kept) _ (decided after_decide_kept) _ _ _ true (standing_named (k after_decide_kept) c.if-kept-eq1.true) refl refl
 
 pub slice_bounds-result-end-2 : goal.slice_bounds-result-end-2
-slice_bounds-result-end-2 c = as_many (goal.at.slice_bounds-result-end-2 c).After-decide-kept false (fresh_named (k (goal.at.slice_bounds-result-end-2 c).After-decide-kept) c.if-kept-eq1.false)
+slice_bounds-result-end-2 c =
+    let after_decide_kept = (goal.at.slice_bounds-result-end-2 c).After-decide-kept in
+    as_many after_decide_kept false (fresh_named (k after_decide_kept) c.if-kept-eq1.false)
 
 pub returns-clause-part : goal.returns-clause-part
-returns-clause-part c = part_of (k (goal.at.returns-clause-part c).After-decide-kept) _ (decided (goal.at.returns-clause-part c).After-decide-kept) _ _ _ false (fresh_named (k (goal.at.returns-clause-part c).After-decide-kept) c.if-kept-eq1.false) refl refl
+returns-clause-part c =
+    let after_decide_kept = (goal.at.returns-clause-part c).After-decide-kept in
+    part_of (k after_decide_kept) _ (decided after_decide_kept) _ _ _ false (fresh_named (k after_decide_kept) c.if-kept-eq1.false) refl refl

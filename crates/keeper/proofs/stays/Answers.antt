@@ -12,4 +12,5 @@ pub returns-then-standing-count : goal.returns-then-standing-count
 returns-then-standing-count c t here e = other_last t _ _ c.if-standing-count.true
 
 pub returns : goal.returns
-returns c t here e = by_total t _ _ _ _ c.if-standing-fresh.false c.if-standing-count.false (c.total_of.ensures t here) e c.requires.first_len_bound.1.1
+returns c t here e =
+    by_total t _ _ _ _ c.if-standing-fresh.false c.if-standing-count.false (c.total_of.ensures t here) e c.requires.first_len_bound.1.1

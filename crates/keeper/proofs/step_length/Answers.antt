@@ -19,10 +19,12 @@ loop-p-init c =
     )
 
 pub bounds-heads-i : goal.bounds-heads-i
-bounds-heads-i c = let r = inside (goal.at.bounds-heads-i c).In-loop-p in omega (arith, c.wide-i.ensures.same, r.inside, r.listed.head_count)
+bounds-heads-i c =
+    let r = inside (goal.at.bounds-heads-i c).In-loop-p in omega (arith, c.wide-i.ensures.same, r.inside, r.listed.head_count)
 
 pub bounds-lengths-i : goal.bounds-lengths-i
-bounds-lengths-i c = let r = inside (goal.at.bounds-lengths-i c).In-loop-p in omega (arith, c.wide-i.ensures.same, r.inside, r.listed.length_count)
+bounds-lengths-i c =
+    let r = inside (goal.at.bounds-lengths-i c).In-loop-p in omega (arith, c.wide-i.ensures.same, r.inside, r.listed.length_count)
 
 pub bounds-next-i : goal.bounds-next-i
 bounds-next-i c =

@@ -17,9 +17,6 @@ use Rattle.keeper.proofs.total_of.Goals.{At-loop-i, After-step_length-step, Afte
 
 -- THE PLACES on the way: at the loop's head; where the step from the node at i is known; behind the loop, where the last node is known.
 module _ (c : At-loop-i) where
-  some_node : 0 < length c.args.list.now
-  some_node = omega (arith, c.if-count-eq0.false)
-
   few : length c.args.list.now ≤ most_nodes
   few = c.if-count-gt-MOST_NODES.false
 
@@ -35,8 +32,8 @@ module _ (c : After-step_length-step) where
   low : get_or c.args.list.now c.loop-i.i 0 < length c.args.first.now
   low = omega (arith, c.wide-from.ensures.same, c.if-first-from.false)
 
-  next-node : c.loop-i.i + 1 ≡ suc c.loop-i.i
-  next-node = omega arith
+  next_node : c.loop-i.i + 1 ≡ suc c.loop-i.i
+  next_node = omega arith
 
   -- it is the step from this node to the next one
   step : (t : Table) →
@@ -48,7 +45,7 @@ module _ (c : After-step_length-step) where
       let i = c.loop-i.i in
       c.step_length-step.ensures t here
       ∙ ap (λ (u : ℕ). step_length t u (get_or vs (i + 1) 0)) c.wide-from.ensures.same
-      ∙ ap (λ (m : ℕ). step_length t (get_or vs i 0) (get_or vs m 0)) next-node
+      ∙ ap (λ (m : ℕ). step_length t (get_or vs i 0) (get_or vs m 0)) next_node
 
 module _ (c : After-wide) where
   at_last : suc c.loop-i.i ≡ length c.args.list.now
@@ -78,14 +75,17 @@ returns-then-step c t here =
     let k = (goal.at.returns-then-step c).After-step_length-step in
     no_total _ refl
     ∙ none_left (goal.at.returns-then-step c).At-loop-i t here
-    (no_step_there t c.args.list.now c.loop-i.i (follows k) (omega (arith, low k, here.linked.first_count)) (sym (step k t here) ∙ no_step _ c.if-step.true))
+    (no_step_there t c.args.list.now c.loop-i.i (follows k) (omega (arith, low k, here.linked.first_count))
+    (sym (step k t here) ∙ no_step _ c.if-step.true))
 
 pub loop-i-preserved : goal.loop-i-preserved
 loop-i-preserved c =
     let k = (goal.at.loop-i-preserved c).After-step_length-step in
     let a = c.args in
-    subst (λ (m : ℕ). Adding a.heads.now a.lengths.now a.first.now a.next.now a.list.now (c.loop-i.total + c.step_length-step.result) m) (sym (next-node k))
-    (goes_on _ _ _ _ _ c.loop-i.invariant (follows k) c.step_length-step.result (omega arith) (low k) (λ t here. sym (step k t here) ∙ some_step _ c.if-step.false))
+    subst (λ (m : ℕ). Adding a.heads.now a.lengths.now a.first.now a.next.now a.list.now (c.loop-i.total + c.step_length-step.result) m)
+    (sym (next_node k))
+    (goes_on _ _ _ _ _ c.loop-i.invariant (follows k) c.step_length-step.result (omega arith) (low k)
+    (λ t here. sym (step k t here) ∙ some_step _ c.if-step.false))
 
 pub returns-then-first-wide : goal.returns-then-first-wide
 returns-then-first-wide c t here =
@@ -99,4 +99,5 @@ returns c t here =
     let h = (goal.at.returns c).At-loop-i in
     let w = (goal.at.returns c).After-wide in
     some_total c.loop-i.total (λ e. omega (arith, e, c.loop-i.invariant.few, c.loop-i.invariant.low, few h))
-    ∙ sym (lent_few t c.args.list.now (few h) ∙ ends _ _ _ _ _ c.loop-i.invariant (at_last w) (omega (arith, last_node w, c.if-first-wide.false)) t here)
+    ∙ sym (lent_few t c.args.list.now (few h)
+    ∙ ends _ _ _ _ _ c.loop-i.invariant (at_last w) (omega (arith, last_node w, c.if-first-wide.false)) t here)

@@ -10,11 +10,11 @@ use Rattle.paths.proofs.early_number.Goals as goal
 use Rattle.paths.proofs.early_number.Goals.{Else-bad_columns, Else-bad_count}
 
 -- what the tests of 1 and 2 leave
-count-fine : (c : Else-bad_count) → count_bad c.args.n ≡ false
-count-fine c = sym c.bad_count.ensures ∙ c.if-bad_count.false
+count_fine : (c : Else-bad_count) → count_bad c.args.n ≡ false
+count_fine c = sym c.bad_count.ensures ∙ c.if-bad_count.false
 
-columns-fine : (c : Else-bad_columns) → let a = c.args in columns_bad a.tails a.heads a.heads ≡ false
-columns-fine c = sym c.bad_columns.ensures ∙ c.if-bad_columns.false
+columns_fine : (c : Else-bad_columns) → let a = c.args in columns_bad a.tails a.heads a.heads ≡ false
+columns_fine c = sym c.bad_columns.ensures ∙ c.if-bad_columns.false
 
 pub returns-then-bad_count : goal.returns-then-bad_count
 unfolding early_number
@@ -22,19 +22,33 @@ returns-then-bad_count c = rw (sym c.bad_count.ensures ∙ c.if-bad_count.true)
 
 pub returns-then-bad_columns : goal.returns-then-bad_columns
 unfolding early_number
-returns-then-bad_columns c = rw (count-fine (goal.at.returns-then-bad_columns c).Else-bad_count, sym c.bad_columns.ensures ∙ c.if-bad_columns.true)
+returns-then-bad_columns c = rw (count_fine (goal.at.returns-then-bad_columns c).Else-bad_count, sym c.bad_columns.ensures ∙ c.if-bad_columns.true)
 
 pub returns-then-n-wide : goal.returns-then-n-wide
 unfolding early_number
-returns-then-n-wide c = let a = c.args in
-    rw (count-fine (goal.at.returns-then-n-wide c).Else-bad_count, columns-fine (goal.at.returns-then-n-wide c).Else-bad_columns, le-leb a.n a.origin (omega (arith, c.if-n-wide.true, c.wide.ensures.same)))
+returns-then-n-wide c =
+    let else_bad_count = (goal.at.returns-then-n-wide c).Else-bad_count in
+    let else_bad_columns = (goal.at.returns-then-n-wide c).Else-bad_columns in
+    let a = c.args in
+    rw (count_fine else_bad_count, columns_fine else_bad_columns, le-leb a.n a.origin (omega (arith, c.if-n-wide.true, c.wide.ensures.same)))
 
 pub returns-then-n-wide-2 : goal.returns-then-n-wide-2
 unfolding early_number
-returns-then-n-wide-2 c = let a = c.args in
-    rw (count-fine (goal.at.returns-then-n-wide-2 c).Else-bad_count, columns-fine (goal.at.returns-then-n-wide-2 c).Else-bad_columns, lt-leb a.n a.origin (omega (arith, c.if-n-wide.false, c.wide.ensures.same)), le-leb a.n a.node (omega (arith, c.if-n-wide-2.true, c.wide-2.ensures.same)))
+returns-then-n-wide-2 c =
+    let else_bad_count = (goal.at.returns-then-n-wide-2 c).Else-bad_count in
+    let else_bad_columns = (goal.at.returns-then-n-wide-2 c).Else-bad_columns in
+    let a = c.args in
+    rw (
+      count_fine else_bad_count,
+      columns_fine else_bad_columns,
+      lt-leb a.n a.origin (omega (arith, c.if-n-wide.false, c.wide.ensures.same)),
+      le-leb a.n a.node (omega (arith, c.if-n-wide-2.true, c.wide-2.ensures.same)),
+    )
 
 pub returns : goal.returns
-returns c = sym
-    (unrefused _ _ _ _ _ (count-fine (goal.at.returns c).Else-bad_count) (columns-fine (goal.at.returns c).Else-bad_columns) (omega (arith, c.if-n-wide.false, c.wide.ensures.same))
+returns c =
+    let else_bad_count = (goal.at.returns c).Else-bad_count in
+    let else_bad_columns = (goal.at.returns c).Else-bad_columns in
+    sym
+    (unrefused _ _ _ _ _ (count_fine else_bad_count) (columns_fine else_bad_columns) (omega (arith, c.if-n-wide.false, c.wide.ensures.same))
     (omega (arith, c.if-n-wide-2.false, c.wide-2.ensures.same)))

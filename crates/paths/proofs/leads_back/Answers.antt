@@ -9,13 +9,19 @@ use Rattle.paths.proofs.leads_back.Goals as goal
 
 pub returns-then-tails-entry : goal.returns-then-tails-entry
 unfolding entry
-returns-then-tails-entry c = sym (not_listed (let a = c.args in tree_in a.tails.now a.heads.now a.tree.now) c.args.node c.entry_at-entry.result c.entry_at-entry.ensures c.if-tails-entry.true)
+returns-then-tails-entry c =
+    let k = let a = c.args in tree_in a.tails.now a.heads.now a.tree.now in
+    sym (not_listed k c.args.node c.entry_at-entry.result c.entry_at-entry.ensures c.if-tails-entry.true)
 
 pub returns-then-heads-entry : goal.returns-then-heads-entry
 unfolding entry
-returns-then-heads-entry c = sym (other_head (let a = c.args in tree_in a.tails.now a.heads.now a.tree.now) c.args.node c.entry_at-entry.result c.entry_at-entry.ensures c.if-tails-entry.false c.if-heads-entry.true)
+returns-then-heads-entry c =
+    let k = let a = c.args in tree_in a.tails.now a.heads.now a.tree.now in
+    sym (other_head k c.args.node c.entry_at-entry.result c.entry_at-entry.ensures c.if-tails-entry.false c.if-heads-entry.true)
 
 pub returns : goal.returns
 unfolding entry
-returns c = ap (λ (a : ℕ). ltb a (length c.args.tree.now)) c.wide.ensures.same
-    ∙ sym (by_tail (let a = c.args in tree_in a.tails.now a.heads.now a.tree.now) c.args.node c.entry_at-entry.result c.entry_at-entry.ensures c.if-tails-entry.false c.if-heads-entry.false)
+returns c =
+    let k = let a = c.args in tree_in a.tails.now a.heads.now a.tree.now in
+    ap (λ (a : ℕ). ltb a (length c.args.tree.now)) c.wide.ensures.same
+    ∙ sym (by_tail k c.args.node c.entry_at-entry.result c.entry_at-entry.ensures c.if-tails-entry.false c.if-heads-entry.false)

@@ -9,7 +9,8 @@ use Rattle.paths.proofs.Writing.{begins, goes_on, next, done}
 use Rattle.paths.proofs.write_nodes.Goals as goal
 
 pub loop-at-init : goal.loop-at-init
-loop-at-init c = let k = tree_in c.args.tails.now c.args.heads.now c.args.tree.now in
+loop-at-init c =
+    let k = tree_in c.args.tails.now c.args.heads.now c.args.tree.now in
     let some_node : 0 < length (nodes_of (path c.args.origin c.args.node k)) = omega (arith, c.requires.count_value, c.requires.count_nonzero) in
     rw c.requires.count_value
     (begins c.args.origin k _ c.args.output.now c.args.node (is_some (path c.args.origin c.args.node k) some_node)

@@ -5,7 +5,8 @@ use Rattle.paths.proofs.Writing.{Writing}
 use Rattle.paths.proofs.write_nodes.Given as goal
 
 abbrev pub invariant-loop-at : goal.invariant-loop-at
-invariant-loop-at l = Writing l.origin (tree_in l.tails l.heads l.tree) (nodes_of (path l.origin l.node (tree_in l.tails l.heads l.tree))) l.initial.output l.v l.at l.output
+invariant-loop-at l = Writing l.origin (tree_in l.tails l.heads l.tree) (nodes_of (path l.origin l.node (tree_in l.tails l.heads l.tree)))
+    l.initial.output l.v l.at l.output
 
 abbrev pub decreases-loop-at : goal.decreases-loop-at
 decreases-loop-at l = l.at

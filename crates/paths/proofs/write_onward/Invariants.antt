@@ -6,7 +6,8 @@ use Rattle.paths.proofs.Onward.{Onward}
 use Rattle.paths.proofs.write_onward.Given as goal
 
 abbrev pub invariant-loop-at : goal.invariant-loop-at
-invariant-loop-at l = Onward l.collector (tree_in l.heads l.tails l.tree) (nodes_of (path l.collector l.node (tree_in l.heads l.tails l.tree))) l.initial.output l.v l.at l.output
+invariant-loop-at l = Onward l.collector (tree_in l.heads l.tails l.tree) (nodes_of (path l.collector l.node (tree_in l.heads l.tails l.tree)))
+    l.initial.output l.v l.at l.output
 
 abbrev pub decreases-loop-at : goal.decreases-loop-at
 decreases-loop-at l = l.last - l.at
