@@ -1,7 +1,6 @@
 -- `header::fill_all` meets its contract: the loop's invariant is `FillingAll`. Assumes nothing.
 use Prim.Native.Nat.{◌-◌}
-use native.Mathlib.Omega.{arith}
-use Rattle.link_reader.proofs.header.Nodes.{FillingAll, all_begin, all_next, all_done}
+use Rattle.link_reader.proofs.header.Nodes.{FillingAll}
 use Rattle.link_reader.proofs.header.fill_all.Given as goal
 
 abbrev pub invariant-loop-i : goal.invariant-loop-i

@@ -1,11 +1,6 @@
 -- `header::fill_nodes` meets its contract: the nodes are there, and the loop's invariant is `FillingNodes`. Assumes nothing.
 use Prim.Native.Nat.{◌-◌}
-use native.Mathlib.Omega.{arith}
-use borrow.Author.Rules.{rules}
-use Rattle.link_format.specs.Reading.{field}
-use Rattle.link_fields.specs.Fields.{Got}
-use Rattle.link_reader.proofs.header.Nodes.{nodes_begin, nodes_next, FillingNodes, nodes_done}
-use Rattle.link_fields.proofs.fields.Parts.{field_value, as_got, as_cut}
+use Rattle.link_reader.proofs.header.Nodes.{FillingNodes}
 use Rattle.link_reader.proofs.header.fill_nodes.Given as goal
 
 abbrev pub invariant-loop-i : goal.invariant-loop-i

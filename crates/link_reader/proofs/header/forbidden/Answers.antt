@@ -1,5 +1,4 @@
 -- `header::forbidden` meets its contract: by the range of the bit map. Assumes nothing.
-use borrow.Author.Rules.{rules}
 use borrow.Author.Tests.{lt-ltb, le-ltb}
 use native.Mathlib.Omega.{arith}
 use Rattle.link_format.specs.Reading.{forbidden_header}
