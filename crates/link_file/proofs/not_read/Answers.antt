@@ -3,12 +3,8 @@ use mathlib.Core.Path.{refl}
 use Rattle.link_format.specs.Format.{content}
 use Rattle.link_file.specs.Entries.{read_answer}
 use Rattle.link_format.specs.Buffers.{no_content}
-use Rattle.link_file.proofs.not_read.Statement.{statement}
-use Rattle.link_file.proofs.not_read.Tie as tie
+use Rattle.link_file.proofs.not_read.Goals as goal
 
-returns : tie.Need-returns
+pub returns : goal.returns
 unfolding read_answer no_content content
 returns c = refl
-
-pub not-read-spec : {M : Type 1} → statement M
-not-read-spec = tie.close (tie.spec returns)
