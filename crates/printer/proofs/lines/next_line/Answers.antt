@@ -1,10 +1,9 @@
--- `printer::lines::next_line` meets its contract: at each cursor the line that stands there is put, and the next cursor leads to the rest. Assumes nothing.
+-- `printer::lines::next_line` meets its contract: at each cursor the line that stands there is put, and the next cursor leads to the rest. Assumes
+-- nothing.
 use mathlib.Core.Path.{refl}
-use borrow.Author.Rules.{rules}
 use Rattle.hand_over.specs.Answered.{answered}
-use Rattle.sheet.specs.Sheet.{Finished, from_counts, from_reached}
-use Rattle.printer.specs.declared.lines.Cursor.{Cursor}
-use Rattle.printer.specs.declared.lines.Cursor.TheVariants.{Start, Reached, Counts, Node, Path, End}
+use Rattle.sheet.specs.Sheet.{from_counts, from_reached}
+use Rattle.printer.specs.declared.lines.Cursor.TheVariants.{Reached, Counts, Node, End}
 use Rattle.printer.specs.Lines.{printing, rest}
 use Rattle.printer.proofs.lines.Rest.{gives_last, gives_put, at_cursor, nodes_all, reached_some, counts_some}
 use Rattle.printer.proofs.lines.next_line.Goals as goal

@@ -2,13 +2,10 @@
 use native.Mathlib.Nat.{le_trans}
 use Rattle.table.specs.Table.{no_distance}
 use Rattle.auction.specs.Demands.{distance_of, price_of, link_of}
-use Rattle.hand_over.specs.declared.Planned.{Planned}
 use Rattle.hand_over.specs.Answered.{answered}
 use Rattle.table.proofs.Basics.{inside_same}
-use Rattle.sheet.specs.Sheet.{Finished}
 use Rattle.printer.specs.Lines.{printing, rest}
 use Rattle.printer.proofs.lines.Rest.{node_last, node_put}
-use borrow.Author.Rules.{rules}
 use Rattle.printer.proofs.lines.next_node.Goals as goal
 
 -- what is printed is `p`, in each answer

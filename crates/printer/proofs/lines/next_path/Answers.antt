@@ -1,19 +1,15 @@
 -- `printer::lines::next_path` meets its contract: the path listed is put, and behind its line come those from the next index on. Assumes nothing.
 use mathlib.Core.Path.{◌≡◌, ap, subst, ◌∙◌}
-use mathlib.Core.List.{List}
-use Prim.Native.Nat.{ℕ, ◌≤◌}
-use native.Mathlib.Omega.{arith}
-use lib.ListN.{length, get_or, take, length-take}
+use Prim.Native.Nat.{ℕ}
+use lib.ListN.{length, get_or, take}
 use Rattle.table.specs.Table.{most_nodes}
 use Rattle.listing.specs.Listing.{Listing, listing, tree_in}
-use Rattle.hand_over.specs.declared.Planned.{Planned}
 use Rattle.hand_over.specs.Answered.{answered}
-use Rattle.sheet.specs.Sheet.{Finished, path_line}
+use Rattle.sheet.specs.Sheet.{path_line}
 use Rattle.sheet_lines.specs.Buffers.{Begins}
 use Rattle.printer.specs.Lines.{printing, rest}
 use Rattle.printer.proofs.lines.Rest.{path_last, path_put}
-use Rattle.printer.proofs.lines.Listed.{listed_count, listed_nodes, listing_fits}
-use borrow.Author.Rules.{rules}
+use Rattle.printer.proofs.lines.Listed.{listed_nodes}
 use Rattle.printer.proofs.lines.next_path.Goals as goal
 use Rattle.printer.proofs.lines.next_path.Goals.{After-list_path-listed}
 
@@ -24,11 +20,8 @@ module _ (c : After-list_path-listed) where
       let a = c.args in
       listing a.origin (get_or a.order.now a.at 0) (tree_in a.tails.now a.heads.now a.tree.now) room
 
-  count_fits : c.list_path-listed.result.count ≤ length c.list_path-listed.new.output
-  count_fits = listed_count (path_in (length c.args.nodes.now)) c.list_path-listed.result _ c.list_path-listed.new.output c.list_path-listed.ensures
-
-  nodes-there : take c.list_path-listed.result.count c.list_path-listed.new.output ≡ (path_in most_nodes).nodes
-  nodes-there =
+  nodes_there : take c.list_path-listed.result.count c.list_path-listed.new.output ≡ (path_in most_nodes).nodes
+  nodes_there =
       listed_nodes (path_in (length c.args.nodes.now)) c.list_path-listed.result _ c.list_path-listed.new.output c.list_path-listed.ensures
       ∙ ap (λ (room : ℕ). (path_in room).nodes) c.requires.nodes_len
 
@@ -47,6 +40,6 @@ returns c answer distances prices =
     let p = printing answer a.origin a.tails.now a.heads.now a.order.now distances prices a.tree.now a.marks.now in
     let list = (goal.at.returns c).After-list_path-listed in
     let put = c.put_path-count in
-    path_put p a.at c.if-order-at.false (nodes-there list)
+    path_put p a.at c.if-order-at.false (nodes_there list)
     (subst (λ (v : ℕ). Begins (path_line v (take c.list_path-listed.result.count c.list_path-listed.new.output)) a.out.now put.new.out put.result)
     c.wide.ensures.same put.ensures)

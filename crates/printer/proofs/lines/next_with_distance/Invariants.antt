@@ -1,10 +1,7 @@
 -- `printer::lines::next_with_distance` meets its contract: the nodes passed have no distance. Assumes nothing.
-use mathlib.Core.Path.{◌≡◌, refl, ◌∙◌}
+use mathlib.Core.Path.{◌≡◌}
 use Prim.Native.Nat.{◌-◌}
-use native.Mathlib.Omega.{arith}
-use borrow.Author.Rules.{rules}
 use Rattle.sheet.specs.Sheet.{passing, has_distance}
-use Rattle.printer.proofs.lines.Passing.{passing_later, found, none_found, distance_there, distance_missing}
 use Rattle.printer.proofs.lines.next_with_distance.Given as goal
 
 abbrev pub invariant-loop-v : goal.invariant-loop-v

@@ -1,17 +1,14 @@
 -- `printer::pieces::next_piece` meets its contract: the loop's invariant is `Filling`, and its measure the lines still to come. Assumes nothing.
-use mathlib.Core.Path.{◌≡◌, sym, subst, ◌∙◌}
-use mathlib.Core.List.{List}
+use mathlib.Core.Path.{◌≡◌, subst, ◌∙◌}
 use native.Mathlib.Omega.{arith}
-use borrow.Author.Rules.{rules}
-use Prim.Native.Nat.{ℕ, ◌-◌}
-use lib.ListN.{length, drop, length-take, length-drop}
-use borrow.Rule.Slice.PartMut.{mid_of, same_len_mid}
-use Rattle.table.specs.Table.{most_nodes}
+use Prim.Native.Nat.{◌-◌}
+use lib.ListN.{length}
+use borrow.Rule.Slice.PartMut.{mid_of}
 use Rattle.sheet.specs.Sheet.{Finished}
 use Rattle.printer.specs.declared.lines.Line.{Line}
 use Rattle.printer.specs.declared.lines.Line.TheVariants.{Last}
 use Rattle.printer.specs.Lines.{printing, rest, Gives}
-use Rattle.printer.proofs.pieces.Filling.{Filling, filling_starts, filling_next, filled, no_more, fewer_given}
+use Rattle.printer.proofs.pieces.Filling.{filling_next, no_more, fewer_given}
 use Rattle.printer.proofs.pieces.next_piece.Goals as goal
 use Rattle.printer.proofs.pieces.next_piece.Goals.{After-next_line-line}
 
@@ -23,16 +20,18 @@ module _ (c : After-next_line-line) where
       printing a.answer a.origin a.tails.now a.heads.now a.order.now a.distances.now a.prices.now a.tree.now a.marks.now
 
   answers : (r : Line) → c.next_line-line.result ≡ r →
-      Gives subject (rest subject c.loop-out.next) r (mid_of c.loop-out.at (length c.loop-out.out - c.loop-out.at) c.loop-out.out) c.next_line-line.new.out
+      (let l = c.loop-out in Gives subject (rest subject l.next) r (mid_of l.at (length l.out - l.at) l.out) c.next_line-line.new.out)
   answers r e =
       let l = c.loop-out in
-      subst (λ (r : Line). Gives subject (rest subject l.next) r (mid_of l.at (length l.out - l.at) l.out) c.next_line-line.new.out) e c.next_line-line.ensures
+      subst (λ (r : Line). Gives subject (rest subject l.next) r (mid_of l.at (length l.out - l.at) l.out) c.next_line-line.new.out) e
+      c.next_line-line.ensures
 
 pub overflow_add-at : goal.overflow_add-at
 overflow_add-at c =
     let l = c.loop-out in
     let call = (goal.at.overflow_add-at c).After-next_line-line in
-    let f = filling_next (subject call) _ _ l.out l.at _ l.invariant.1 c.next_line-line.new.out _ _ c.next_line-line.auto.out (answers call _ c.in-Put.is) in
+    let line = c.next_line-line in
+    let f = filling_next (subject call) _ _ l.out l.at _ l.invariant.1 line.new.out _ _ line.auto.out (answers call _ c.in-Put.is) in
     omega (arith, f.inside, f.same)
 
 pub loop-out-smaller : goal.loop-out-smaller
@@ -43,7 +42,10 @@ pub loop-out-preserved : goal.loop-out-preserved
 loop-out-preserved c =
     let l = c.loop-out in
     let call = (goal.at.loop-out-preserved c).After-next_line-line in
-    (c.next_line-line.auto.nodes ∙ l.invariant.0, filling_next (subject call) _ _ l.out l.at _ l.invariant.1 c.next_line-line.new.out _ _ c.next_line-line.auto.out (answers call _ c.in-Put.is))
+    let line = c.next_line-line in (
+      line.auto.nodes ∙ l.invariant.0,
+      filling_next (subject call) _ _ l.out l.at _ l.invariant.1 line.new.out _ _ line.auto.out (answers call _ c.in-Put.is),
+    )
 
 pub returns-in_default : goal.returns-in_default
 returns-in_default c =

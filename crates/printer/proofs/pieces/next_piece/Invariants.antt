@@ -1,17 +1,9 @@
 -- `printer::pieces::next_piece` meets its contract: the loop's invariant is `Filling`, and its measure the lines still to come. Assumes nothing.
-use mathlib.Core.Path.{◌≡◌, sym, subst, ◌∙◌}
-use mathlib.Core.List.{List}
-use native.Mathlib.Omega.{arith}
-use borrow.Author.Rules.{rules}
-use Prim.Native.Nat.{ℕ, ◌-◌}
-use lib.ListN.{length, drop, length-take, length-drop}
-use borrow.Rule.Slice.PartMut.{mid_of, same_len_mid}
+use mathlib.Core.Path.{◌≡◌}
+use lib.ListN.{length}
 use Rattle.table.specs.Table.{most_nodes}
-use Rattle.sheet.specs.Sheet.{Finished}
-use Rattle.printer.specs.declared.lines.Line.{Line}
-use Rattle.printer.specs.declared.lines.Line.TheVariants.{Last}
-use Rattle.printer.specs.Lines.{printing, rest, Gives}
-use Rattle.printer.proofs.pieces.Filling.{Filling, filling_starts, filling_next, filled, no_more, fewer_given}
+use Rattle.printer.specs.Lines.{printing, rest}
+use Rattle.printer.proofs.pieces.Filling.{Filling}
 use Rattle.printer.proofs.pieces.next_piece.Given as goal
 
 abbrev pub invariant-loop-out : goal.invariant-loop-out
