@@ -8,7 +8,7 @@ use native.Mathlib.Omega.{arith}
 use Rattle.table.specs.Table.{Table, table_of, is_table}
 use Rattle.table.specs.Refusals.{rooms_fit}
 use Rattle.table.proofs.Basics.{same_or, not_both, some_none}
-use Rattle.auction.specs.Auction.{was_reached, iterations}
+use Rattle.auction.specs.Auction.{was_reached}
 use Rattle.auction.specs.HandOver.{Answer, handed_over}
 use Rattle.auction.specs.Plan.{refused_plan, routes_of}
 use Rattle.auction.specs.Promises.{last_state}

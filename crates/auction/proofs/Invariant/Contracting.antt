@@ -8,7 +8,7 @@ use native.Mathlib.Omega.{arith}
 use lib.ListN.{length, get_or}
 use borrow.Author.Tests.{eq-eqb, ne_eqb}
 use Rattle.table.specs.Table.{Table, arc_count, tail_at, head_at, length_at}
-use Rattle.auction.specs.Auction.{State, Bid, state, price_at, kept_at, status_at, or_zero, terminal, without_terminal, contraction, best, iterations, unreached, reached, deleted}
+use Rattle.auction.specs.Auction.{State, Bid, state, price_at, kept_at, status_at, or_zero, terminal, without_terminal, contraction, iterations, unreached, reached, deleted}
 use Rattle.table.proofs.Basics.{same_or}
 use Rattle.auction.proofs.Sums.{total, total_same, total_trade}
 use Rattle.auction.proofs.Good.{Good}

@@ -1,9 +1,5 @@
 -- The arcs from p on are linked; p falls to 0. Assumes nothing.
-use Prim.Native.Nat.{◌-◌, ◌<◌}
-use borrow.Author.Rules.{rules}
-use native.Mathlib.Omega.{arith}
-use lib.ListN.{length}
-use Rattle.forward_star.proofs.Linking.{Linking, begins, goes_on, goes_past, ends}
+use Rattle.forward_star.proofs.Linking.{Linking}
 use Rattle.forward_star.proofs.link_arcs.Given as goal
 
 abbrev pub invariant-loop-p : goal.invariant-loop-p

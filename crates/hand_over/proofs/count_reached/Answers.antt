@@ -1,11 +1,11 @@
 -- The sum of the entries from v on, each at most 1. Assumes nothing.
-use mathlib.Core.Path.{◌≡◌, ap, ◌∙◌}
-use Prim.Native.Nat.{ℕ, ◌+◌, ◌≤◌, ◌-◌}
+use mathlib.Core.Path.{ap, ◌∙◌}
+use Prim.Native.Nat.{ℕ, ◌+◌, ◌-◌}
 use borrow.Author.Rules.{rules}
 use native.Mathlib.Omega.{arith}
 use lib.ListN.{length, get_or}
 use lib.Dec.{ltb}
-use Rattle.auction.specs.HandOver.{entries, sum}
+use Rattle.auction.specs.HandOver.{sum}
 use Rattle.hand_over.proofs.Entries.{sum_none, sum_more, all_entries}
 use Rattle.hand_over.proofs.Handing.{reached_entry, count_so, at_most_one}
 use Rattle.hand_over.proofs.count_reached.Goals as goal

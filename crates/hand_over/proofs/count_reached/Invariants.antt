@@ -1,13 +1,9 @@
 -- The sum of the entries from v on, each at most 1. Assumes nothing.
-use mathlib.Core.Path.{◌≡◌, ap, ◌∙◌}
-use Prim.Native.Nat.{ℕ, ◌+◌, ◌≤◌, ◌-◌}
-use borrow.Author.Rules.{rules}
-use native.Mathlib.Omega.{arith}
-use lib.ListN.{length, get_or}
-use lib.Dec.{ltb}
+use mathlib.Core.Path.{◌≡◌}
+use Prim.Native.Nat.{◌+◌, ◌≤◌, ◌-◌}
+use lib.ListN.{length}
 use Rattle.auction.specs.HandOver.{entries, sum}
-use Rattle.hand_over.proofs.Entries.{sum_none, sum_more, all_entries}
-use Rattle.hand_over.proofs.Handing.{reached_entry, count_so, at_most_one}
+use Rattle.hand_over.proofs.Handing.{reached_entry}
 use Rattle.hand_over.proofs.count_reached.Given as goal
 
 abbrev pub invariant-loop-v : goal.invariant-loop-v

@@ -1,9 +1,7 @@
 -- The entries from i on are made. Assumes nothing.
 use mathlib.Core.Path.{◌∙◌}
 use native.Mathlib.Omega.{arith}
-use lib.ListN.{length}
-use Rattle.hand_over.proofs.Entries.{Filling, fill_begins, fill_on, fill_ends}
-use Rattle.hand_over.specs.ReadOff.{mark_entry}
+use Rattle.hand_over.proofs.Entries.{fill_begins, fill_on, fill_ends}
 use Rattle.hand_over.proofs.Handing.{marks_so}
 use Rattle.hand_over.proofs.fill_marks.Goals as goal
 

@@ -1,10 +1,8 @@
 -- The entries from v on are made. Assumes nothing.
 use mathlib.Core.Path.{ap, ◌∙◌}
-use Prim.Native.Nat.{◌≤◌, ◌-◌}
-use native.Mathlib.Omega.{arith}
-use lib.ListN.{length, get_or}
-use Rattle.hand_over.proofs.Entries.{Filling, fill_begins, fill_on, fill_ends}
-use Rattle.hand_over.proofs.Handing.{distance_entry, prices_so, by_status}
+use Prim.Native.Nat.{◌-◌}
+use Rattle.hand_over.proofs.Entries.{fill_begins, fill_on, fill_ends}
+use Rattle.hand_over.proofs.Handing.{prices_so}
 use Rattle.hand_over.proofs.fill_prices.Goals as goal
 
 pub loop-v-init : goal.loop-v-init

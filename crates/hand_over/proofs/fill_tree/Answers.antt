@@ -1,9 +1,7 @@
 -- The entries from v on are made. Assumes nothing.
 use mathlib.Core.Path.{◌∙◌}
-use native.Mathlib.Omega.{arith}
-use lib.ListN.{length}
-use Rattle.hand_over.proofs.Entries.{Filling, fill_begins, fill_on, fill_ends}
-use Rattle.hand_over.proofs.Handing.{arc_entry, tree_so}
+use Rattle.hand_over.proofs.Entries.{fill_begins, fill_on, fill_ends}
+use Rattle.hand_over.proofs.Handing.{tree_so}
 use Rattle.hand_over.proofs.fill_tree.Goals as goal
 
 pub loop-v-init : goal.loop-v-init

@@ -1,7 +1,6 @@
 -- Each part of the answer is the definition's. Assumes nothing.
 use mathlib.Core.Path.{◌≡◌, refl, sym, subst}
 use Prim.Native.Nat.{ℕ}
-use native.Mathlib.Omega.{arith}
 use Rattle.auction.specs.Auction.{state, iterations, auction}
 use Rattle.steps.specs.Seen.{seen}
 use mathlib.Core.Bool.{cond}
@@ -9,7 +8,6 @@ use lib.Dec.{eqb}
 use Rattle.table.specs.Refusals.{no_refusal, refusal}
 use Rattle.hand_over.specs.Answered.{answered}
 use Rattle.hand_over.proofs.Handing.{assembled}
-use borrow.Author.Rules.{rules}
 use Rattle.hand_over.proofs.hand_over.Goals as goal
 
 pub returns : goal.returns

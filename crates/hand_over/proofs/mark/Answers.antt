@@ -1,7 +1,6 @@
 -- Each arm of the match is one case of the definition. Assumes nothing.
 use native.Mathlib.Omega.{arith}
-use Rattle.hand_over.proofs.Marks.{byte_low, is_3, is_1, is_2, is_0}
-use borrow.Author.Rules.{rules}
+use Rattle.hand_over.proofs.Marks.{is_3, is_1, is_2, is_0}
 use Rattle.hand_over.proofs.mark.Goals as goal
 
 pub returns-in-5 : goal.returns-in-5

@@ -1,7 +1,6 @@
 -- The index is that of a missing node, or the number of wanted nodes. Assumes nothing.
-use borrow.Author.Tests.{eq-eqb, ne_eqb}
+use borrow.Author.Tests.{ne_eqb}
 use Rattle.table.specs.Refusals.{refusal}
-use borrow.Author.Rules.{rules}
 use Rattle.hand_over.proofs.route_refusal.Goals as goal
 
 pub returns : goal.returns

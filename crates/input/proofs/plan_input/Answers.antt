@@ -1,6 +1,4 @@
 -- `input::plan_input` meets its contract: what was read is planned, and what is printed of it is printed of the input. Assumes nothing.
-use native.Mathlib.Omega.{arith}
-use borrow.Author.Rules.{rules}
 use Rattle.sheet.specs.Printed.{read_input, printed}
 use Rattle.input.proofs.Planning.{input_refuses_well}
 use Rattle.input.proofs.plan_input.Goals as goal

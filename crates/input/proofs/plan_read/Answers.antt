@@ -1,7 +1,6 @@
 -- `input::plan_read` meets its contract: a file that was refused is not planned, another one is. Assumes nothing.
 use mathlib.Core.Path.{sym, ◌∙◌}
 use lib.ListN.{take}
-use borrow.Author.Rules.{rules}
 use Rattle.input.proofs.Planning.{part_of, refused_read, planned_parts}
 use Rattle.input.proofs.plan_read.Goals as goal
 

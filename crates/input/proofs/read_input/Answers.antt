@@ -1,6 +1,4 @@
 -- `input::read_input` meets its contract: too long an input is refused, and another one is read. Assumes nothing.
-use native.Mathlib.Omega.{arith}
-use borrow.Author.Rules.{rules}
 use Rattle.table.specs.Table.{Below}
 use Rattle.link_file.proofs.EntryTrips.{answers_fit}
 use Rattle.input.proofs.Planning.{input_too_long, input_read}

@@ -2,12 +2,10 @@
 -- Assumes nothing.
 use mathlib.Core.Path.{◌≡◌, refl, sym, ap, ◌∙◌}
 use Prim.Native.Nat.{ℕ, ◌≤◌}
-use borrow.Author.Rules.{rules}
 use native.Mathlib.Omega.{arith}
 use lib.ListN.{length, take}
 use Rattle.table.specs.Table.{table_of, most_nodes}
 use Rattle.auction.specs.Auction.{state, iterations}
-use Rattle.steps.specs.declared.state.RunState.{RunState}
 use Rattle.steps.specs.Seen.{seen, first_of, Sized}
 use Rattle.limit_answer.specs.Answer.{limit_of, within}
 use Rattle.planner.proofs.Planning.{origin_low, nodes_low, part_fits, parts_long, lent_fresh}

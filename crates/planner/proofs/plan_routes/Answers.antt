@@ -6,7 +6,6 @@ use Rattle.table.specs.Refusals.{refusal}
 use Rattle.auction.specs.Plan.{plan_refusal}
 use Rattle.hand_over.specs.Answered.{answered}
 use Rattle.planner.proofs.Planning.{fine, refused, planned}
-use borrow.Author.Rules.{rules}
 use Rattle.planner.proofs.plan_routes.Goals as goal
 
 pub returns-then-refusal-ne-NONE : goal.returns-then-refusal-ne-NONE

@@ -1,14 +1,11 @@
 -- The fresh state's arrays are longer than the number of nodes: their first parts are lent. Assumes nothing.
-use mathlib.Core.Path.{◌≡◌, sym, ap, subst, ◌∙◌}
-use Prim.Native.Nat.{ℕ, ◌≤◌}
+use mathlib.Core.Path.{◌≡◌, sym}
+use Prim.Native.Nat.{◌≤◌}
 use native.Mathlib.Omega.{arith}
 use lib.ListN.{length, take}
-use Rattle.table.specs.Table.{table_of, most_nodes}
-use Rattle.steps.specs.declared.state.RunState.{RunState}
+use Rattle.table.specs.Table.{most_nodes}
 use Rattle.steps.specs.Seen.{first_of, Sized}
-use Rattle.auction.specs.Plan.{routes_of}
-use Rattle.hand_over.specs.ReadOff.{Fitting}
-use Rattle.planner.proofs.Planning.{origin_low, part_fits, parts_long, lent_fresh}
+use Rattle.planner.proofs.Planning.{origin_low, parts_long, lent_fresh}
 use Rattle.planner.proofs.plan_table.Goals as goal
 use Rattle.planner.proofs.plan_table.Goals.{After-fresh-state, Start}
 

@@ -1,15 +1,12 @@
 -- The state where the run ends is what the hand-over is promised. Assumes nothing.
-use mathlib.Core.Path.{◌≡◌, refl, sym, subst, ◌∙◌}
-use mathlib.Core.List.{List}
-use Prim.Native.Nat.{ℕ}
+use mathlib.Core.Path.{◌≡◌, refl, sym, ◌∙◌}
 use native.Mathlib.Omega.{arith}
 use lib.ListN.{length}
-use Rattle.table.specs.Table.{Table, table_of}
+use Rattle.table.specs.Table.{table_of}
 use Rattle.auction.specs.Auction.{iterations, state, auction}
 use Rattle.steps.specs.Seen.{seen}
 use Rattle.steps.specs.Steps.{Ran}
 use Rattle.table.proofs.Columns.{nodes_so}
-use Rattle.hand_over.specs.ReadOff.{Fitting}
 use Rattle.planner.proofs.Planning.{ran_unlimited, routed_so, known_so, ends_so, arcs_held, place_low}
 use Rattle.planner.proofs.run_lent.Goals as goal
 use Rattle.planner.proofs.run_lent.Goals.{After-run-end}

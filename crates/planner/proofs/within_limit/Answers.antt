@@ -1,11 +1,9 @@
 -- The run within the limit is made, or the table is refused. Assumes nothing.
 use mathlib.Core.Path.{◌≡◌, refl, sym, ◌∙◌}
 use Rattle.table.specs.Table.{Below}
-use Rattle.table.specs.declared.Refusal.{Refusal}
 use Rattle.limit_answer.specs.Answer.{within, limit_refusal}
 use Rattle.limit_answer.proofs.Refused.{fine, asked, refused}
 use Rattle.planner.proofs.Limiting.{refusal_so}
-use borrow.Author.Rules.{rules}
 use Rattle.planner.proofs.within_limit.Goals as goal
 use Rattle.planner.proofs.within_limit.Goals.{After-table_refusal-refusal}
 

@@ -1,16 +1,12 @@
 -- `routes::print_input` meets what its calls ask: the parts of the columns that were filled are lent, and their sheet is what is printed of the input.
 -- Assumes nothing.
-use mathlib.Core.Path.{sym, ap, ◌∙◌}
+use mathlib.Core.Path.{ap, ◌∙◌}
 use mathlib.Core.List.{List}
-use Prim.Native.Nat.{ℕ, ◌≤◌}
-use native.Mathlib.Omega.{arith}
-use lib.ListN.{length, take, length-take}
-use lib.Seq.{length-take-le}
-use borrow.Author.Rules.{rules}
+use Prim.Native.Nat.{ℕ}
+use lib.ListN.{take}
 use Rattle.hand_over.specs.Answered.{answered}
-use Rattle.sheet.specs.Sheet.{Finished, to_print, sheet}
+use Rattle.sheet.specs.Sheet.{to_print, sheet}
 use Rattle.input.specs.Input.{printing_read}
-use Rattle.input.proofs.Planning.{part_of}
 use Rattle.routes.proofs.print_input.Goals as goal
 
 pub print_pieces-requires-clause-prints : goal.print_pieces-requires-clause-prints

@@ -1,8 +1,6 @@
 -- `routes::print_pieces` ends: each piece but the last has a line, so fewer lines are to come after it. Assumes nothing.
-use mathlib.Core.Path.{◌≡◌, refl, sym, ◌∙◌}
-use native.Mathlib.Omega.{arith}
+use mathlib.Core.Path.{◌≡◌}
 use lib.ListN.{length}
-use lib.Seq.{length-take-le}
 use Rattle.printer.specs.Lines.{printing, rest}
 use Rattle.routes.proofs.print_pieces.Given as goal
 

@@ -11,7 +11,6 @@ use lib.ListN.{length, get_or}
 use Rattle.table.specs.Table.{Table, tail_at, head_at, no_arc, no_distance, most_nodes}
 use Rattle.auction.specs.Auction.{State, state, bid, best, next, iteration, terminal, kept_at, iterations, most_iterations, extension}
 use Rattle.table.proofs.Basics.{same_or}
-use Rattle.auction.proofs.Good.{good}
 use Rattle.auction.proofs.Steps.Effects.{status_in, kept_below, known_distance}
 use Rattle.auction.proofs.Steps.Bids.{best_bid}
 use Rattle.auction.proofs.Steps.Keeps.{extension_keeps}

@@ -1,9 +1,5 @@
 -- The wanted nodes from the first index up to w have been reached. Assumes nothing.
-use Prim.Native.Nat.{◌-◌}
-use borrow.Author.Rules.{rules}
-use native.Mathlib.Omega.{arith}
-use lib.ListN.{length}
-use Rattle.solver.proofs.run.Wanted.{Seeking, seeks, seeks_on, found_here, found_none}
+use Rattle.solver.proofs.run.Wanted.{seeks_on, found_here, found_none}
 use Rattle.solver.proofs.run.first_unreached.Goals as goal
 
 pub returns-then-status-v-eq-UNREACHED : goal.returns-then-status-v-eq-UNREACHED

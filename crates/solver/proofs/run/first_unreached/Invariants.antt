@@ -1,9 +1,7 @@
 -- The wanted nodes from the first index up to w have been reached. Assumes nothing.
 use Prim.Native.Nat.{◌-◌}
-use borrow.Author.Rules.{rules}
-use native.Mathlib.Omega.{arith}
 use lib.ListN.{length}
-use Rattle.solver.proofs.run.Wanted.{Seeking, seeks, seeks_on, found_here, found_none}
+use Rattle.solver.proofs.run.Wanted.{Seeking}
 use Rattle.solver.proofs.run.first_unreached.Given as goal
 
 abbrev pub invariant-loop-w : goal.invariant-loop-w

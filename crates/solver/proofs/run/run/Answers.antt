@@ -3,14 +3,13 @@ use mathlib.Core.Path.{◌≡◌, sym, subst}
 use mathlib.Core.List.{List}
 use Prim.Native.Nat.{ℕ}
 use lib.ListN.{length, take, replicate}
-use Rattle.table.specs.Table.{Table, table_of, no_node, most_nodes, most_arcs}
+use Rattle.table.specs.Table.{table_of, no_node, most_nodes, most_arcs}
 use Rattle.auction.specs.Auction.{fresh}
 use Rattle.steps.specs.Seen.{arrays, held, Sized}
 use Rattle.forward_star.specs.Lists.{star}
 use Rattle.solver.specs.Runs.{Begun, AllForgotten}
 use Rattle.forward_star.proofs.Columns.{lent_again, Linkable, linkable, Relent, relent, filled_long, filled_with}
 use Rattle.solver.proofs.run.Beginning.{begun_fresh}
-use borrow.Author.Rules.{rules}
 use Rattle.solver.proofs.run.run.Goals as goal
 use Rattle.solver.proofs.run.run.Goals.{After-link_arcs, Start}
 

@@ -1,5 +1,4 @@
 -- Reaching the origin gives the start. Assumes nothing.
-use mathlib.Core.Path.{◌∙◌}
 use lib.ListN.{length}
 use Rattle.table.specs.Table.{Table}
 use Rattle.auction.specs.Auction.{fresh}

@@ -1,13 +1,9 @@
 -- The bids from p on are left to compare; p rises along the node's list. Assumes nothing.
 use mathlib.Core.Path.{◌≡◌, refl, ap, ◌∙◌}
-use Prim.Native.Nat.{ℕ, ◌≤◌, ◌-◌}
-use borrow.Author.Rules.{rules}
 use native.Mathlib.Omega.{arith}
 use lib.ListN.{get_or}
-use Rattle.table.specs.Table.{no_arc}
-use Rattle.steps.specs.Steps.{Leads}
 use Rattle.forward_star.proofs.Along.{Readable, readable}
-use Rattle.steps.proofs.bids.Bidding.{Comparing, begins, goes_on, ends}
+use Rattle.steps.proofs.bids.Bidding.{begins, goes_on, ends}
 use Rattle.steps.proofs.bids.least_bid.Goals as goal
 use Rattle.steps.proofs.bids.least_bid.Goals.{After-wide-head, In-loop-p}
 

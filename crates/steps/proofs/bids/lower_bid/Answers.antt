@@ -2,17 +2,15 @@
 use mathlib.Core.Path.{◌≡◌, ap, sym, ◌∙◌}
 use mathlib.Core.Bool.{true}
 use mathlib.Core.List.{List}
-use mathlib.Core.Logic.{inl, inr, ⊎_elim}
+use mathlib.Core.Logic.{inl, inr}
 use Prim.Native.Nat.{ℕ, ◌+◌}
 use native.Mathlib.Omega.{arith}
 use lib.ListN.{get_or}
-use borrow.Author.Tests.{eqb-true, eqb-false, leb-true, leb-false}
 use Rattle.table.specs.Table.{Table, tail_at, head_at, length_at}
 use Rattle.auction.specs.Auction.{State, to_child, price_at}
 use Rattle.steps.specs.declared.state.Progress.{Progress}
 use Rattle.steps.specs.Seen.{bid_of, seen}
 use Rattle.steps.proofs.bids.Bidding.{no_child, a_child, bid_value, stays, not_lower, lower}
-use borrow.Author.Rules.{rules}
 use Rattle.steps.proofs.bids.lower_bid.Goals as goal
 use Rattle.steps.proofs.bids.lower_bid.Goals.{After-long, then-kept-head-via-then-kept-head, then-kept-head-via-else-kept-head+then-status-head-eq-DELETED, else-least-ne-NO_ARC-via-then-least-ne-NO_ARC+else-least-value, else-least-ne-NO_ARC-via-else-least-ne-NO_ARC}
 

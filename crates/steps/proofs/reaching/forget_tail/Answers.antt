@@ -1,11 +1,9 @@
 -- The entry of the node that the arc leaves is written over. Assumes nothing.
 use mathlib.Core.Path.{◌≡◌, ap, ◌∙◌}
-use native.Mathlib.Omega.{arith}
 use lib.ListN.{get_or}
 use borrow.Author.Tests.{eq-eqb, ne_eqb}
 use Rattle.table.specs.Table.{no_arc}
 use Rattle.steps.specs.Memory.{without_tail}
-use borrow.Author.Rules.{rules}
 use Rattle.steps.proofs.reaching.forget_tail.Goals as goal
 use Rattle.steps.proofs.reaching.forget_tail.Goals.{After-wide-u}
 

@@ -1,8 +1,6 @@
 -- Each way out is one case of `offer`. Assumes nothing.
-use mathlib.Core.Path.{refl, sym, ◌∙◌}
-use mathlib.Core.Logic.{inl, inr}
+use mathlib.Core.Path.{sym, ◌∙◌}
 use Rattle.steps.proofs.reaching.Offering.{offered_kept, offered_dropped, offered_reached}
-use borrow.Author.Rules.{rules}
 use Rattle.steps.proofs.reaching.offer.Goals as goal
 
 pub returns-then-improves-clause-offers : goal.returns-then-improves-clause-offers

@@ -1,14 +1,8 @@
 -- The arcs from p on are left to offer, and the nodes remember what they should after those before; p rises along the node's list. Assumes nothing.
-use mathlib.Core.Path.{◌≡◌, ap, sym, subst, ◌∙◌}
-use Prim.Native.Nat.{ℕ, ◌+◌, ◌≤◌, ◌<◌, ◌-◌}
-use borrow.Author.Rules.{rules}
-use native.Mathlib.Omega.{arith}
-use lib.ListN.{length, get_or}
+use Prim.Native.Nat.{◌≤◌, ◌-◌}
 use Rattle.table.specs.Table.{no_arc}
-use Rattle.steps.specs.Memory.{KeptIn}
-use Rattle.steps.proofs.reaching.Offering.{Offering, begins, goes_on, ends}
-use Rattle.steps.proofs.reaching.Losing.{Forgetting, none_yet, one_more}
-use Rattle.forward_star.proofs.Along.{Readable, readable}
+use Rattle.steps.proofs.reaching.Offering.{Offering}
+use Rattle.steps.proofs.reaching.Losing.{Forgetting}
 use Rattle.steps.proofs.reaching.offer_arcs.Given as goal
 
 abbrev pub invariant-loop-p : goal.invariant-loop-p

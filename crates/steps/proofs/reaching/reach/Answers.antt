@@ -1,13 +1,10 @@
 -- The status is stored first, as the definition has it, which changes no child. Assumes nothing.
-use mathlib.Core.Path.{refl, ◌∙◌}
 use Prim.Native.Nat.{◌<◌}
 use native.Mathlib.Omega.{arith}
-use lib.ListN.{length, length-set}
-use lib.Seq.{get_or-set_same}
+use lib.ListN.{length}
 use Rattle.auction.specs.Auction.{state, reach, with_status}
 use Rattle.steps.specs.Seen.{seen}
 use Rattle.steps.proofs.Remembering.{marked_alike, after_alike}
-use borrow.Author.Rules.{rules}
 use Rattle.steps.proofs.reaching.reach.Goals as goal
 
 pub returns-clause-reaches : goal.returns-clause-reaches

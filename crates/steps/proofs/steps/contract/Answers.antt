@@ -1,7 +1,5 @@
 -- The path loses its first node, unless that is the origin. Assumes nothing.
-use mathlib.Core.Path.{refl}
 use Rattle.steps.proofs.steps.Stepping.{contracted_origin, contracted_other}
-use borrow.Author.Rules.{rules}
 use Rattle.steps.proofs.steps.contract.Goals as goal
 
 pub returns-then-v-origin-clause-contracts : goal.returns-then-v-origin-clause-contracts

@@ -1,7 +1,6 @@
 -- The path loses its first node. Assumes nothing.
 use native.Mathlib.Omega.{arith}
 use Rattle.steps.proofs.steps.Stepping.{deleted_so}
-use borrow.Author.Rules.{rules}
 use Rattle.steps.proofs.steps.delete.Goals as goal
 
 pub returns-clause-deletes : goal.returns-clause-deletes

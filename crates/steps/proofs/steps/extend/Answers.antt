@@ -1,12 +1,6 @@
 -- The child goes on the path; where it is unreached, reaching it is the definition's own last step. Assumes nothing.
-use mathlib.Core.Path.{sym, subst}
-use native.Mathlib.Omega.{arith}
-use Prim.Native.Nat.{ℕ, ◌≤◌}
-use lib.ListN.{get_or, length-set}
-use Rattle.steps.specs.Seen.{greatest_sum}
 use Rattle.steps.proofs.steps.Stepping.{extended_known, extended_reached, reached_other}
 use Rattle.steps.proofs.Remembering.{seen_alike, unchanged, after_alike, fewer}
-use borrow.Author.Rules.{rules}
 use Rattle.steps.proofs.steps.extend.Goals as goal
 
 pub returns-then-status-v-ne-UNREACHED-clause-extends : goal.returns-then-status-v-ne-UNREACHED-clause-extends

@@ -3,7 +3,6 @@ use mathlib.Core.Path.{ap}
 use lib.ListN.{set}
 use Rattle.table.specs.Table.{no_node}
 use Rattle.steps.specs.Memory.{without_before}
-use borrow.Author.Rules.{rules}
 use Rattle.steps.proofs.steps.forget_before.Goals as goal
 
 pub returns : goal.returns

@@ -1,5 +1,5 @@
 -- The bid picks the kind of iteration, as in the definition. Assumes nothing.
-use mathlib.Core.Path.{◌≡◌, refl, ap, sym, subst, ◌∙◌}
+use mathlib.Core.Path.{◌≡◌, ap, sym, subst, ◌∙◌}
 use mathlib.Core.List.{List}
 use mathlib.Core.Option.{some}
 use native.Mathlib.Omega.{arith}
@@ -11,8 +11,7 @@ use Rattle.forward_star.specs.Lists.{star, Outgoing, SomeTable}
 use Rattle.steps.specs.declared.state.Progress.{Progress}
 use Rattle.steps.specs.Seen.{arrays, held, greatest_sum}
 use Rattle.steps.proofs.Arrays.{seen_price}
-use Rattle.steps.proofs.steps.Stepping.{before_still, is_deletion, is_contraction, is_extension}
-use borrow.Author.Rules.{rules}
+use Rattle.steps.proofs.steps.Stepping.{is_deletion, is_contraction, is_extension}
 use Rattle.steps.proofs.steps.step.Goals as goal
 use Rattle.steps.proofs.steps.step.Goals.{Else-arc, Then-arc}
 

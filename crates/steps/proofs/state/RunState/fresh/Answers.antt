@@ -1,10 +1,7 @@
 -- The arrays are filled as the definition fills its lists. Assumes nothing.
 use mathlib.Core.Path.{refl}
-use Prim.Native.Nat.{ℕ}
-use lib.ListN.{length-replicate}
-use Rattle.table.specs.Table.{no_arc, no_distance, most_nodes}
-use Rattle.steps.proofs.Arrays.{fresh_seen, stored_long}
-use borrow.Author.Rules.{rules}
+use Rattle.table.specs.Table.{most_nodes}
+use Rattle.steps.proofs.Arrays.{fresh_seen}
 use Rattle.steps.proofs.state.RunState.fresh.Goals as goal
 
 pub returns-clause-so : goal.returns-clause-so
