@@ -6,7 +6,8 @@ pub loop-p-init : goal.loop-p-init
 loop-p-init c = begins c.requires.next_len.0 c.requires.by_index_2
 
 pub loop-p-preserved-then-lengths-p : goal.loop-p-preserved-then-lengths-p
-loop-p-preserved-then-lengths-p c = goes_on c.wide-v.result c.narrow.result c.loop-p.invariant c.loop-p-test.true c.if-lengths-p.true c.wide-v.ensures.same
+loop-p-preserved-then-lengths-p c =
+    goes_on c.wide-v.result c.narrow.result c.loop-p.invariant c.loop-p-test.true c.if-lengths-p.true c.wide-v.ensures.same
     c.narrow.ensures c.requires.by_index
 
 pub loop-p-preserved : goal.loop-p-preserved

@@ -11,10 +11,12 @@ use Rattle.hand_over.proofs.Handing.{reached_entry, count_so, at_most_one}
 use Rattle.hand_over.proofs.count_reached.Goals as goal
 
 pub loop-v-init : goal.loop-v-init
-loop-v-init c = let a = c.args in (search rules, sum_none (length a.status.now) (reached_entry a.status.now))
+loop-v-init c =
+    let a = c.args in (search rules, sum_none (length a.status.now) (reached_entry a.status.now))
 
 pub loop-v-preserved : goal.loop-v-preserved
-loop-v-preserved c = let a = c.args in
+loop-v-preserved c =
+    let a = c.args in
     let l = c.loop-v in (
       omega (arith, l.invariant.0, c.one_if_reached-count.ensures, at_most_one (ltb 0 (get_or a.status.now (l.v - 1) 0))),
       ap (λ (m : ℕ). m + l.count) c.one_if_reached-count.ensures

@@ -17,7 +17,8 @@ returns c = λ t ws path price nodes held many ran routed.
     let g = a.end.progress in
     assembled t ws a.end.missing a.end.scans _ ran
     (subst (λ (k : ℕ). (auction t ws).routed ≡ eqb a.end.missing k) (sym many) routed) c.route_refusal-refusal.result _ _ _ _ _ _ _ _ _ _
-    (subst (λ (k : ℕ). c.route_refusal-refusal.result ≡ cond (eqb a.end.missing k) no_refusal (refusal 8 a.end.missing)) (sym many) c.route_refusal-refusal.ensures)
+    (subst (λ (k : ℕ). c.route_refusal-refusal.result ≡ cond (eqb a.end.missing k) no_refusal (refusal 8 a.end.missing))
+    (sym many) c.route_refusal-refusal.ensures)
     (c.count_reached-reached.ensures a.bound.now a.kept.now t path price g nodes)
     (c.horizon_of-horizon.ensures.so a.kept.now t path price g nodes) refl refl refl refl
     (c.fill_distances.ensures a.kept.now t path price g nodes)

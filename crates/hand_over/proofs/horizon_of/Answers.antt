@@ -10,10 +10,12 @@ use Rattle.hand_over.proofs.Handing.{distance_entry, horizon_so, below_horizon}
 use Rattle.hand_over.proofs.horizon_of.Goals as goal
 
 pub loop-v-init : goal.loop-v-init
-loop-v-init c = let a = c.args in (search rules, greatest_none (length a.status.now) (distance_entry 0 a.bound.now a.status.now))
+loop-v-init c =
+    let a = c.args in (search rules, greatest_none (length a.status.now) (distance_entry 0 a.bound.now a.status.now))
 
 pub loop-v-preserved : goal.loop-v-preserved
-loop-v-preserved c = let a = c.args in
+loop-v-preserved c =
+    let a = c.args in
     let l = c.loop-v in
     let f = distance_entry 0 a.bound.now a.status.now in (
       omega (arith, l.invariant.0),
@@ -22,11 +24,16 @@ loop-v-preserved c = let a = c.args in
     )
 
 pub returns-clause-so : goal.returns-clause-so
-returns-clause-so c = let a = c.args in
+returns-clause-so c =
+    let a = c.args in
     let l = c.loop-v in
-    let all = l.invariant.1 ∙ ap greatest (all_entries (length a.status.now) l.v (distance_entry 0 a.bound.now a.status.now) c.loop-v-test.false) in λ kept t path price g e. all ∙ horizon_so path price a.bound.now kept a.status.now g c.requires t e
+    let all = l.invariant.1 ∙ ap greatest (all_entries (length a.status.now) l.v
+    (distance_entry 0 a.bound.now a.status.now) c.loop-v-test.false) in λ kept t path price g e. all ∙ horizon_so path price a.bound.now kept
+    a.status.now g c.requires t e
 
 pub returns-clause-above : goal.returns-clause-above
-returns-clause-above c = let a = c.args in
+returns-clause-above c =
+    let a = c.args in
     let l = c.loop-v in
-    let all = l.invariant.1 ∙ ap greatest (all_entries (length a.status.now) l.v (distance_entry 0 a.bound.now a.status.now) c.loop-v-test.false) in below_horizon a.bound.now a.status.now _ all
+    let all = l.invariant.1 ∙ ap greatest (all_entries (length a.status.now) l.v
+    (distance_entry 0 a.bound.now a.status.now) c.loop-v-test.false) in below_horizon a.bound.now a.status.now _ all

@@ -5,4 +5,5 @@ use Rattle.hand_over.proofs.route_refusal.Goals as goal
 
 pub returns : goal.returns
 unfolding refusal
-returns c = let a = c.args in rw (ne_eqb a.missing a.wanted c.if-missing-wanted.false)
+returns c =
+    let a = c.args in rw (ne_eqb a.missing a.wanted c.if-missing-wanted.false)

@@ -5,7 +5,8 @@ use Rattle.input.proofs.plan_input.Goals as goal
 
 pub returns : goal.returns
 unfolding printed
-returns c = let input = c.args.input.now in
+returns c =
+    let input = c.args.input.now in
     record {
       counts = c.read_input-read.ensures.fits;
       prints = c.plan_read-answer.ensures (read_input input) _ _ _ _ (input_refuses_well input) c.read_input-read.ensures.reads;

@@ -5,10 +5,12 @@ use Rattle.input.proofs.Planning.{part_of, refused_read, planned_parts}
 use Rattle.input.proofs.plan_read.Goals as goal
 
 pub returns-then-read-ne-NONE : goal.returns-then-read-ne-NONE
-returns-then-read-ne-NONE c o ts₀ hs₀ ls₀ ws₀ well l = refused_read c.args.read ts₀ hs₀ ls₀ ws₀ _ _ _ _ _ _ _ _ o well l c.if-read-ne-NONE.true c.refused.result c.refused.ensures
+returns-then-read-ne-NONE c o ts₀ hs₀ ls₀ ws₀ well l =
+    refused_read c.args.read ts₀ hs₀ ls₀ ws₀ _ _ _ _ _ _ _ _ o well l c.if-read-ne-NONE.true c.refused.result c.refused.ensures
 
 pub returns : goal.returns
-returns c o ts₀ hs₀ ls₀ ws₀ well l = let a = c.args in
+returns c o ts₀ hs₀ ls₀ ws₀ well l =
+    let a = c.args in
     let fits = c.requires.counts_fit in
     let room = c.requires.buffers_roomy in
     let d = sym (part_of a.distances.now a.read.n fits.nodes room.distances_long) in

@@ -9,8 +9,10 @@ returns-then-input-gt-MOST_INPUT-clause-reads c = input_too_long _ _ _ _ _ c.if-
 
 pub returns-clause-reads : goal.returns-clause-reads
 unfolding Below
-returns-clause-reads c = let r = c.read_link_file in input_read _ _ _ _ _ _ _ _ _ r.result c.if-input-gt-MOST_INPUT.false c.requires r.ensures
+returns-clause-reads c =
+    let r = c.read_link_file in input_read _ _ _ _ _ _ _ _ _ r.result c.if-input-gt-MOST_INPUT.false c.requires r.ensures
 
 pub returns-clause-fits : goal.returns-clause-fits
 unfolding Below
-returns-clause-fits c = let r = c.read_link_file in answers_fit _ _ _ _ _ _ _ _ _ r.result (λ i. (c.shared_slice_known-1.given i).fits) r.ensures
+returns-clause-fits c =
+    let r = c.read_link_file in answers_fit _ _ _ _ _ _ _ _ _ r.result (λ i. (c.shared_slice_known-1.given i).fits) r.ensures

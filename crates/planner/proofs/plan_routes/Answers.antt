@@ -10,13 +10,15 @@ use Rattle.planner.proofs.plan_routes.Goals as goal
 
 pub returns-then-refusal-ne-NONE : goal.returns-then-refusal-ne-NONE
 unfolding answered plan_refusal
-returns-then-refusal-ne-NONE c = let a = c.args in
+returns-then-refusal-ne-NONE c =
+    let a = c.args in
     refused a.n a.origin a.tails.now a.heads.now a.lengths.now a.wanted.now a.distances.now a.prices.now a.tree.now a.marks.now
     c.table_refusal-refusal.result c.table_refusal-refusal.ensures c.if-refusal-ne-NONE.true
 
 pub plan_table-requires-clause-heads_len : goal.plan_table-requires-clause-heads_len
 unfolding plan_refusal Below refusal
-plan_table-requires-clause-heads_len c = let a = c.args in
+plan_table-requires-clause-heads_len c =
+    let a = c.args in
     let lengths-fit = c.shared_slice_known-3-1.given in
     let none = sym (ap (λ (f : Refusal). f.number) c.table_refusal-refusal.ensures) ∙ c.if-refusal-ne-NONE.false in
     let f =
@@ -26,7 +28,8 @@ plan_table-requires-clause-heads_len c = let a = c.args in
 
 pub plan_table-requires-clause-wanted_value : goal.plan_table-requires-clause-wanted_value
 unfolding plan_refusal Below refusal
-plan_table-requires-clause-wanted_value c = let a = c.args in
+plan_table-requires-clause-wanted_value c =
+    let a = c.args in
     let lengths-fit = c.shared_slice_known-3-1.given in
     let none = sym (ap (λ (f : Refusal). f.number) c.table_refusal-refusal.ensures) ∙ c.if-refusal-ne-NONE.false in
     let f =
@@ -36,7 +39,8 @@ plan_table-requires-clause-wanted_value c = let a = c.args in
 
 pub plan_table-requires-clause-fitting : goal.plan_table-requires-clause-fitting
 unfolding plan_refusal Below refusal
-plan_table-requires-clause-fitting c = let a = c.args in
+plan_table-requires-clause-fitting c =
+    let a = c.args in
     let lengths-fit = c.shared_slice_known-3-1.given in
     let none = sym (ap (λ (f : Refusal). f.number) c.table_refusal-refusal.ensures) ∙ c.if-refusal-ne-NONE.false in
     let f =
@@ -46,6 +50,7 @@ plan_table-requires-clause-fitting c = let a = c.args in
 
 pub returns : goal.returns
 unfolding plan_refusal
-returns c = let a = c.args in
+returns c =
+    let a = c.args in
     planned a.n a.origin a.tails.now a.heads.now a.lengths.now a.wanted.now a.distances.now a.prices.now a.tree.now a.marks.now
     c.table_refusal-refusal.result _ c.table_refusal-refusal.ensures c.if-refusal-ne-NONE.false c.plan_table.ensures

@@ -21,11 +21,19 @@ module _ (c : After-fresh-state) where
   status_part = sym lent_long.1.statuses
 
 pub fresh-state-requires : goal.fresh-state-requires
-fresh-state-requires c = let a = c.args in
-    omega (arith, origin_low a.n a.origin a.tails.now a.heads.now a.lengths.now a.wanted.now c.requires.heads_len.0 c.requires.heads_len.1 c.requires.wanted_value, few (goal.at.fresh-state-requires c).Start)
+fresh-state-requires c =
+    let a = c.args in
+    omega (
+      arith,
+      origin_low a.n a.origin a.tails.now a.heads.now a.lengths.now a.wanted.now c.requires.heads_len.0 c.requires.heads_len.1
+          c.requires.wanted_value,
+      few (goal.at.fresh-state-requires c).Start,
+    )
 
 pub run_lent-requires-clause-progress_value : goal.run_lent-requires-clause-progress_value
-run_lent-requires-clause-progress_value c = let a = c.args in
-    let lent_so = lent_fresh c.args.n a.origin a.tails.now a.heads.now a.lengths.now a.wanted.now c.requires.heads_len.0 c.requires.heads_len.1 c.requires.wanted_value
+run_lent-requires-clause-progress_value c =
+    let a = c.args in
+    let lent_so = lent_fresh c.args.n a.origin a.tails.now a.heads.now a.lengths.now a.wanted.now c.requires.heads_len.0 c.requires.heads_len.1
+    c.requires.wanted_value
     c.fresh-state.result c.fresh-state.ensures.so c.fresh-state.ensures.long in
     lent_so.1.1

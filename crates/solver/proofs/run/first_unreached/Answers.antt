@@ -3,7 +3,8 @@ use Rattle.solver.proofs.run.Wanted.{seeks_on, found_here, found_none}
 use Rattle.solver.proofs.run.first_unreached.Goals as goal
 
 pub returns-then-status-v-eq-UNREACHED : goal.returns-then-status-v-eq-UNREACHED
-returns-then-status-v-eq-UNREACHED c = found_here c.loop-w.invariant c.wide-v.result c.wide-v.ensures.same c.loop-w-test.true c.if-status-v-eq-UNREACHED.true
+returns-then-status-v-eq-UNREACHED c =
+    found_here c.loop-w.invariant c.wide-v.result c.wide-v.ensures.same c.loop-w-test.true c.if-status-v-eq-UNREACHED.true
 
 pub loop-w-preserved : goal.loop-w-preserved
 loop-w-preserved c = seeks_on c.loop-w.invariant c.wide-v.result c.wide-v.ensures.same c.loop-w-test.true c.if-status-v-eq-UNREACHED.false

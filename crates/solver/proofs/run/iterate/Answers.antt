@@ -110,7 +110,8 @@ pub first_unreached-w-requires : goal.first_unreached-w-requires
 first_unreached-w-requires c = (search rules, wanted_below c.requires.begun.0 c.requires.begun.1 c.args.status.now c.requires.path_len.1.statuses)
 
 pub loop-w-init : goal.loop-w-init
-loop-w-init c = let a = c.args in
+loop-w-init c =
+    let a = c.args in
     starts a.path.now a.price.now a.bound.now a.kept.now a.remembered.now a.status.now a.begun c.requires.begun.0 c.requires.begun.1
     c.requires.path_len.0 c.requires.path_len.1 c.requires.all_forgotten c.first_unreached-w.ensures
 
@@ -118,48 +119,52 @@ pub overflow_sub-depth : goal.overflow_sub-depth
 overflow_sub-depth c = (ready (goal.at.overflow_sub-depth c).At-loop-w).depth_some
 
 pub offset_bounds-path-depth : goal.offset_bounds-path-depth
-offset_bounds-path-depth c = let r = ready (goal.at.offset_bounds-path-depth c).At-loop-w in omega (arith, r.depth_short, r.few_nodes)
+offset_bounds-path-depth c =
+    let r = ready (goal.at.offset_bounds-path-depth c).At-loop-w in omega (arith, r.depth_short, r.few_nodes)
 
 pub bounds-path-depth : goal.bounds-path-depth
-bounds-path-depth c = omega (arith, (ready (goal.at.bounds-path-depth c).At-loop-w).depth_some, (ready (goal.at.bounds-path-depth c).At-loop-w).depth_short, c.loop-w.invariant.path_long)
+bounds-path-depth c =
+    let places = goal.at.bounds-path-depth c in
+    omega (arith, (ready places.At-loop-w).depth_some, (ready places.At-loop-w).depth_short, c.loop-w.invariant.path_long)
 
 pub bounds-remembered-v : goal.bounds-remembered-v
 bounds-remembered-v c = omega (arith, terminal_in (goal.at.bounds-remembered-v c).After-wide-v, c.loop-w.invariant.remembered_long)
 
 pub extend-g-requires-clause-some_table : goal.extend-g-requires-clause-some_table
 unfolding SomeTable
-extend-g-requires-clause-some_table c = let some_child = c.if-child.true in
-    let i = c.loop-w.invariant in
-    let sized = i.sized in
+extend-g-requires-clause-some_table c =
     let t = c.requires.begun.0 in
     let begun = c.requires.begun.1 in (t, begun.listed)
 
 pub extend-g-requires-clause-child_in_bounds : goal.extend-g-requires-clause-child_in_bounds
 unfolding SomeTable
-extend-g-requires-clause-child_in_bounds c = let some_child = c.if-child.true in
+extend-g-requires-clause-child_in_bounds c =
+    let some_child = c.if-child.true in
     let i = c.loop-w.invariant in
-    let sized = i.sized in
     let t = c.requires.begun.0 in
     let begun = c.requires.begun.1 in may_extend i t begun c.wide-v.result c.wide-v.ensures.same some_child c.loop-w-test.true
 
 pub extend-g-requires-clause-tails_known : goal.extend-g-requires-clause-tails_known
 unfolding SomeTable
-extend-g-requires-clause-tails_known c = let some_child = c.if-child.true in
+extend-g-requires-clause-tails_known c =
     let i = c.loop-w.invariant in
-    let sized = i.sized in
     let t = c.requires.begun.0 in
     let begun = c.requires.begun.1 in tails_known i t begun
 
 pub least_bid-least-requires-clause-some_table : goal.least_bid-least-requires-clause-some_table
 unfolding SomeTable
-least_bid-least-requires-clause-some_table c = let sized = c.loop-w.invariant.sized in (c.requires.begun.0, c.requires.begun.1.listed)
+least_bid-least-requires-clause-some_table c = (c.requires.begun.0, c.requires.begun.1.listed)
 
 pub least_bid-least-requires-clause-v_in_bounds : goal.least_bid-least-requires-clause-v_in_bounds
 unfolding SomeTable
-least_bid-least-requires-clause-v_in_bounds c = let sized = c.loop-w.invariant.sized in (terminal_in (goal.at.least_bid-least-requires-clause-v_in_bounds c).After-wide-v, (ready (goal.at.least_bid-least-requires-clause-v_in_bounds c).At-loop-w).prices_low)
+least_bid-least-requires-clause-v_in_bounds c =
+    let places = goal.at.least_bid-least-requires-clause-v_in_bounds c in
+    (terminal_in places.After-wide-v, (ready places.At-loop-w).prices_low)
 
 pub returns-then-v-origin : goal.returns-then-v-origin
-returns-then-v-origin c = stops c.loop-w.invariant c.wide-v.result c.least_bid-least.result c.loop-w-test.true c.wide-v.ensures.same (bids (goal.at.returns-then-v-origin c).After-least_bid-least) c.if-least.true
+returns-then-v-origin c =
+    stops c.loop-w.invariant c.wide-v.result c.least_bid-least.result c.loop-w-test.true c.wide-v.ensures.same (bids
+    (goal.at.returns-then-v-origin c).After-least_bid-least) c.if-least.true
     c.if-v-origin.true
 
 pub overflow_add-scans : goal.overflow_add-scans
@@ -167,27 +172,24 @@ overflow_add-scans c = omega (arith, few_scans c.loop-w.invariant c.requires.beg
 
 pub step-g-requires-clause-some_table : goal.step-g-requires-clause-some_table
 unfolding SomeTable
-step-g-requires-clause-some_table c = let i = c.loop-w.invariant in
-    let r = ready (goal.at.step-g-requires-clause-some_table c).At-loop-w in
-    let sized = i.sized in
+step-g-requires-clause-some_table c =
     let t = c.requires.begun.0 in
     let begun = c.requires.begun.1 in (t, begun.listed)
 
 pub step-g-requires-clause-v_in_bounds : goal.step-g-requires-clause-v_in_bounds
 unfolding SomeTable
-step-g-requires-clause-v_in_bounds c = let i = c.loop-w.invariant in
-    let r = ready (goal.at.step-g-requires-clause-v_in_bounds c).At-loop-w in
-    let sized = i.sized in
-    let t = c.requires.begun.0 in
-    let begun = c.requires.begun.1 in (terminal_in (goal.at.step-g-requires-clause-v_in_bounds c).After-wide-v, (r.depth_some, omega (arith, r.few, few_in_all _ r.few_nodes)))
+step-g-requires-clause-v_in_bounds c =
+    let places = goal.at.step-g-requires-clause-v_in_bounds c in
+    let r = ready places.At-loop-w in
+    (terminal_in places.After-wide-v, (r.depth_some, omega (arith, r.few, few_in_all _ r.few_nodes)))
 
 pub step-g-requires-clause-can_step : goal.step-g-requires-clause-can_step
 unfolding SomeTable
-step-g-requires-clause-can_step c = let i = c.loop-w.invariant in
-    let r = ready (goal.at.step-g-requires-clause-can_step c).At-loop-w in
-    let sized = i.sized in
+step-g-requires-clause-can_step c =
+    let i = c.loop-w.invariant in
     let t = c.requires.begun.0 in
-    let begun = c.requires.begun.1 in may_step i t begun c.wide-v.result c.wide-v.ensures.same c.least_bid-least.result.value c.least_bid-least.result.arc c.loop-w-test.true
+    let begun = c.requires.begun.1 in may_step i t begun c.wide-v.result c.wide-v.ensures.same c.least_bid-least.result.value
+    c.least_bid-least.result.arc c.loop-w-test.true
     (bids (goal.at.step-g-requires-clause-can_step c).After-least_bid-least t begun.listed) (elim c.else-least.branch [
       | else-least-via-then-least+else-v-origin w ↦ λ ea eo. w.if-v-origin.false eo
       | else-least-via-else-least w ↦ λ ea eo. w.if-least.false ea
@@ -195,42 +197,51 @@ step-g-requires-clause-can_step c = let i = c.loop-w.invariant in
 
 pub step-g-requires-clause-has_before : goal.step-g-requires-clause-has_before
 unfolding SomeTable
-step-g-requires-clause-has_before c = let i = c.loop-w.invariant in
-    let r = ready (goal.at.step-g-requires-clause-has_before c).At-loop-w in
-    let sized = i.sized in
+step-g-requires-clause-has_before c =
+    let i = c.loop-w.invariant in
     let t = c.requires.begun.0 in
     let begun = c.requires.begun.1 in node_before i t begun c.wide-v.result c.wide-v.ensures.same
 
 pub step-g-requires-clause-tails_known : goal.step-g-requires-clause-tails_known
 unfolding SomeTable
-step-g-requires-clause-tails_known c = let i = c.loop-w.invariant in
-    let r = ready (goal.at.step-g-requires-clause-tails_known c).At-loop-w in
-    let sized = i.sized in
+step-g-requires-clause-tails_known c =
+    let i = c.loop-w.invariant in
     let t = c.requires.begun.0 in
     let begun = c.requires.begun.1 in tails_known i t begun
 
 pub returns-then-depth-g : goal.returns-then-depth-g
-returns-then-depth-g c = passes c.loop-w.invariant c.loop-w-test.true (made_by_scan (goal.at.returns-then-depth-g c).After-step-g) c.wide-v.result c.wide-v.ensures.same c.least_bid-least.result
-    (bids (goal.at.returns-then-depth-g c).After-least_bid-least) c.if-limit-least.true c.if-depth-g.true
+returns-then-depth-g c =
+    let places = goal.at.returns-then-depth-g c in
+    passes c.loop-w.invariant c.loop-w-test.true (made_by_scan places.After-step-g) c.wide-v.result c.wide-v.ensures.same c.least_bid-least.result
+    (bids places.After-least_bid-least) c.if-limit-least.true c.if-depth-g.true
 
 pub first_unreached-w-requires-then-depth-g-2 : goal.first_unreached-w-requires-then-depth-g-2
-first_unreached-w-requires-then-depth-g-2 c = (c.loop-w.invariant.low, wanted_below c.requires.begun.0 c.requires.begun.1 c.if-child.status (made (goal.at.first_unreached-w-requires-then-depth-g-2 c).Joined-child).sized.statuses)
+first_unreached-w-requires-then-depth-g-2 c = (
+  c.loop-w.invariant.low,
+  wanted_below c.requires.begun.0 c.requires.begun.1 c.if-child.status (made
+      (goal.at.first_unreached-w-requires-then-depth-g-2 c).Joined-child).sized.statuses,
+)
 
 pub loop-w-smaller-then-depth-g-2 : goal.loop-w-smaller-then-depth-g-2
 loop-w-smaller-then-depth-g-2 c = less (goal.at.loop-w-smaller-then-depth-g-2 c).Joined-child
 
 pub loop-w-preserved-then-depth-g-2 : goal.loop-w-preserved-then-depth-g-2
-loop-w-preserved-then-depth-g-2 c = let i = c.loop-w.invariant in
+loop-w-preserved-then-depth-g-2 c =
+    let places = goal.at.loop-w-preserved-then-depth-g-2 c in
+    let i = c.loop-w.invariant in
     let more = c.loop-w-test.true in
-    continues i more (made (goal.at.loop-w-preserved-then-depth-g-2 c).Joined-child) (low (goal.at.loop-w-preserved-then-depth-g-2 c).Joined-child) (looked_for i more (made (goal.at.loop-w-preserved-then-depth-g-2 c).Joined-child) c.first_unreached-w-then-depth-g-2.ensures)
+    continues i more (made places.Joined-child) (low places.Joined-child) (looked_for i more
+    (made places.Joined-child) c.first_unreached-w-then-depth-g-2.ensures)
 
 pub loop-w-smaller : goal.loop-w-smaller
 loop-w-smaller c = less (goal.at.loop-w-smaller c).Joined-child
 
 pub loop-w-preserved : goal.loop-w-preserved
-loop-w-preserved c = let i = c.loop-w.invariant in
+loop-w-preserved c =
+    let places = goal.at.loop-w-preserved c in
+    let i = c.loop-w.invariant in
     let more = c.loop-w-test.true in
-    continues i more (made (goal.at.loop-w-preserved c).Joined-child) (low (goal.at.loop-w-preserved c).Joined-child) (still_missing i more (made (goal.at.loop-w-preserved c).Joined-child) c.if-depth-g-2.false)
+    continues i more (made places.Joined-child) (low places.Joined-child) (still_missing i more (made places.Joined-child) c.if-depth-g-2.false)
 
 pub returns : goal.returns
 returns c = ends c.loop-w.invariant c.loop-w-test.false

@@ -7,7 +7,10 @@ use Rattle.solver.proofs.run.Iterating.{Iterating}
 use Rattle.solver.proofs.run.iterate.Given as goal
 
 abbrev pub invariant-loop-w : goal.invariant-loop-w
-invariant-loop-w l = Iterating l.wanted l.limit l.origin l.tails l.heads l.lengths l.first l.next (seen l.initial.path l.initial.price l.initial.bound l.initial.kept l.initial.status l.initial.g) l.path l.price l.bound l.kept l.remembered l.status l.g l.w l.scans
+invariant-loop-w l =
+    Iterating l.wanted l.limit l.origin l.tails l.heads l.lengths l.first l.next
+    (seen l.initial.path l.initial.price l.initial.bound l.initial.kept l.initial.status l.initial.g) l.path l.price l.bound l.kept l.remembered
+    l.status l.g l.w l.scans
 
 abbrev pub decreases-loop-w : goal.decreases-loop-w
 decreases-loop-w l = suc (most_iterations (length l.first)) - (l.g.contractions + l.g.extensions + l.g.deletions)

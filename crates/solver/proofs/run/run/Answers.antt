@@ -21,23 +21,29 @@ module _ (c : Start) where
   ready : Linkable (length c.args.status.now) c.args.tails.now
   ready =
       let a = c.args in
-      linkable (length c.args.status.now) a.origin a.tails.now a.heads.now a.lengths.now a.wanted.now c.requires.heads_len.0 c.requires.heads_len.1 c.requires.wanted_value
+      linkable (length c.args.status.now) a.origin a.tails.now a.heads.now a.lengths.now a.wanted.now c.requires.heads_len.0 c.requires.heads_len.1
+      c.requires.wanted_value
 
--- where the arcs have been c: the lists as they come back, and as they are lent again
+-- where the arcs have been linked: the lists as they come back, and as they are lent again
 module _ (c : After-link_arcs) where
-  again : Relent (table_of (length c.args.status.now) c.args.origin c.args.tails.now c.args.heads.now c.args.lengths.now) (length c.args.status.now) (length c.args.tails.now) c.args.heads.now c.args.lengths.now c.link_arcs.new.first c.link_arcs.new.next
+  again : Relent (table_of (length c.args.status.now) c.args.origin c.args.tails.now c.args.heads.now c.args.lengths.now)
+      (length c.args.status.now) (length c.args.tails.now) c.args.heads.now c.args.lengths.now c.link_arcs.new.first c.link_arcs.new.next
   again =
       let a = c.args in
-      relent (length c.args.status.now) a.origin a.tails.now a.heads.now a.lengths.now a.wanted.now c.requires.heads_len.0 c.requires.heads_len.1 c.requires.wanted_value
+      relent (length c.args.status.now) a.origin a.tails.now a.heads.now a.lengths.now a.wanted.now c.requires.heads_len.0 c.requires.heads_len.1
+      c.requires.wanted_value
       c.link_arcs.auto.first c.link_arcs.auto.next c.link_arcs.ensures
 
   begun : let a = c.args in
-      Begun fresh (table_of (length c.args.status.now) c.args.origin c.args.tails.now c.args.heads.now c.args.lengths.now) a.wanted.now c.wide-at.result
-      (star a.heads.now a.lengths.now (lent_again most_nodes (length c.args.status.now) c.link_arcs.new.first) (lent_again most_arcs (length c.args.tails.now) c.link_arcs.new.next)) a.tails.now
+      Begun fresh (table_of (length c.args.status.now) c.args.origin c.args.tails.now c.args.heads.now c.args.lengths.now) a.wanted.now
+      c.wide-at.result
+      (star a.heads.now a.lengths.now (lent_again most_nodes (length c.args.status.now) c.link_arcs.new.first) (lent_again most_arcs
+      (length c.args.tails.now) c.link_arcs.new.next)) a.tails.now
       (held (arrays a.path.now a.price.now a.bound.now a.kept.now a.status.now a.begun))
   begun =
       let a = c.args in
-      begun_fresh (length c.args.status.now) a.origin a.tails.now a.heads.now a.lengths.now a.wanted.now c.requires.heads_len.0 c.requires.heads_len.1 c.requires.wanted_value
+      begun_fresh (length c.args.status.now) a.origin a.tails.now a.heads.now a.lengths.now a.wanted.now c.requires.heads_len.0
+      c.requires.heads_len.1 c.requires.wanted_value
       c.wide-at.result c.wide-at.ensures.same again.listed c.requires.begun_value
 
 pub slice_bounds-first-end : goal.slice_bounds-first-end
@@ -53,15 +59,18 @@ pub slice_bounds-link_arcs-end-2 : goal.slice_bounds-link_arcs-end-2
 slice_bounds-link_arcs-end-2 c = (ready (goal.at.slice_bounds-link_arcs-end-2 c).Start).next_long
 
 pub link_arcs-requires-clause-next_len : goal.link_arcs-requires-clause-next_len
-link_arcs-requires-clause-next_len c = let r = ready (goal.at.link_arcs-requires-clause-next_len c).Start in
+link_arcs-requires-clause-next_len c =
+    let r = ready (goal.at.link_arcs-requires-clause-next_len c).Start in
     (sym r.next_long, (c.requires.heads_len.1, r.few_arcs))
 
 pub link_arcs-requires-clause-by_index : goal.link_arcs-requires-clause-by_index
-link_arcs-requires-clause-by_index c = let r = ready (goal.at.link_arcs-requires-clause-by_index c).Start in
+link_arcs-requires-clause-by_index c =
+    let r = ready (goal.at.link_arcs-requires-clause-by_index c).Start in
     r.tails_in
 
 pub link_arcs-requires-clause-by_index_2 : goal.link_arcs-requires-clause-by_index_2
-link_arcs-requires-clause-by_index_2 c = let r = ready (goal.at.link_arcs-requires-clause-by_index_2 c).Start in
+link_arcs-requires-clause-by_index_2 c =
+    let r = ready (goal.at.link_arcs-requires-clause-by_index_2 c).Start in
     r.no_first
 
 pub slice_bounds-first-end-2 : goal.slice_bounds-first-end-2
@@ -80,21 +89,29 @@ pub slice_bounds-remembered-end : goal.slice_bounds-remembered-end
 slice_bounds-remembered-end c = (ready (goal.at.slice_bounds-remembered-end c).Start).few_nodes
 
 pub slice_bounds-run_listed-end-3 : goal.slice_bounds-run_listed-end-3
-slice_bounds-run_listed-end-3 c = sym (filled_long most_nodes (length c.args.status.now) no_node (ready (goal.at.slice_bounds-run_listed-end-3 c).Start).few_nodes)
+slice_bounds-run_listed-end-3 c =
+    sym (filled_long most_nodes (length c.args.status.now) no_node (ready (goal.at.slice_bounds-run_listed-end-3 c).Start).few_nodes)
 
 pub run_listed-requires-clause-begun : goal.run_listed-requires-clause-begun
-run_listed-requires-clause-begun c = let k = (length c.args.status.now) in
-    let a = c.args in (_, begun (goal.at.run_listed-requires-clause-begun c).After-link_arcs)
+run_listed-requires-clause-begun c = (_, begun (goal.at.run_listed-requires-clause-begun c).After-link_arcs)
 
 pub run_listed-requires-clause-path_len : goal.run_listed-requires-clause-path_len
-run_listed-requires-clause-path_len c = let k = (length c.args.status.now) in
-    let a = c.args in subst (λ (k : ℕ). (length a.path.now ≡ k) × Sized k a.price.now a.bound.now a.kept.now a.status.now) (again (goal.at.run_listed-requires-clause-path_len c).After-link_arcs).first_long
+run_listed-requires-clause-path_len c =
+    let k = (length c.args.status.now) in
+    let a = c.args in subst (λ (k : ℕ). (length a.path.now ≡ k) × Sized k a.price.now a.bound.now a.kept.now a.status.now) (again
+    (goal.at.run_listed-requires-clause-path_len c).After-link_arcs).first_long
     c.requires.path_len
 
 pub run_listed-requires-clause-all_forgotten : goal.run_listed-requires-clause-all_forgotten
-run_listed-requires-clause-all_forgotten c = let k = (length c.args.status.now) in
-    let a = c.args in subst (λ (k' : ℕ). AllForgotten k' (take k (no-nodes most_nodes))) (again (goal.at.run_listed-requires-clause-all_forgotten c).After-link_arcs).first_long
-    (record { count = filled_long most_nodes k no_node (ready (goal.at.run_listed-requires-clause-all_forgotten c).Start).few_nodes; nothing = λ v h. filled_with most_nodes k no_node v (ready (goal.at.run_listed-requires-clause-all_forgotten c).Start).few_nodes h })
+run_listed-requires-clause-all_forgotten c =
+    let places = goal.at.run_listed-requires-clause-all_forgotten c in
+    let k = (length c.args.status.now) in
+    subst (λ (k' : ℕ). AllForgotten k' (take k (no-nodes most_nodes))) (again places.After-link_arcs).first_long
+    (record {
+      count = filled_long most_nodes k no_node (ready places.Start).few_nodes;
+      nothing = λ v h. filled_with most_nodes k no_node v
+          (ready places.Start).few_nodes h;
+    })
 
 pub returns : goal.returns
 returns c = c.run_listed.ensures _ (begun (goal.at.returns c).After-link_arcs)

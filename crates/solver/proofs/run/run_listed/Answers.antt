@@ -34,7 +34,8 @@ reach-requires-clause-some_table c = (c.requires.begun.0, c.requires.begun.1.lis
 
 pub reach-requires-clause-v_in_bounds : goal.reach-requires-clause-v_in_bounds
 unfolding SomeTable
-reach-requires-clause-v_in_bounds c = let a = c.args in
+reach-requires-clause-v_in_bounds c =
+    let a = c.args in
     let z = c.requires.path_len.1 in
     let bg = c.requires.begun.1 in (
       origin_below a.path.now a.price.now a.bound.now a.kept.now a.status.now a.begun bg,
@@ -43,7 +44,8 @@ reach-requires-clause-v_in_bounds c = let a = c.args in
 
 pub reach-requires-clause-tails_known : goal.reach-requires-clause-tails_known
 unfolding SomeTable
-reach-requires-clause-tails_known c = let a = c.args in
+reach-requires-clause-tails_known c =
+    let a = c.args in
     let bg = c.requires.begun.1 in no_arc_kept a.path.now a.price.now a.bound.now a.kept.now a.status.now a.begun bg
 
 pub iterate-requires-clause-begun : goal.iterate-requires-clause-begun

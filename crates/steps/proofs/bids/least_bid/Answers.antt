@@ -22,41 +22,59 @@ module _ (c : After-wide-head) where
   head = c.wide-head.ensures.same ∙ child
 
 pub loop-p-init : goal.loop-p-init
-loop-p-init c = let a = c.args in (
-  begins a.heads.now a.lengths.now a.first.now a.next.now a.v a.price.now a.kept.now a.status.now _ _ refl c.requires.v_in_bounds.0,
-  (omega (arith, c.shared_slice_known-8-1.given a.v), λ any. absurd (any refl)),
-)
+loop-p-init c =
+    let a = c.args in (
+      begins a.heads.now a.lengths.now a.first.now a.next.now a.v a.price.now a.kept.now a.status.now _ _ refl c.requires.v_in_bounds.0,
+      (omega (arith, c.shared_slice_known-8-1.given a.v), λ any. absurd (any refl)),
+    )
 
 pub bounds-heads-i : goal.bounds-heads-i
-bounds-heads-i c = let r = inside (goal.at.bounds-heads-i c).In-loop-p in omega (arith, c.wide-i.ensures.same, r.inside, r.listed.head_count)
+bounds-heads-i c =
+    let r = inside (goal.at.bounds-heads-i c).In-loop-p in omega (arith, c.wide-i.ensures.same, r.inside, r.listed.head_count)
 
 pub bounds-lengths-i : goal.bounds-lengths-i
-bounds-lengths-i c = let r = inside (goal.at.bounds-lengths-i c).In-loop-p in omega (arith, index (goal.at.bounds-lengths-i c).After-wide-head, r.inside, r.listed.length_count)
+bounds-lengths-i c =
+    let places = goal.at.bounds-lengths-i c in
+    let r = inside places.In-loop-p in omega (arith, index places.After-wide-head, r.inside, r.listed.length_count)
 
 pub lower_bid-least-requires-clause-head_bound : goal.lower_bid-least-requires-clause-head_bound
-lower_bid-least-requires-clause-head_bound c = let r = inside (goal.at.lower_bid-least-requires-clause-head_bound c).In-loop-p in
+lower_bid-least-requires-clause-head_bound c =
+    let places = goal.at.lower_bid-least-requires-clause-head_bound c in
+    let r = inside places.In-loop-p in
     let n = r.listed.linked.first_count in
     let lengths = c.requires.all_long in (
-      omega (arith, head (goal.at.lower_bid-least-requires-clause-head_bound c).After-wide-head, r.head_in, n, lengths.0),
-      (omega (arith, head (goal.at.lower_bid-least-requires-clause-head_bound c).After-wide-head, r.head_in, n, lengths.1.0), omega (arith, head (goal.at.lower_bid-least-requires-clause-head_bound c).After-wide-head, r.head_in, n, lengths.1.1)),
+      omega (arith, head places.After-wide-head, r.head_in, n, lengths.0),
+      (omega (arith, head places.After-wide-head, r.head_in, n, lengths.1.0), omega (arith, head places.After-wide-head, r.head_in, n, lengths.1.1)),
     )
 
 pub bounds-next-i : goal.bounds-next-i
-bounds-next-i c = let r = inside (goal.at.bounds-next-i c).In-loop-p in omega (arith, index (goal.at.bounds-next-i c).After-wide-head, r.inside, r.listed.linked.next_count)
+bounds-next-i c =
+    let places = goal.at.bounds-next-i c in
+    let r = inside places.In-loop-p in omega (arith, index places.After-wide-head, r.inside, r.listed.linked.next_count)
 
 pub loop-p-smaller : goal.loop-p-smaller
-loop-p-smaller c = let n = c.args.next.now in
-    let same : get_or n c.wide-i.result 0 ≡ get_or n c.loop-p.p 0 = ap (λ m. get_or n m 0) (index (goal.at.loop-p-smaller c).After-wide-head) in
-    omega (arith, same, (inside (goal.at.loop-p-smaller c).In-loop-p).rises, c.shared_slice_known-in-loop-p-3-1.given c.wide-i.result)
+loop-p-smaller c =
+    let places = goal.at.loop-p-smaller c in
+    let n = c.args.next.now in
+    let same : get_or n c.wide-i.result 0 ≡ get_or n c.loop-p.p 0 = ap (λ m. get_or n m 0) (index places.After-wide-head) in
+    omega (arith, same, (inside places.In-loop-p).rises, c.shared_slice_known-in-loop-p-3-1.given c.wide-i.result)
 
 pub loop-p-preserved : goal.loop-p-preserved
-loop-p-preserved c = let a = c.args in
+loop-p-preserved c =
+    let places = goal.at.loop-p-preserved c in
+    let a = c.args in
     let inv = c.loop-p.invariant in (
       goes_on a.heads.now a.lengths.now a.first.now a.next.now a.v a.price.now a.kept.now a.status.now _ _ _ _ _
-          c.wide-i.result c.wide-head.result inv.0 (index (goal.at.loop-p-preserved c).After-wide-head) (head (goal.at.loop-p-preserved c).After-wide-head) c.loop-p-test.true c.lower_bid-least.ensures.lower,
-      (omega (arith, c.shared_slice_known-in-loop-p-3-1.given c.wide-i.result), c.lower_bid-least.ensures.leads a.heads.now inv.1.1 (child (goal.at.loop-p-preserved c).After-wide-head)),
+          c.wide-i.result c.wide-head.result inv.0 (index places.After-wide-head)
+          (head places.After-wide-head) c.loop-p-test.true c.lower_bid-least.ensures.lower,
+      (
+        omega (arith, c.shared_slice_known-in-loop-p-3-1.given c.wide-i.result),
+        c.lower_bid-least.ensures.leads a.heads.now inv.1.1
+            (child places.After-wide-head),
+      ),
     )
 
 pub returns-clause-least : goal.returns-clause-least
-returns-clause-least c = let a = c.args in ends a.heads.now a.lengths.now a.first.now a.next.now a.v a.price.now a.kept.now a.status.now _ _ _ c.loop-p.invariant.0
+returns-clause-least c =
+    let a = c.args in ends a.heads.now a.lengths.now a.first.now a.next.now a.v a.price.now a.kept.now a.status.now _ _ _ c.loop-p.invariant.0
     c.loop-p-test.false

@@ -36,42 +36,57 @@ loop-p-init c = (
 )
 
 pub bounds-heads-i : goal.bounds-heads-i
-bounds-heads-i c = let r = inside (goal.at.bounds-heads-i c).In-loop-p in omega (arith, c.wide-i.ensures.same, r.inside, r.listed.head_count)
+bounds-heads-i c =
+    let r = inside (goal.at.bounds-heads-i c).In-loop-p in omega (arith, c.wide-i.ensures.same, r.inside, r.listed.head_count)
 
 pub bounds-lengths-i : goal.bounds-lengths-i
-bounds-lengths-i c = let r = inside (goal.at.bounds-lengths-i c).In-loop-p in omega (arith, index (goal.at.bounds-lengths-i c).After-wide-head, r.inside, r.listed.length_count)
+bounds-lengths-i c =
+    let places = goal.at.bounds-lengths-i c in
+    let r = inside places.In-loop-p in omega (arith, index places.After-wide-head, r.inside, r.listed.length_count)
 
 pub offer-requires-clause-head_in_bounds : goal.offer-requires-clause-head_in_bounds
-offer-requires-clause-head_in_bounds c = let r = inside (goal.at.offer-requires-clause-head_in_bounds c).In-loop-p in
+offer-requires-clause-head_in_bounds c =
+    let places = goal.at.offer-requires-clause-head_in_bounds c in
+    let r = inside places.In-loop-p in
     let n = r.listed.linked.first_count in
     let lengths = c.requires.all_long in
     let inv = c.loop-p.invariant in (
-      omega (arith, head (goal.at.offer-requires-clause-head_in_bounds c).After-wide-head, r.head_in, n, lengths.0, inv.0.bounds_long),
-      (in_kept (goal.at.offer-requires-clause-head_in_bounds c).After-wide-head, omega (arith, head (goal.at.offer-requires-clause-head_in_bounds c).After-wide-head, r.head_in, n, lengths.1.1.1)),
+      omega (arith, head places.After-wide-head, r.head_in, n, lengths.0, inv.0.bounds_long),
+      (in_kept places.After-wide-head, omega (arith, head places.After-wide-head, r.head_in, n, lengths.1.1.1)),
     )
 
 pub bounds-next-i : goal.bounds-next-i
-bounds-next-i c = let r = inside (goal.at.bounds-next-i c).In-loop-p in omega (arith, index (goal.at.bounds-next-i c).After-wide-head, r.inside, r.listed.linked.next_count)
+bounds-next-i c =
+    let places = goal.at.bounds-next-i c in
+    let r = inside places.In-loop-p in omega (arith, index places.After-wide-head, r.inside, r.listed.linked.next_count)
 
 pub loop-p-smaller : goal.loop-p-smaller
-loop-p-smaller c = let n = c.args.next.now in
-    let same : get_or n c.wide-i.result 0 ≡ get_or n c.loop-p.p 0 = ap (λ m. get_or n m 0) (index (goal.at.loop-p-smaller c).After-wide-head) in
-    omega (arith, same, (inside (goal.at.loop-p-smaller c).In-loop-p).rises, c.shared_slice_known-in-loop-p-3-1.given c.wide-i.result)
+loop-p-smaller c =
+    let places = goal.at.loop-p-smaller c in
+    let n = c.args.next.now in
+    let same : get_or n c.wide-i.result 0 ≡ get_or n c.loop-p.p 0 = ap (λ m. get_or n m 0) (index places.After-wide-head) in
+    omega (arith, same, (inside places.In-loop-p).rises, c.shared_slice_known-in-loop-p-3-1.given c.wide-i.result)
 
 pub loop-p-preserved : goal.loop-p-preserved
-loop-p-preserved c = let inv = c.loop-p.invariant in
+loop-p-preserved c =
+    let places = goal.at.loop-p-preserved c in
+    let inv = c.loop-p.invariant in
     let more = c.loop-p-test.true in
-    let r = inside (goal.at.loop-p-preserved c).In-loop-p in
+    let r = inside places.In-loop-p in
     let same = c.offer.auto in (
-      goes_on inv.0 c.wide-i.result c.wide-head.result _ (index (goal.at.loop-p-preserved c).After-wide-head) (head (goal.at.loop-p-preserved c).After-wide-head) (ap (λ m. c.args.distance + m) (length_so (goal.at.loop-p-preserved c).After-long)) more
-          (omega (arith, c.requires.v_in_bounds.1.0)) (omega (arith, c.requires.v_in_bounds.0, c.requires.all_long.0)) c.requires.v_in_bounds.1.1.0 same.bound
+      goes_on inv.0 c.wide-i.result c.wide-head.result _ (index places.After-wide-head) (head places.After-wide-head) (ap (λ m. c.args.distance + m)
+          (length_so places.After-long)) more
+          (omega (arith, c.requires.v_in_bounds.1.0)) (omega
+          (arith, c.requires.v_in_bounds.0, c.requires.all_long.0)) c.requires.v_in_bounds.1.1.0 same.bound
           same.kept c.offer.ensures.offers,
       (
-        one_more inv.1.0 (λ t here. (inv.0.left_over t here).on_list) more (omega (arith, r.inside, r.listed.head_count, c.requires.tails_known.as_long)) (head (goal.at.loop-p-preserved c).After-wide-head)
-            (in_kept (goal.at.loop-p-preserved c).After-wide-head) c.requires.all_long.1.1.0 same.remembered c.offer.ensures.gives_up,
+        one_more inv.1.0 (λ t here. (inv.0.left_over t here).on_list) more (omega
+            (arith, r.inside, r.listed.head_count, c.requires.tails_known.as_long)) (head places.After-wide-head)
+            (in_kept places.After-wide-head) c.requires.all_long.1.1.0 same.remembered c.offer.ensures.gives_up,
         omega (arith, c.shared_slice_known-in-loop-p-3-1.given c.wide-i.result),
       ),
     )
 
 pub returns-clause-offers : goal.returns-clause-offers
-returns-clause-offers c = let inv = c.loop-p.invariant in ends inv.0 c.loop-p-test.false
+returns-clause-offers c =
+    let inv = c.loop-p.invariant in ends inv.0 c.loop-p-test.false

@@ -7,7 +7,8 @@ use Rattle.steps.proofs.reaching.offer_arcs.Given as goal
 
 abbrev pub invariant-loop-p : goal.invariant-loop-p
 invariant-loop-p l = (Offering l.heads l.lengths l.first l.next l.v l.distance l.initial.bound l.initial.kept l.status l.bound l.kept l.p)
-    × ((Forgetting l.heads l.lengths l.first l.next l.tails l.v l.initial.bound l.initial.kept l.initial.remembered l.status l.bound l.kept l.remembered) × (l.p ≤ no_arc))
+    × ((Forgetting l.heads l.lengths l.first l.next l.tails l.v l.initial.bound l.initial.kept l.initial.remembered l.status l.bound l.kept
+    l.remembered) × (l.p ≤ no_arc))
 
 abbrev pub decreases-loop-p : goal.decreases-loop-p
 decreases-loop-p l = no_arc - l.p

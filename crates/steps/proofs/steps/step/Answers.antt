@@ -42,35 +42,42 @@ module _ (c : Else-arc) where
   listed t here = omega (arith, c.requires.can_step.listed c.if-arc.false, here.head_count)
 
 pub returns-then-arc-clause-steps : goal.returns-then-arc-clause-steps
-returns-then-arc-clause-steps c = let none = c.if-arc.true in
+returns-then-arc-clause-steps c =
+    let none = c.if-arc.true in
     let a = c.args in λ t here eo.
-    is_deletion t a.v a.least.value a.least.arc (x a.path.now a.price.now a.bound.now a.kept.now a.status.now a.g) none (λ z. not_origin (goal.at.returns-then-arc-clause-steps c).Then-arc (z ∙ eo))
+    is_deletion t a.v a.least.value a.least.arc (x a.path.now a.price.now a.bound.now a.kept.now a.status.now a.g) none (λ z. not_origin
+    (goal.at.returns-then-arc-clause-steps c).Then-arc (z ∙ eo))
     ∙ ap some (sym (c.delete.ensures.deletes a.path.now a.price.now a.bound.now a.kept.now))
 
 pub returns-then-price-v-clause-steps : goal.returns-then-price-v-clause-steps
-returns-then-price-v-clause-steps c = let low = c.if-price-v.true in
+returns-then-price-v-clause-steps c =
+    let low = c.if-price-v.true in
     let a = c.args in λ t here eo.
-    is_contraction t a.v a.least.value a.least.arc (x a.path.now a.price.now a.bound.now a.kept.now a.status.now a.g) c.if-arc.false (subst (λ (m : ℕ). m < a.least.value) (sym (price_read a.path.now a.price.now a.bound.now a.kept.now a.status.now a.g a.v)) low)
+    is_contraction t a.v a.least.value a.least.arc (x a.path.now a.price.now a.bound.now a.kept.now a.status.now a.g) c.if-arc.false (subst (λ
+    (m : ℕ). m < a.least.value) (sym (price_read a.path.now a.price.now a.bound.now a.kept.now a.status.now a.g a.v)) low)
     ∙ ap some (sym (c.contract.ensures.contracts t a.path.now a.bound.now a.kept.now a.status.now eo))
 
 pub extend-requires-clause-child_in_bounds : goal.extend-requires-clause-child_in_bounds
 unfolding SomeTable
-extend-requires-clause-child_in_bounds c = let can = c.requires.can_step in
-    let lengths = c.requires.all_long.1 in
+extend-requires-clause-child_in_bounds c =
+    let places = goal.at.extend-requires-clause-child_in_bounds c in
+    let can = c.requires.can_step in
     let here = c.requires.some_table.1 in
-    let inside = listed (goal.at.extend-requires-clause-child_in_bounds c).Else-arc c.requires.some_table.0 here in
+    let inside = listed places.Else-arc c.requires.some_table.0 here in
     let arc = c.args.least.arc in (
-      omega (arith, child_is (goal.at.extend-requires-clause-child_in_bounds c).Else-arc, here.head arc inside, here.head_in arc inside, here.linked.first_count),
+      omega (arith, child_is places.Else-arc, here.head arc inside, here.head_in arc inside, here.linked.first_count),
       (
-        subst (λ (j : ℕ). get_or c.args.bound.now j 0 ≤ greatest_sum) (sym (child_is (goal.at.extend-requires-clause-child_in_bounds c).Else-arc)) (can.bounded c.if-arc.false),
+        subst (λ (j : ℕ). get_or c.args.bound.now j 0 ≤ greatest_sum) (sym (child_is places.Else-arc)) (can.bounded c.if-arc.false),
         (can.room c.if-arc.false c.if-price-v.false, omega (arith, c.requires.v_in_bounds.1.1)),
       ),
     )
 
 pub returns-clause-steps : goal.returns-clause-steps
-returns-clause-steps c = let high = c.if-price-v.false in
+returns-clause-steps c =
+    let places = goal.at.returns-clause-steps c in
+    let high = c.if-price-v.false in
     let a = c.args in λ t here eo.
-    let child : head_at t a.least.arc ≡ a.least.child = sym (child_is (goal.at.returns-clause-steps c).Else-arc ∙ here.head a.least.arc (listed (goal.at.returns-clause-steps c).Else-arc t here)) in
+    let child : head_at t a.least.arc ≡ a.least.child = sym (child_is places.Else-arc ∙ here.head a.least.arc (listed places.Else-arc t here)) in
     is_extension t a.v a.least.value a.least.arc (x a.path.now a.price.now a.bound.now a.kept.now a.status.now a.g) c.if-arc.false
     (subst (λ (m : ℕ). a.least.value ≤ m) (sym (price_read a.path.now a.price.now a.bound.now a.kept.now a.status.now a.g a.v)) high)
     ∙ ap (λ j. some (extension t j (x a.path.now a.price.now a.bound.now a.kept.now a.status.now a.g))) child
