@@ -24,7 +24,7 @@ pub const WANTED: u8 = 4;
 pub const LAST_HEAD: usize = 65535;
 
 // An arc of the table.
-#[derive(Drop)]
+#[derive(Clone, Copy)]
 pub struct Arc {
     pub tail: u16,
     pub head: u16,
@@ -32,7 +32,7 @@ pub struct Arc {
 }
 
 // The record before a record.
-#[derive(Drop)]
+#[derive(Clone, Copy)]
 pub enum Previous {
     Nothing,
     Record(Arc),

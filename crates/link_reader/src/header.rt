@@ -12,7 +12,7 @@ use link_fields::fields::{Field, MAP_WIDTH, NODE_WIDTH, read_field, read_optiona
 use table::{MOST_WANTED, Refusal};
 
 // What a header says; `listed`: the wanted nodes stand in the file, just before the first record, which is at `next`.
-#[derive(Drop)]
+#[derive(Clone, Copy)]
 pub struct Header {
     pub n: usize,
     pub origin: u16,

@@ -1,16 +1,14 @@
 -- What is left to test from i on decides. Assumes nothing.
-use mathlib.Core.Path.{◌≡◌, ◌∙◌}
+use mathlib.Core.Path.{◌≡◌}
 use Prim.Native.Nat.{◌≤◌, ◌-◌}
-use borrow.Author.Rules.{rules}
-use native.Mathlib.Omega.{arith}
 use lib.ListN.{length, drop}
 use Rattle.table.specs.Table.{most_wanted}
-use Rattle.table.specs.Refusals.{refusal, wanted_from, wanted_refusal}
-use Rattle.refusals.proofs.Refusing.{too_many, few_enough, wanted_good, wanted_bad, wanted_done}
+use Rattle.table.specs.Refusals.{wanted_from, wanted_refusal}
 use Rattle.refusals.proofs.wanted_refusal.Given as goal
 
 abbrev pub invariant-loop-i : goal.invariant-loop-i
-invariant-loop-i l = (length l.wanted ≤ most_wanted) × (l.i ≤ length l.wanted) × (wanted_from l.i l.n (drop l.i l.wanted) ≡ wanted_refusal l.n l.wanted)
+invariant-loop-i l = (length l.wanted ≤ most_wanted) × (l.i ≤ length l.wanted) ×
+    (wanted_from l.i l.n (drop l.i l.wanted) ≡ wanted_refusal l.n l.wanted)
 
 abbrev pub decreases-loop-i : goal.decreases-loop-i
 decreases-loop-i l = length l.wanted - l.i

@@ -1,0 +1,18 @@
+-- `input::read_input` meets its contract: too long an input is refused, and another one is read. Assumes nothing.
+use native.Mathlib.Omega.{arith}
+use borrow.Author.Rules.{rules}
+use Rattle.table.specs.Table.{Below}
+use Rattle.link_file.proofs.EntryTrips.{answers_fit}
+use Rattle.input.proofs.Planning.{input_too_long, input_read}
+use Rattle.input.proofs.read_input.Goals as goal
+
+pub returns-then-input-gt-MOST_INPUT-clause-reads : goal.returns-then-input-gt-MOST_INPUT-clause-reads
+returns-then-input-gt-MOST_INPUT-clause-reads c = input_too_long _ _ _ _ _ c.if-input-gt-MOST_INPUT.true
+
+pub returns-clause-reads : goal.returns-clause-reads
+unfolding Below
+returns-clause-reads c = let r = c.read_link_file in input_read _ _ _ _ _ _ _ _ _ r.result c.if-input-gt-MOST_INPUT.false c.requires r.ensures
+
+pub returns-clause-fits : goal.returns-clause-fits
+unfolding Below
+returns-clause-fits c = let r = c.read_link_file in answers_fit _ _ _ _ _ _ _ _ _ r.result (λ i. (c.shared_slice_known-1.given i).fits) r.ensures
