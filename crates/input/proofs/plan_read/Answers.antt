@@ -19,5 +19,5 @@ returns c o ts₀ hs₀ ls₀ ws₀ well l =
     let m = sym (part_of a.marks.now a.read.arcs fits.arcs_few room.marks_long) in
     planned_parts a.read ts₀ hs₀ ls₀ ws₀ _ _ _ _ o well l c.if-read-ne-NONE.false c.plan_routes.result
     (take a.read.n a.distances.now) (take a.read.n a.prices.now) (take a.read.n a.tree.now) (take a.read.arcs a.marks.now)
-    _ _ _ _ _ _ _ _ d p t m (c.distances-1.given.0 ∙ d) (c.prices-1.given.0 ∙ p) (c.tree-1.given.0 ∙ t)
-    (c.marks-1.given.0 ∙ m) c.plan_routes.ensures
+    _ _ _ _ _ _ _ _ d p t m (c.plan_routes.auto.distances ∙ d) (c.plan_routes.auto.prices ∙ p) (c.plan_routes.auto.tree ∙ t)
+    (c.plan_routes.auto.marks ∙ m) c.plan_routes.ensures

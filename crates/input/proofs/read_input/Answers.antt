@@ -15,4 +15,4 @@ returns-clause-reads c =
 pub returns-clause-fits : goal.returns-clause-fits
 unfolding Below
 returns-clause-fits c =
-    let r = c.read_link_file in answers_fit _ _ _ _ _ _ _ _ _ r.result (λ i. (c.shared_slice_known-1.given i).fits) r.ensures
+    let r = c.read_link_file in answers_fit _ _ _ _ _ _ _ _ _ r.result (λ i. (c.type_inv.input i).fits) r.ensures

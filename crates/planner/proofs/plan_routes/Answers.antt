@@ -19,33 +19,33 @@ pub plan_table-requires-clause-heads_len : goal.plan_table-requires-clause-heads
 unfolding plan_refusal Below refusal
 plan_table-requires-clause-heads_len c =
     let a = c.args in
-    let lengths-fit = c.shared_slice_known-3-1.given in
+    let lengths_fit = c.type_inv.lengths in
     let none = sym (ap (λ (f : Refusal). f.number) c.table_refusal-refusal.ensures) ∙ c.if-refusal-ne-NONE.false in
     let f =
     fine a.n a.origin a.tails.now a.heads.now a.lengths.now a.wanted.now a.distances.now a.prices.now a.tree.now a.marks.now
-    (λ i. (lengths-fit i).fits) none in
+    (λ i. (lengths_fit i).fits) none in
     (f.heads_count, f.lengths_count)
 
 pub plan_table-requires-clause-wanted_value : goal.plan_table-requires-clause-wanted_value
 unfolding plan_refusal Below refusal
 plan_table-requires-clause-wanted_value c =
     let a = c.args in
-    let lengths-fit = c.shared_slice_known-3-1.given in
+    let lengths_fit = c.type_inv.lengths in
     let none = sym (ap (λ (f : Refusal). f.number) c.table_refusal-refusal.ensures) ∙ c.if-refusal-ne-NONE.false in
     let f =
     fine a.n a.origin a.tails.now a.heads.now a.lengths.now a.wanted.now a.distances.now a.prices.now a.tree.now a.marks.now
-    (λ i. (lengths-fit i).fits) none in
+    (λ i. (lengths_fit i).fits) none in
     f.table_good
 
 pub plan_table-requires-clause-fitting : goal.plan_table-requires-clause-fitting
 unfolding plan_refusal Below refusal
 plan_table-requires-clause-fitting c =
     let a = c.args in
-    let lengths-fit = c.shared_slice_known-3-1.given in
+    let lengths_fit = c.type_inv.lengths in
     let none = sym (ap (λ (f : Refusal). f.number) c.table_refusal-refusal.ensures) ∙ c.if-refusal-ne-NONE.false in
     let f =
     fine a.n a.origin a.tails.now a.heads.now a.lengths.now a.wanted.now a.distances.now a.prices.now a.tree.now a.marks.now
-    (λ i. (lengths-fit i).fits) none in
+    (λ i. (lengths_fit i).fits) none in
     f.fitting
 
 pub returns : goal.returns

@@ -18,18 +18,18 @@ pub limit_table-requires-clause-heads_len : goal.limit_table-requires-clause-hea
 unfolding Below
 limit_table-requires-clause-heads_len c =
     let a = c.args in
-    let lengths-fit = c.shared_slice_known-3-1.given in
+    let lengths_fit = c.type_inv.lengths in
     let u = fine a.n a.origin a.node a.tails.now a.heads.now a.lengths.now c.table_refusal-refusal.result (tested
-    (goal.at.limit_table-requires-clause-heads_len c).After-table_refusal-refusal) (λ i. (lengths-fit i).fits) c.if-refusal-eq-NONE.true in
+    (goal.at.limit_table-requires-clause-heads_len c).After-table_refusal-refusal) (λ i. (lengths_fit i).fits) c.if-refusal-eq-NONE.true in
     (sym u.heads_count, sym (u.heads_count ∙ u.lengths_count))
 
 pub limit_table-requires-clause-wanted_value : goal.limit_table-requires-clause-wanted_value
 unfolding Below
 limit_table-requires-clause-wanted_value c =
     let a = c.args in
-    let lengths-fit = c.shared_slice_known-3-1.given in
+    let lengths_fit = c.type_inv.lengths in
     let u = fine a.n a.origin a.node a.tails.now a.heads.now a.lengths.now c.table_refusal-refusal.result (tested
-    (goal.at.limit_table-requires-clause-wanted_value c).After-table_refusal-refusal) (λ i. (lengths-fit i).fits) c.if-refusal-eq-NONE.true in
+    (goal.at.limit_table-requires-clause-wanted_value c).After-table_refusal-refusal) (λ i. (lengths_fit i).fits) c.if-refusal-eq-NONE.true in
     u.table_good
 
 pub returns-then-refusal-eq-NONE : goal.returns-then-refusal-eq-NONE

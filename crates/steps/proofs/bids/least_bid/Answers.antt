@@ -25,7 +25,7 @@ pub loop-p-init : goal.loop-p-init
 loop-p-init c =
     let a = c.args in (
       begins a.heads.now a.lengths.now a.first.now a.next.now a.v a.price.now a.kept.now a.status.now _ _ refl c.requires.v_in_bounds.0,
-      (omega (arith, c.shared_slice_known-8-1.given a.v), λ any. absurd (any refl)),
+      (omega (arith, c.type_inv.first a.v), λ any. absurd (any refl)),
     )
 
 pub bounds-heads-i : goal.bounds-heads-i
@@ -57,7 +57,7 @@ loop-p-smaller c =
     let places = goal.at.loop-p-smaller c in
     let n = c.args.next.now in
     let same : get_or n c.wide-i.result 0 ≡ get_or n c.loop-p.p 0 = ap (λ m. get_or n m 0) (index places.After-wide-head) in
-    omega (arith, same, (inside places.In-loop-p).rises, c.shared_slice_known-in-loop-p-3-1.given c.wide-i.result)
+    omega (arith, same, (inside places.In-loop-p).rises, c.type_inv.next c.wide-i.result)
 
 pub loop-p-preserved : goal.loop-p-preserved
 loop-p-preserved c =
@@ -68,7 +68,7 @@ loop-p-preserved c =
           c.wide-i.result c.wide-head.result inv.0 (index places.After-wide-head)
           (head places.After-wide-head) c.loop-p-test.true c.lower_bid-least.ensures.lower,
       (
-        omega (arith, c.shared_slice_known-in-loop-p-3-1.given c.wide-i.result),
+        omega (arith, c.type_inv.next c.wide-i.result),
         c.lower_bid-least.ensures.leads a.heads.now inv.1.1
             (child places.After-wide-head),
       ),

@@ -32,7 +32,7 @@ module _ (c : After-long) where
 pub loop-p-init : goal.loop-p-init
 loop-p-init c = (
   begins c.requires.v_in_bounds.0 c.requires.v_in_bounds.1.1.1,
-  (none_yet c.requires.tails_known.kept_in, omega (arith, c.shared_slice_known-7-1.given c.args.v)),
+  (none_yet c.requires.tails_known.kept_in, omega (arith, c.type_inv.first c.args.v)),
 )
 
 pub bounds-heads-i : goal.bounds-heads-i
@@ -65,7 +65,7 @@ loop-p-smaller c =
     let places = goal.at.loop-p-smaller c in
     let n = c.args.next.now in
     let same : get_or n c.wide-i.result 0 ≡ get_or n c.loop-p.p 0 = ap (λ m. get_or n m 0) (index places.After-wide-head) in
-    omega (arith, same, (inside places.In-loop-p).rises, c.shared_slice_known-in-loop-p-3-1.given c.wide-i.result)
+    omega (arith, same, (inside places.In-loop-p).rises, c.type_inv.next c.wide-i.result)
 
 pub loop-p-preserved : goal.loop-p-preserved
 loop-p-preserved c =
@@ -83,7 +83,7 @@ loop-p-preserved c =
         one_more inv.1.0 (λ t here. (inv.0.left_over t here).on_list) more (omega
             (arith, r.inside, r.listed.head_count, c.requires.tails_known.as_long)) (head places.After-wide-head)
             (in_kept places.After-wide-head) c.requires.all_long.1.1.0 same.remembered c.offer.ensures.gives_up,
-        omega (arith, c.shared_slice_known-in-loop-p-3-1.given c.wide-i.result),
+        omega (arith, c.type_inv.next c.wide-i.result),
       ),
     )
 
