@@ -94,5 +94,5 @@ unfolding iterations seen state within
 returns c = λ v e.
     let a = c.args in
     limit_so _ a.wanted.now v a.limit c.run-end.result.missing c.run-end.result.scans _ _ _ e c.run-end.ensures c.one_if_found.ensures refl
-    ∙ ap (λ (m : ℕ). limit_of (table_of m a.origin a.tails.now a.heads.now a.lengths.now) v a.limit) (sym (status_part
-    (goal.at.returns c).After-fresh-state))
+    ∙ ap (λ (m : ℕ). limit_of (table_of m a.origin a.tails.now a.heads.now a.lengths.now) v a.limit)
+    (sym (status_part (goal.at.returns c).After-fresh-state))

@@ -5,8 +5,9 @@ use Rattle.table.specs.declared.Refusal.{Refusal}
 use Rattle.table.specs.Refusals.{refusal}
 use Rattle.auction.specs.Plan.{plan_refusal}
 use Rattle.hand_over.specs.Answered.{answered}
-use Rattle.planner.proofs.Planning.{fine, refused, planned}
+use Rattle.planner.proofs.Planning.{Fine, fine, refused, planned}
 use Rattle.planner.proofs.plan_routes.Goals as goal
+use Rattle.planner.proofs.plan_routes.Goals.{Else-refusal-ne-NONE}
 
 pub returns-then-refusal-ne-NONE : goal.returns-then-refusal-ne-NONE
 unfolding answered plan_refusal
@@ -15,38 +16,26 @@ returns-then-refusal-ne-NONE c =
     refused a.n a.origin a.tails.now a.heads.now a.lengths.now a.wanted.now a.distances.now a.prices.now a.tree.now a.marks.now
     c.table_refusal-refusal.result c.table_refusal-refusal.ensures c.if-refusal-ne-NONE.true
 
-pub plan_table-requires-clause-heads_len : goal.plan_table-requires-clause-heads_len
-unfolding plan_refusal Below refusal
-plan_table-requires-clause-heads_len c =
+-- where the table is not refused
+accepted : (c : Else-refusal-ne-NONE) →
     let a = c.args in
-    let lengths_fit = c.type_inv.lengths in
+    Fine a.n a.origin a.tails.now a.heads.now a.lengths.now a.wanted.now a.distances.now a.prices.now a.tree.now a.marks.now
+unfolding plan_refusal Below refusal
+accepted c =
+    let a = c.args in
     let none = sym (ap (λ (f : Refusal). f.number) c.table_refusal-refusal.ensures) ∙ c.if-refusal-ne-NONE.false in
-    let f =
     fine a.n a.origin a.tails.now a.heads.now a.lengths.now a.wanted.now a.distances.now a.prices.now a.tree.now a.marks.now
-    (λ i. (lengths_fit i).fits) none in
-    (f.heads_count, f.lengths_count)
+    (λ i. (c.type_inv.lengths i).fits) none
+
+pub plan_table-requires-clause-heads_len : goal.plan_table-requires-clause-heads_len
+plan_table-requires-clause-heads_len c =
+    let f = accepted (goal.at.plan_table-requires-clause-heads_len c).Else-refusal-ne-NONE in (f.heads_count, f.lengths_count)
 
 pub plan_table-requires-clause-wanted_value : goal.plan_table-requires-clause-wanted_value
-unfolding plan_refusal Below refusal
-plan_table-requires-clause-wanted_value c =
-    let a = c.args in
-    let lengths_fit = c.type_inv.lengths in
-    let none = sym (ap (λ (f : Refusal). f.number) c.table_refusal-refusal.ensures) ∙ c.if-refusal-ne-NONE.false in
-    let f =
-    fine a.n a.origin a.tails.now a.heads.now a.lengths.now a.wanted.now a.distances.now a.prices.now a.tree.now a.marks.now
-    (λ i. (lengths_fit i).fits) none in
-    f.table_good
+plan_table-requires-clause-wanted_value c = (accepted (goal.at.plan_table-requires-clause-wanted_value c).Else-refusal-ne-NONE).table_good
 
 pub plan_table-requires-clause-fitting : goal.plan_table-requires-clause-fitting
-unfolding plan_refusal Below refusal
-plan_table-requires-clause-fitting c =
-    let a = c.args in
-    let lengths_fit = c.type_inv.lengths in
-    let none = sym (ap (λ (f : Refusal). f.number) c.table_refusal-refusal.ensures) ∙ c.if-refusal-ne-NONE.false in
-    let f =
-    fine a.n a.origin a.tails.now a.heads.now a.lengths.now a.wanted.now a.distances.now a.prices.now a.tree.now a.marks.now
-    (λ i. (lengths_fit i).fits) none in
-    f.fitting
+plan_table-requires-clause-fitting c = (accepted (goal.at.plan_table-requires-clause-fitting c).Else-refusal-ne-NONE).fitting
 
 pub returns : goal.returns
 unfolding plan_refusal

@@ -65,8 +65,8 @@ returns c =
     let a = c.args in
     c.hand_over.ensures (table_of (length c.args.status.now) c.args.origin c.args.tails.now c.args.heads.now c.args.lengths.now) a.wanted.now
     c.run-end.new.path c.run-end.new.price
-    (nodes_so (length c.args.status.now) a.origin a.tails.now a.heads.now a.lengths.now c.requires.heads_len.0 c.requires.heads_len.1 ∙ sym
-    (statuses places.After-run-end))
+    (nodes_so (length c.args.status.now) a.origin a.tails.now a.heads.now a.lengths.now c.requires.heads_len.0 c.requires.heads_len.1
+    ∙ sym (statuses places.After-run-end))
     (arcs_held (length c.args.status.now) a.origin a.tails.now a.heads.now a.lengths.now a.wanted.now c.requires.heads_len.0 c.requires.heads_len.1
     c.requires.wanted_value)
     refl (ran places.After-run-end) (routed_so c.requires.wanted_value (ran places.After-run-end))

@@ -132,24 +132,16 @@ bounds-remembered-v c = omega (arith, terminal_in (goal.at.bounds-remembered-v c
 
 pub extend-g-requires-clause-some_table : goal.extend-g-requires-clause-some_table
 unfolding SomeTable
-extend-g-requires-clause-some_table c =
-    let t = c.requires.begun.0 in
-    let begun = c.requires.begun.1 in (t, begun.listed)
+extend-g-requires-clause-some_table c = (c.requires.begun.0, c.requires.begun.1.listed)
 
 pub extend-g-requires-clause-child_in_bounds : goal.extend-g-requires-clause-child_in_bounds
 unfolding SomeTable
 extend-g-requires-clause-child_in_bounds c =
-    let some_child = c.if-child.true in
-    let i = c.loop-w.invariant in
-    let t = c.requires.begun.0 in
-    let begun = c.requires.begun.1 in may_extend i t begun c.wide-v.result c.wide-v.ensures.same some_child c.loop-w-test.true
+    may_extend c.loop-w.invariant c.requires.begun.0 c.requires.begun.1 c.wide-v.result c.wide-v.ensures.same c.if-child.true c.loop-w-test.true
 
 pub extend-g-requires-clause-tails_known : goal.extend-g-requires-clause-tails_known
 unfolding SomeTable
-extend-g-requires-clause-tails_known c =
-    let i = c.loop-w.invariant in
-    let t = c.requires.begun.0 in
-    let begun = c.requires.begun.1 in tails_known i t begun
+extend-g-requires-clause-tails_known c = tails_known c.loop-w.invariant c.requires.begun.0 c.requires.begun.1
 
 pub least_bid-least-requires-clause-some_table : goal.least_bid-least-requires-clause-some_table
 unfolding SomeTable
@@ -163,18 +155,15 @@ least_bid-least-requires-clause-v_in_bounds c =
 
 pub returns-then-v-origin : goal.returns-then-v-origin
 returns-then-v-origin c =
-    stops c.loop-w.invariant c.wide-v.result c.least_bid-least.result c.loop-w-test.true c.wide-v.ensures.same (bids
-    (goal.at.returns-then-v-origin c).After-least_bid-least) c.if-least.true
-    c.if-v-origin.true
+    stops c.loop-w.invariant c.wide-v.result c.least_bid-least.result c.loop-w-test.true c.wide-v.ensures.same
+    (bids (goal.at.returns-then-v-origin c).After-least_bid-least) c.if-least.true c.if-v-origin.true
 
 pub overflow_add-scans : goal.overflow_add-scans
 overflow_add-scans c = omega (arith, few_scans c.loop-w.invariant c.requires.begun.0 c.requires.begun.1)
 
 pub step-g-requires-clause-some_table : goal.step-g-requires-clause-some_table
 unfolding SomeTable
-step-g-requires-clause-some_table c =
-    let t = c.requires.begun.0 in
-    let begun = c.requires.begun.1 in (t, begun.listed)
+step-g-requires-clause-some_table c = (c.requires.begun.0, c.requires.begun.1.listed)
 
 pub step-g-requires-clause-v_in_bounds : goal.step-g-requires-clause-v_in_bounds
 unfolding SomeTable
@@ -186,28 +175,22 @@ step-g-requires-clause-v_in_bounds c =
 pub step-g-requires-clause-can_step : goal.step-g-requires-clause-can_step
 unfolding SomeTable
 step-g-requires-clause-can_step c =
-    let i = c.loop-w.invariant in
-    let t = c.requires.begun.0 in
-    let begun = c.requires.begun.1 in may_step i t begun c.wide-v.result c.wide-v.ensures.same c.least_bid-least.result.value
-    c.least_bid-least.result.arc c.loop-w-test.true
-    (bids (goal.at.step-g-requires-clause-can_step c).After-least_bid-least t begun.listed) (elim c.else-least.branch [
+    let begun = c.requires.begun in
+    let least = c.least_bid-least.result in
+    may_step c.loop-w.invariant begun.0 begun.1 c.wide-v.result c.wide-v.ensures.same least.value least.arc c.loop-w-test.true
+    (bids (goal.at.step-g-requires-clause-can_step c).After-least_bid-least begun.0 begun.1.listed)
+    (elim c.else-least.branch [
       | else-least-via-then-least+else-v-origin w ↦ λ ea eo. w.if-v-origin.false eo
       | else-least-via-else-least w ↦ λ ea eo. w.if-least.false ea
     ])
 
 pub step-g-requires-clause-has_before : goal.step-g-requires-clause-has_before
 unfolding SomeTable
-step-g-requires-clause-has_before c =
-    let i = c.loop-w.invariant in
-    let t = c.requires.begun.0 in
-    let begun = c.requires.begun.1 in node_before i t begun c.wide-v.result c.wide-v.ensures.same
+step-g-requires-clause-has_before c = node_before c.loop-w.invariant c.requires.begun.0 c.requires.begun.1 c.wide-v.result c.wide-v.ensures.same
 
 pub step-g-requires-clause-tails_known : goal.step-g-requires-clause-tails_known
 unfolding SomeTable
-step-g-requires-clause-tails_known c =
-    let i = c.loop-w.invariant in
-    let t = c.requires.begun.0 in
-    let begun = c.requires.begun.1 in tails_known i t begun
+step-g-requires-clause-tails_known c = tails_known c.loop-w.invariant c.requires.begun.0 c.requires.begun.1
 
 pub returns-then-depth-g : goal.returns-then-depth-g
 returns-then-depth-g c =
@@ -216,32 +199,29 @@ returns-then-depth-g c =
     (bids places.After-least_bid-least) c.if-limit-least.true c.if-depth-g.true
 
 pub first_unreached-w-requires-then-depth-g-2 : goal.first_unreached-w-requires-then-depth-g-2
-first_unreached-w-requires-then-depth-g-2 c = (
-  c.loop-w.invariant.low,
-  wanted_below c.requires.begun.0 c.requires.begun.1 c.if-child.status (made
-      (goal.at.first_unreached-w-requires-then-depth-g-2 c).Joined-child).sized.statuses,
-)
+first_unreached-w-requires-then-depth-g-2 c =
+    let m = made (goal.at.first_unreached-w-requires-then-depth-g-2 c).Joined-child in
+    (c.loop-w.invariant.low, wanted_below c.requires.begun.0 c.requires.begun.1 c.if-child.status m.sized.statuses)
 
 pub loop-w-smaller-then-depth-g-2 : goal.loop-w-smaller-then-depth-g-2
 loop-w-smaller-then-depth-g-2 c = less (goal.at.loop-w-smaller-then-depth-g-2 c).Joined-child
 
 pub loop-w-preserved-then-depth-g-2 : goal.loop-w-preserved-then-depth-g-2
 loop-w-preserved-then-depth-g-2 c =
-    let places = goal.at.loop-w-preserved-then-depth-g-2 c in
+    let j = (goal.at.loop-w-preserved-then-depth-g-2 c).Joined-child in
     let i = c.loop-w.invariant in
     let more = c.loop-w-test.true in
-    continues i more (made places.Joined-child) (low places.Joined-child) (looked_for i more
-    (made places.Joined-child) c.first_unreached-w-then-depth-g-2.ensures)
+    continues i more (made j) (low j) (looked_for i more (made j) c.first_unreached-w-then-depth-g-2.ensures)
 
 pub loop-w-smaller : goal.loop-w-smaller
 loop-w-smaller c = less (goal.at.loop-w-smaller c).Joined-child
 
 pub loop-w-preserved : goal.loop-w-preserved
 loop-w-preserved c =
-    let places = goal.at.loop-w-preserved c in
+    let j = (goal.at.loop-w-preserved c).Joined-child in
     let i = c.loop-w.invariant in
     let more = c.loop-w-test.true in
-    continues i more (made places.Joined-child) (low places.Joined-child) (still_missing i more (made places.Joined-child) c.if-depth-g-2.false)
+    continues i more (made j) (low j) (still_missing i more (made j) c.if-depth-g-2.false)
 
 pub returns : goal.returns
 returns c = ends c.loop-w.invariant c.loop-w-test.false

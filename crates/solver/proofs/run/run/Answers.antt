@@ -13,8 +13,8 @@ use Rattle.solver.proofs.run.Beginning.{begun_fresh}
 use Rattle.solver.proofs.run.run.Goals as goal
 use Rattle.solver.proofs.run.run.Goals.{After-link_arcs, Start}
 
-abbrev no-nodes : (room : ℕ) → List ℕ
-no-nodes room = replicate room no_node
+abbrev no_nodes : (room : ℕ) → List ℕ
+no_nodes room = replicate room no_node
 
 -- where the run is called: the table, and what linking its arcs needs
 module _ (c : Start) where
@@ -26,25 +26,27 @@ module _ (c : Start) where
 
 -- where the arcs have been linked: the lists as they come back, and as they are lent again
 module _ (c : After-link_arcs) where
-  again : Relent (table_of (length c.args.status.now) c.args.origin c.args.tails.now c.args.heads.now c.args.lengths.now)
-      (length c.args.status.now) (length c.args.tails.now) c.args.heads.now c.args.lengths.now c.link_arcs.new.first c.link_arcs.new.next
+  again :
+      let a = c.args in
+      let n = length a.status.now in
+      Relent (table_of n a.origin a.tails.now a.heads.now a.lengths.now) n (length a.tails.now) a.heads.now a.lengths.now
+      c.link_arcs.new.first c.link_arcs.new.next
   again =
       let a = c.args in
-      relent (length c.args.status.now) a.origin a.tails.now a.heads.now a.lengths.now a.wanted.now c.requires.heads_len.0 c.requires.heads_len.1
-      c.requires.wanted_value
-      c.link_arcs.auto.first c.link_arcs.auto.next c.link_arcs.ensures
+      relent (length a.status.now) a.origin a.tails.now a.heads.now a.lengths.now a.wanted.now c.requires.heads_len.0 c.requires.heads_len.1
+      c.requires.wanted_value c.link_arcs.auto.first c.link_arcs.auto.next c.link_arcs.ensures
 
-  begun : let a = c.args in
-      Begun fresh (table_of (length c.args.status.now) c.args.origin c.args.tails.now c.args.heads.now c.args.lengths.now) a.wanted.now
-      c.wide-at.result
-      (star a.heads.now a.lengths.now (lent_again most_nodes (length c.args.status.now) c.link_arcs.new.first) (lent_again most_arcs
-      (length c.args.tails.now) c.link_arcs.new.next)) a.tails.now
+  begun :
+      let a = c.args in
+      let n = length a.status.now in
+      let lists = c.link_arcs.new in
+      Begun fresh (table_of n a.origin a.tails.now a.heads.now a.lengths.now) a.wanted.now c.wide-at.result
+      (star a.heads.now a.lengths.now (lent_again most_nodes n lists.first) (lent_again most_arcs (length a.tails.now) lists.next)) a.tails.now
       (held (arrays a.path.now a.price.now a.bound.now a.kept.now a.status.now a.begun))
   begun =
       let a = c.args in
-      begun_fresh (length c.args.status.now) a.origin a.tails.now a.heads.now a.lengths.now a.wanted.now c.requires.heads_len.0
-      c.requires.heads_len.1 c.requires.wanted_value
-      c.wide-at.result c.wide-at.ensures.same again.listed c.requires.begun_value
+      begun_fresh (length a.status.now) a.origin a.tails.now a.heads.now a.lengths.now a.wanted.now c.requires.heads_len.0 c.requires.heads_len.1
+      c.requires.wanted_value c.wide-at.result c.wide-at.ensures.same again.listed c.requires.begun_value
 
 pub slice_bounds-first-end : goal.slice_bounds-first-end
 slice_bounds-first-end c = (ready (goal.at.slice_bounds-first-end c).Start).few_nodes
@@ -65,13 +67,11 @@ link_arcs-requires-clause-next_len c =
 
 pub link_arcs-requires-clause-by_index : goal.link_arcs-requires-clause-by_index
 link_arcs-requires-clause-by_index c =
-    let r = ready (goal.at.link_arcs-requires-clause-by_index c).Start in
-    r.tails_in
+    (ready (goal.at.link_arcs-requires-clause-by_index c).Start).tails_in
 
 pub link_arcs-requires-clause-by_index_2 : goal.link_arcs-requires-clause-by_index_2
 link_arcs-requires-clause-by_index_2 c =
-    let r = ready (goal.at.link_arcs-requires-clause-by_index_2 c).Start in
-    r.no_first
+    (ready (goal.at.link_arcs-requires-clause-by_index_2 c).Start).no_first
 
 pub slice_bounds-first-end-2 : goal.slice_bounds-first-end-2
 slice_bounds-first-end-2 c = (again (goal.at.slice_bounds-first-end-2 c).After-link_arcs).first_part
@@ -97,21 +97,17 @@ run_listed-requires-clause-begun c = (_, begun (goal.at.run_listed-requires-clau
 
 pub run_listed-requires-clause-path_len : goal.run_listed-requires-clause-path_len
 run_listed-requires-clause-path_len c =
-    let k = (length c.args.status.now) in
-    let a = c.args in subst (λ (k : ℕ). (length a.path.now ≡ k) × Sized k a.price.now a.bound.now a.kept.now a.status.now) (again
-    (goal.at.run_listed-requires-clause-path_len c).After-link_arcs).first_long
-    c.requires.path_len
+    let a = c.args in
+    subst (λ (k : ℕ). (length a.path.now ≡ k) × Sized k a.price.now a.bound.now a.kept.now a.status.now)
+    (again (goal.at.run_listed-requires-clause-path_len c).After-link_arcs).first_long c.requires.path_len
 
 pub run_listed-requires-clause-all_forgotten : goal.run_listed-requires-clause-all_forgotten
 run_listed-requires-clause-all_forgotten c =
     let places = goal.at.run_listed-requires-clause-all_forgotten c in
-    let k = (length c.args.status.now) in
-    subst (λ (k' : ℕ). AllForgotten k' (take k (no-nodes most_nodes))) (again places.After-link_arcs).first_long
-    (record {
-      count = filled_long most_nodes k no_node (ready places.Start).few_nodes;
-      nothing = λ v h. filled_with most_nodes k no_node v
-          (ready places.Start).few_nodes h;
-    })
+    let k = length c.args.status.now in
+    let few = (ready places.Start).few_nodes in
+    subst (λ (k' : ℕ). AllForgotten k' (take k (no_nodes most_nodes))) (again places.After-link_arcs).first_long
+    (record { count = filled_long most_nodes k no_node few; nothing = λ v h. filled_with most_nodes k no_node v few h })
 
 pub returns : goal.returns
 returns c = c.run_listed.ensures _ (begun (goal.at.returns c).After-link_arcs)

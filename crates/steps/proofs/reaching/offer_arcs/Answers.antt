@@ -20,9 +20,8 @@ module _ (c : After-wide-head) where
   head : c.wide-head.result ≡ get_or c.args.heads.now c.loop-p.p 0
   head = c.wide-head.ensures.same ∙ ap (λ m. get_or c.args.heads.now m 0) index
 
-  in_kept : c.wide-head.result < length c.loop-p.kept
-  in_kept =
-      let r = readable (λ t here. (c.loop-p.invariant.0.left_over t here).on_list) c.requires.some_table c.loop-p-test.true in
+  in_kept : Readable c.args.heads.now c.args.lengths.now c.args.first.now c.args.next.now c.loop-p.p → c.wide-head.result < length c.loop-p.kept
+  in_kept r =
       omega (arith, head, r.head_in, r.listed.linked.first_count, c.requires.all_long.1.0, c.loop-p.invariant.0.kepts_long)
 
 module _ (c : After-long) where
@@ -52,7 +51,7 @@ offer-requires-clause-head_in_bounds c =
     let lengths = c.requires.all_long in
     let inv = c.loop-p.invariant in (
       omega (arith, head places.After-wide-head, r.head_in, n, lengths.0, inv.0.bounds_long),
-      (in_kept places.After-wide-head, omega (arith, head places.After-wide-head, r.head_in, n, lengths.1.1.1)),
+      (in_kept places.After-wide-head r, omega (arith, head places.After-wide-head, r.head_in, n, lengths.1.1.1)),
     )
 
 pub bounds-next-i : goal.bounds-next-i
@@ -74,19 +73,17 @@ loop-p-preserved c =
     let more = c.loop-p-test.true in
     let r = inside places.In-loop-p in
     let same = c.offer.auto in (
-      goes_on inv.0 c.wide-i.result c.wide-head.result _ (index places.After-wide-head) (head places.After-wide-head) (ap (λ m. c.args.distance + m)
-          (length_so places.After-long)) more
-          (omega (arith, c.requires.v_in_bounds.1.0)) (omega
-          (arith, c.requires.v_in_bounds.0, c.requires.all_long.0)) c.requires.v_in_bounds.1.1.0 same.bound
-          same.kept c.offer.ensures.offers,
+      goes_on inv.0 c.wide-i.result c.wide-head.result _ (index places.After-wide-head) (head places.After-wide-head)
+          (ap (λ m. c.args.distance + m) (length_so places.After-long)) more (omega (arith, c.requires.v_in_bounds.1.0))
+          (omega (arith, c.requires.v_in_bounds.0, c.requires.all_long.0)) c.requires.v_in_bounds.1.1.0 same.bound same.kept c.offer.ensures.offers,
       (
-        one_more inv.1.0 (λ t here. (inv.0.left_over t here).on_list) more (omega
-            (arith, r.inside, r.listed.head_count, c.requires.tails_known.as_long)) (head places.After-wide-head)
-            (in_kept places.After-wide-head) c.requires.all_long.1.1.0 same.remembered c.offer.ensures.gives_up,
+        one_more inv.1.0 (λ t here. (inv.0.left_over t here).on_list) more
+            (omega (arith, r.inside, r.listed.head_count, c.requires.tails_known.as_long)) (head places.After-wide-head)
+            (in_kept places.After-wide-head r) c.requires.all_long.1.1.0 same.remembered c.offer.ensures.gives_up,
         omega (arith, c.type_inv.next c.wide-i.result),
       ),
     )
 
 pub returns-clause-offers : goal.returns-clause-offers
 returns-clause-offers c =
-    let inv = c.loop-p.invariant in ends inv.0 c.loop-p-test.false
+    ends c.loop-p.invariant.0 c.loop-p-test.false

@@ -4,7 +4,7 @@ use mathlib.Core.List.{List}
 use mathlib.Core.Option.{some}
 use native.Mathlib.Omega.{arith}
 use Prim.Native.Nat.{ℕ, ◌≤◌, ◌<◌}
-use lib.ListN.{length, get_or, set, length-set}
+use lib.ListN.{get_or}
 use Rattle.table.specs.Table.{Table, arc_count, head_at}
 use Rattle.auction.specs.Auction.{State, price_at, extension}
 use Rattle.forward_star.specs.Lists.{star, Outgoing, SomeTable}
@@ -30,10 +30,6 @@ module _ (c : Then-arc) where
 
 -- where it has one
 module _ (c : Else-arc) where
-  -- what the nodes remember, this one the child of the bid
-  as_long : length (set c.args.remembered.now c.args.v c.args.least.child) ≡ length c.args.remembered.now
-  as_long = length-set c.args.remembered.now c.args.v c.args.least.child
-
   child_is : c.args.least.child ≡ get_or c.args.heads.now c.args.least.arc 0
   child_is = c.requires.leads c.if-arc.false
 
@@ -43,18 +39,17 @@ module _ (c : Else-arc) where
 
 pub returns-then-arc-clause-steps : goal.returns-then-arc-clause-steps
 returns-then-arc-clause-steps c =
-    let none = c.if-arc.true in
-    let a = c.args in λ t here eo.
-    is_deletion t a.v a.least.value a.least.arc (x a.path.now a.price.now a.bound.now a.kept.now a.status.now a.g) none (λ z. not_origin
-    (goal.at.returns-then-arc-clause-steps c).Then-arc (z ∙ eo))
+    let a = c.args in
+    let apart = not_origin (goal.at.returns-then-arc-clause-steps c).Then-arc in λ t here eo.
+    is_deletion t a.v a.least.value a.least.arc (x a.path.now a.price.now a.bound.now a.kept.now a.status.now a.g) c.if-arc.true (λ z. apart (z ∙ eo))
     ∙ ap some (sym (c.delete.ensures.deletes a.path.now a.price.now a.bound.now a.kept.now))
 
 pub returns-then-price-v-clause-steps : goal.returns-then-price-v-clause-steps
 returns-then-price-v-clause-steps c =
-    let low = c.if-price-v.true in
-    let a = c.args in λ t here eo.
-    is_contraction t a.v a.least.value a.least.arc (x a.path.now a.price.now a.bound.now a.kept.now a.status.now a.g) c.if-arc.false (subst (λ
-    (m : ℕ). m < a.least.value) (sym (price_read a.path.now a.price.now a.bound.now a.kept.now a.status.now a.g a.v)) low)
+    let a = c.args in
+    let price = price_read a.path.now a.price.now a.bound.now a.kept.now a.status.now a.g a.v in λ t here eo.
+    is_contraction t a.v a.least.value a.least.arc (x a.path.now a.price.now a.bound.now a.kept.now a.status.now a.g) c.if-arc.false
+    (subst (λ (m : ℕ). m < a.least.value) (sym price) c.if-price-v.true)
     ∙ ap some (sym (c.contract.ensures.contracts t a.path.now a.bound.now a.kept.now a.status.now eo))
 
 pub extend-requires-clause-child_in_bounds : goal.extend-requires-clause-child_in_bounds
@@ -75,10 +70,10 @@ extend-requires-clause-child_in_bounds c =
 pub returns-clause-steps : goal.returns-clause-steps
 returns-clause-steps c =
     let places = goal.at.returns-clause-steps c in
-    let high = c.if-price-v.false in
-    let a = c.args in λ t here eo.
+    let a = c.args in
+    let price = price_read a.path.now a.price.now a.bound.now a.kept.now a.status.now a.g a.v in λ t here eo.
     let child : head_at t a.least.arc ≡ a.least.child = sym (child_is places.Else-arc ∙ here.head a.least.arc (listed places.Else-arc t here)) in
     is_extension t a.v a.least.value a.least.arc (x a.path.now a.price.now a.bound.now a.kept.now a.status.now a.g) c.if-arc.false
-    (subst (λ (m : ℕ). a.least.value ≤ m) (sym (price_read a.path.now a.price.now a.bound.now a.kept.now a.status.now a.g a.v)) high)
+    (subst (λ (m : ℕ). a.least.value ≤ m) (sym price) c.if-price-v.false)
     ∙ ap (λ j. some (extension t j (x a.path.now a.price.now a.bound.now a.kept.now a.status.now a.g))) child
     ∙ ap some (sym (c.extend.ensures.extends a.price.now t here))
