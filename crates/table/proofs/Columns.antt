@@ -1,10 +1,13 @@
 -- The table that three columns of equal length hold, arc by arc. Assumes nothing.
 use mathlib.Core.Path.{◌≡◌, refl, ap}
 use mathlib.Core.List.{List, [], ◌∷◌}
-use Prim.Native.Nat.{ℕ, zero, suc, ◌<◌}
+use Prim.Native.Nat.{ℕ, zero, suc, ◌<◌, ◌≤◌}
+use Rattle.std.specs.Prelude.{false}
 use native.Mathlib.Omega.{arith}
 use lib.ListN.{length, get_or}
-use Rattle.table.specs.Table.{Arc, arc, table, arcs_of, table_of, arc_count, arc_at, head_at, length_at}
+use Rattle.std.proofs.lemmas.Bool.Decides.{nat_tests}
+use Rattle.table.specs.Refusals.{columns_bad}
+use Rattle.table.specs.Table.{Arc, arc, table, arcs_of, table_of, arc_count, arc_at, head_at, length_at, most_arcs}
 
 pub arcs_count : (ts hs ls : List ℕ) → length hs ≡ length ts → length ls ≡ length ts → length (arcs_of ts hs ls) ≡ length ts
 unfolding arcs_of
@@ -46,3 +49,8 @@ module _ (n o : ℕ) (ts hs ls : List ℕ) (eh : length hs ≡ length ts) (el : 
   pub origin_so : (table_of n o ts hs ls).origin ≡ o
   unfolding table_of table
   origin_so = refl
+
+-- columns that are not refused by 2
+pub few_and_equal : (t h l : ℕ) → columns_bad t h l ≡ false → (t ≡ h) × ((h ≡ l) × (t ≤ most_arcs))
+unfolding columns_bad
+few_and_equal t h l e = grind (arith, nat_tests)

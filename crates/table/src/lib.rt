@@ -2,8 +2,15 @@
 // says what a table and a walk are, specs/Refusals.antt when a table is refused.
 #![tactic(auto)]
 
-ghost use Rattle.std.specs.Prelude.{◌≡◌, ◌<◌};
-ghost use Rattle.table.specs.Refusals.{no_refusal, count_bad, columns_bad};
+pub mod faults;
+pub mod links;
+
+ghost use Rattle.std.specs.Prelude.{◌≡◌, cond, ◌<◌, length, IfOk};
+ghost use Rattle.table.specs.Refusals.{no_refusal, refusal, count_bad, columns_bad};
+ghost use Rattle.table.specs.Told.{told};
+
+use faults::Fault;
+use links::Columns;
 
 // The most nodes, arcs and wanted nodes a table has.
 pub const MOST_NODES: usize = 1024;
@@ -116,4 +123,33 @@ pub fn bad_columns(tails: usize, heads: usize, lengths: usize) -> bool
         return true;
     }
     MOST_ARCS < tails
+}
+
+// 1: the node count.
+pub fn check_count(n: usize) -> Result<(), faults::Refusal>
+    ensures { told result ≡ cond (count_bad n) (refusal 1 0) no_refusal }
+{
+    if bad_count(n) {
+        return Err(Fault::NodeCount.at(0));
+    }
+    Ok(())
+}
+
+// 2: the columns, as ones of equal length.
+pub fn check_columns<'a>(
+    tails: &'a [u16],
+    heads: &'a [u16],
+    lengths: &'a [u32],
+) -> Result<Columns<'a>, faults::Refusal>
+    ensures told { told result ≡ cond (columns_bad (length tails.now) (length heads.now) (length lengths.now)) (refusal 2 0) no_refusal }
+    ensures same { IfOk result (λ c. (c.tails.now ≡ tails.now) × (c.heads.now ≡ heads.now) × (c.lengths.now ≡ lengths.now)) }
+{
+    if bad_columns(tails.len(), heads.len(), lengths.len()) {
+        return Err(Fault::Columns.at(0));
+    }
+    Ok(Columns {
+        tails,
+        heads,
+        lengths,
+    })
 }
