@@ -9,7 +9,8 @@ use lib.ListN.{get_or}
 use borrow.Author.Tests.{eq-eqb, ne_eqb}
 use Rattle.table.specs.Table.{Table, arc_count, tail_at, no_arc, most_arcs}
 use Rattle.table.proofs.Basics.{same_or}
-use Rattle.forward_star.specs.Lists.{star, next_out, Outgoing, SomeTable}
+use Rattle.forward_star.specs.Lists.{next_out}
+use Rattle.forward_star.proofs.Outgoing.{star, Outgoing}
 
 -- an arc out of v at a position from i on, or none
 record Found (t : Table) (k i v p : ℕ) : Type 0 where
@@ -120,24 +121,13 @@ module _ {t : Table} {hs ls first next : List ℕ} (here : Outgoing t (star hs l
   none_left p e = omega (arith, here.few)
 
 -- what a read of the arc at p needs
-pub record Readable (hs ls first next : List ℕ) (p : ℕ) : Type 0 where
-  pub of : Table
-  pub listed : Outgoing of (star hs ls first next)
-  pub inside : p < arc_count of
-  pub head_in : get_or hs p 0 < of.n
+pub record Readable (t : Table) (hs next : List ℕ) (p : ℕ) : Type 0 where
+  pub inside : p < arc_count t
+  pub head_in : get_or hs p 0 < t.n
   pub rises : p < get_or next p 0
 
-pub readable : {hs ls first next : List ℕ} {v p : ℕ} → ((t : Table) → Outgoing t (star hs ls first next) → OnList t v p) → SomeTable (star hs ls first next) →
-    (p ≡ no_arc → ⊥) → Readable hs ls first next p
-unfolding SomeTable
-readable {hs} {ls} {first} {next} {v} {p} walk any more =
-    let here = any.1 in
-    let on = walk any.0 here in
+pub readable : {t : Table} {hs ls first next : List ℕ} {v p : ℕ} → Outgoing t (star hs ls first next) → OnList t v p → (p ≡ no_arc → ⊥) →
+    Readable t hs next p
+readable {t} {hs} {ls} {first} {next} {v} {p} here on more =
     let at = (on.inside more).0 in
-    record {
-      of = any.0;
-      listed = here;
-      inside = at;
-      head_in = omega (arith, here.head p at, here.head_in p at);
-      rises = (on_next here v on more).1;
-    }
+    record { inside = at; head_in = omega (arith, here.head p at, here.head_in p at); rises = (on_next here v on more).1 }

@@ -1,55 +1,92 @@
--- The columns of a table that is not refused: what linking its arcs needs, and that the lists are the table's forward star. Assumes nothing.
+-- A table that is not refused: what linking its arcs needs, and that the lists are its forward star. Assumes nothing.
 use mathlib.Core.Path.{◌≡◌, refl, sym, ap, ◌∙◌}
-use mathlib.Core.Bool.{true}
 use mathlib.Core.List.{List, ◌++◌}
 use Prim.Native.Nat.{ℕ, zero, suc, ◌≤◌, ◌<◌}
 use native.Mathlib.Omega.{arith}
 use lib.ListN.{length, get_or, take, drop, replicate, length-append}
 use lib.Seq.{take_at}
-use Rattle.table.specs.Table.{Table, table_of, is_table, arc_count, length_at, no_arc, most_nodes, most_arcs}
+use Rattle.table.specs.declared.links.LinkTable.{LinkTable}
+use Rattle.table.specs.Lent.{table_in}
+use Rattle.table.specs.Table.{Table, arc_count, length_at, no_arc, most_nodes, most_arcs}
 use Rattle.table.proofs.Present.{present_tail, absent_tail, down_absent, up_present}
-use Rattle.table.proofs.Columns.{count_so, end_so, head_so, length_so, nodes_so}
-use Rattle.auction.proofs.Good.{good}
-use Rattle.forward_star.specs.Lists.{star, Linked, Tails, Outgoing}
+use Rattle.table.proofs.Columns.{count_so, end_so, head_so, length_so, nodes_so, origin_so}
+use Rattle.auction.proofs.Good.{Good, good}
+use Rattle.forward_star.specs.declared.star.Star.{Star}
+use Rattle.forward_star.specs.Lists.{Linked, Empty}
+use Rattle.forward_star.proofs.Outgoing.{star, Tails, Outgoing}
 
--- the columns of a table that is not refused
-module _ (n o : ℕ) (ts hs ls ws : List ℕ) (eh : length hs ≡ length ts) (el : length ls ≡ length ts)
-    (ok : is_table (table_of n o ts hs ls) ws ≡ true) where
-  pub tails_held : Tails (table_of n o ts hs ls) ts ls
+-- THE TABLE that the code's struct holds
+module _ (l : LinkTable) where
+  abbrev t : Table
+  t = table_in l
+
+  abbrev ts : List ℕ
+  ts = l.columns.tails.now
+
+  abbrev hs : List ℕ
+  hs = l.columns.heads.now
+
+  abbrev ls : List ℕ
+  ls = l.columns.lengths.now
+
+  heads_as : length hs ≡ length ts
+  heads_as = sym l.columns.heads_are
+
+  lengths_as : length ls ≡ length ts
+  lengths_as = sym (l.columns.heads_are ∙ l.columns.lengths_are)
+
+  pub good_table : Good t
+  good_table = good t l.wanted.now l.good
+
+  pub nodes_are : t.n ≡ l.n
+  nodes_are = nodes_so l.n l.origin ts hs ls heads_as lengths_as
+
+  pub origin_is : t.origin ≡ l.origin
+  origin_is = origin_so l.n l.origin ts hs ls heads_as lengths_as
+
+  pub arcs_are : arc_count t ≡ length ts
+  arcs_are = count_so l.n l.origin ts hs ls heads_as lengths_as
+
+  pub tails_held : Tails t ts ls
   tails_held =
-      let t = table_of n o ts hs ls in
-      let m = count_so n o ts hs ls eh el in
-      let lengths : (i : ℕ) → i < arc_count t → length_at t i ≡ get_or ls i 0 = λ i h. length_so n o ts hs ls eh el i (omega (arith, m)) in
+      let lengths : (i : ℕ) → i < arc_count t → length_at t i ≡ get_or ls i 0 =
+      λ i h. length_so l.n l.origin ts hs ls heads_as lengths_as i (omega (arith, arcs_are)) in
       record {
-        count = sym m;
+        count = sym arcs_are;
         tail = λ i h up.
-            sym (present_tail t i (up_present t i (λ e. up (sym (lengths i h) ∙ e))) ∙ end_so n o ts hs ls eh el i (omega (arith, m)));
-        none = λ i h e low. omega (arith, absent_tail t i (down_absent t i (lengths i h ∙ e)), (good t ws ok).few_nodes);
+            sym (present_tail t i (up_present t i (λ e. up (sym (lengths i h) ∙ e))) ∙ end_so l.n l.origin ts hs ls heads_as lengths_as i (omega (arith, arcs_are)));
+        none = λ i h e low. omega (arith, absent_tail t i (down_absent t i (lengths i h ∙ e)), good_table.few_nodes);
       }
 
-  few_tails : length ts ≤ most_arcs
-  few_tails = omega (arith, count_so n o ts hs ls eh el, (good _ ws ok).few_arcs)
+  pub few_tails : length ts ≤ most_arcs
+  few_tails = l.columns.few
 
-  few_nodes : n ≤ most_nodes
-  few_nodes = omega (arith, nodes_so n o ts hs ls eh el, (good _ ws ok).few_nodes)
+  pub few_nodes : l.n ≤ most_nodes
+  few_nodes = omega (arith, nodes_are, good_table.few_nodes)
 
-  pub tails_below : (i : ℕ) → i < length ts → get_or ts i 0 < n
+  pub tails_below : (i : ℕ) → i < length ts → get_or ts i 0 < l.n
   tails_below i h =
-      omega (arith, (good _ ws ok).end_in i (omega (arith, count_so n o ts hs ls eh el)), end_so n o ts hs ls eh el i h, nodes_so n o ts hs ls eh el)
+      omega (arith, good_table.end_in i (omega (arith, arcs_are)), end_so l.n l.origin ts hs ls heads_as lengths_as i h, nodes_are)
 
-  outgoing : {first nexts : List ℕ} → Linked (table_of n o ts hs ls) first nexts → Outgoing (table_of n o ts hs ls) (star hs ls first nexts)
+  pub heads_below : (i : ℕ) → i < length ts → get_or hs i 0 < l.n
+  heads_below i h =
+      omega (arith, good_table.head_in i (omega (arith, arcs_are)), head_so l.n l.origin ts hs ls heads_as lengths_as i h, nodes_are)
+
+  pub outgoing : {first next : List ℕ} → Linked t first next → Outgoing t (star hs ls first next)
   outgoing linked =
-      let t = table_of n o ts hs ls in
-      let m = count_so n o ts hs ls eh el in
       record {
-        few = (good t ws ok).few_arcs;
-        head_count = omega (arith, m, eh);
-        length_count = omega (arith, m, el);
-        head = λ i h. sym (head_so n o ts hs ls eh el i (omega (arith, m)));
-        head_in = (good t ws ok).head_in;
-        arc_length = λ i h. sym (length_so n o ts hs ls eh el i (omega (arith, m)));
+        few = good_table.few_arcs;
+        head_count = omega (arith, arcs_are, heads_as);
+        length_count = omega (arith, arcs_are, lengths_as);
+        head = λ i h. sym (head_so l.n l.origin ts hs ls heads_as lengths_as i (omega (arith, arcs_are)));
+        head_in = good_table.head_in;
+        arc_length = λ i h. sym (length_so l.n l.origin ts hs ls heads_as lengths_as i (omega (arith, arcs_are)));
         linked = linked;
       }
+
+-- and its forward star
+pub outgoing_of : (s : Star) → Outgoing (table_in s.table) (star s.table.columns.heads.now s.table.columns.lengths.now s.first.now s.next.now)
+outgoing_of s = outgoing s.table s.linked
 
 -- an array whose first part has been lent and has come back
 prefix_fits : (a b : List ℕ) (n : ℕ) → length a ≡ n → n ≤ length (a ++ b)
@@ -82,55 +119,40 @@ abbrev pub lent_again : (room n : ℕ) → (part : List ℕ) → List ℕ
 lent_again room n part = take n (back_in room n part)
 
 -- what linking needs of the parts that are lent
-pub record Linkable (n : ℕ) (tails : List ℕ) : Type 0 where
+pub record Linkable (n m : ℕ) : Type 0 where
   pub few_nodes : n ≤ most_nodes
-  pub few_arcs : length tails ≤ most_arcs
-  pub first_long : n ≡ length (take n (no_arcs most_nodes))
-  pub next_long : length tails ≡ length (take (length tails) (no_arcs most_arcs))
-  pub tails_in : (i : ℕ) → i < length tails → get_or tails i 0 < length (take n (no_arcs most_nodes))
-  pub no_first : (v : ℕ) → v < length (take n (no_arcs most_nodes)) → get_or (take n (no_arcs most_nodes)) v 0 ≡ no_arc
+  pub few_arcs : m ≤ most_arcs
+  pub empty : Empty n (take n (no_arcs most_nodes))
+  pub next_long : length (take m (no_arcs most_arcs)) ≡ m
 
 -- what is known of them where they have come back
-pub record Relent (t : Table) (n m : ℕ) (heads lengths first next : List ℕ) : Type 0 where
+pub record Relent (t : Table) (n m : ℕ) (first next : List ℕ) : Type 0 where
   pub first_part : n ≤ length (back_in most_nodes n first)
   pub next_part : m ≤ length (back_in most_arcs m next)
-  pub first_long : n ≡ length (lent_again most_nodes n first)
-  pub next_long : m ≡ length (lent_again most_arcs m next)
-  pub listed : Outgoing t (star heads lengths (lent_again most_nodes n first) (lent_again most_arcs m next))
+  pub linked : Linked t (lent_again most_nodes n first) (lent_again most_arcs m next)
 
-module _ (n o : ℕ) (ts hs ls ws : List ℕ) (eh : length hs ≡ length ts) (el : length ls ≡ length ts)
-    (ok : is_table (table_of n o ts hs ls) ws ≡ true) where
-  pub linkable : Linkable n ts
+module _ (l : LinkTable) where
+  pub linkable : Linkable l.n (length l.columns.tails.now)
   linkable =
-      let few = few_nodes n o ts hs ls ws eh el ok in
-      let long = filled_long most_nodes n no_arc few in
-      let arcs = few_tails n o ts hs ls ws eh el ok in
       record {
-        few_nodes = few;
-        few_arcs = arcs;
-        first_long = sym long;
-        next_long = sym (filled_long most_arcs (length ts) no_arc arcs);
-        tails_in = λ i h. omega (arith, long, tails_below n o ts hs ls ws eh el ok i h);
-        no_first = λ v h. filled_with most_nodes n no_arc v few (omega (arith, long));
+        few_nodes = few_nodes l;
+        few_arcs = few_tails l;
+        empty = record {
+          count = filled_long most_nodes l.n no_arc (few_nodes l);
+          none = λ v h. filled_with most_nodes l.n no_arc v (few_nodes l) h;
+        };
+        next_long = filled_long most_arcs (length l.columns.tails.now) no_arc (few_tails l);
       }
 
-  pub relent : {first next : List ℕ} → length first ≡ length (take n (no_arcs most_nodes)) → length next ≡ length (take (length ts) (no_arcs most_arcs)) →
-      ((t : Table) → t.n ≡ length (take n (no_arcs most_nodes)) → Tails t ts ls → Linked t first next) →
-      Relent (table_of n o ts hs ls) n (length ts) hs ls first next
-  relent {first} {next} as_first as_next linked =
-      let t = table_of n o ts hs ls in
-      let k = linkable in
-      let first_is : length first ≡ n = omega (arith, as_first, k.first_long) in
-      let next_is : length next ≡ length ts = omega (arith, as_next, k.next_long) in
-      let rest = drop n (no_arcs most_nodes) in
-      let others = drop (length ts) (no_arcs most_arcs) in
+  pub relent : {first next : List ℕ} → Linked (table_in l) first next → Relent (table_in l) l.n (length l.columns.tails.now) first next
+  relent {first} {next} linked =
+      let m = length l.columns.tails.now in
+      let first_is : length first ≡ l.n = omega (arith, linked.first_count, nodes_are l) in
+      let next_is : length next ≡ m = omega (arith, linked.next_count, arcs_are l) in
+      let rest = drop l.n (no_arcs most_nodes) in
+      let others = drop m (no_arcs most_arcs) in
       record {
-        first_part = prefix_fits first rest n first_is;
-        next_part = prefix_fits next others (length ts) next_is;
-        first_long = prefix_long first rest n first_is;
-        next_long = prefix_long next others (length ts) next_is;
-        listed =
-            outgoing n o ts hs ls ws eh el ok
-            (rw (take_at first rest n first_is, take_at next others (length ts) next_is)
-            (linked t (nodes_so n o ts hs ls eh el ∙ k.first_long) (tails_held n o ts hs ls ws eh el ok)));
+        first_part = prefix_fits first rest l.n first_is;
+        next_part = prefix_fits next others m next_is;
+        linked = rw (take_at first rest l.n first_is, take_at next others m next_is) linked;
       }

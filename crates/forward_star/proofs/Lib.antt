@@ -1,4 +1,5 @@
 -- The lists of outgoing arcs: how they are linked, those of a table's columns, and what is made along one.
+pub mod Outgoing
 pub mod Linking
 pub mod Columns
 pub mod Along

@@ -4,6 +4,3 @@ use Rattle.forward_star.proofs.link_arcs.Given as goal
 
 abbrev pub invariant-loop-p : goal.invariant-loop-p
 invariant-loop-p l = Linking l.tails l.lengths l.initial.first l.first l.next l.p
-
-abbrev pub decreases-loop-p : goal.decreases-loop-p
-decreases-loop-p l = l.p
