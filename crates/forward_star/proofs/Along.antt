@@ -5,7 +5,7 @@ use mathlib.Core.List.{List}
 use mathlib.Core.Logic.{⊎_elim}
 use Prim.Native.Nat.{ℕ, zero, suc, ◌+◌, ◌-◌, ◌≤◌, ◌<◌}
 use native.Mathlib.Omega.{arith}
-use lib.ListN.{get_or}
+use lib.ListN.{length, get_or}
 use borrow.Author.Tests.{eq-eqb, ne_eqb}
 use Rattle.table.specs.Table.{Table, arc_count, tail_at, no_arc, most_arcs}
 use Rattle.table.proofs.Basics.{same_or}
@@ -69,6 +69,10 @@ pub record OnList (t : Table) (v p : ℕ) : Type 0 where
   pub inside : (p ≡ no_arc → ⊥) → (p < arc_count t) × (tail_at t p ≡ v)
 
 module _ {t : Table} {hs ls first next : List ℕ} (here : Outgoing t (star hs ls first next)) (v : ℕ) where
+  pub on_low : {p : ℕ} → OnList t v p → p ≤ no_arc
+  on_low {p} on =
+      ⊎_elim (λ (e : p ≡ no_arc). omega arith) (λ (d : p ≡ no_arc → ⊥). omega (arith, (on.inside d).0, here.few)) (same_or p no_arc)
+
   pub on_first : v < t.n → OnList t v (get_or first v 0)
   on_first h =
       subst (λ (q : ℕ). OnList t v q) (sym (here.linked.first_arc v h))
@@ -120,14 +124,27 @@ module _ {t : Table} {hs ls first next : List ℕ} (here : Outgoing t (star hs l
   pub none_left : (p : ℕ) → p ≡ no_arc → arc_count t - p ≡ 0
   none_left p e = omega (arith, here.few)
 
--- what a read of the arc at p needs
-pub record Readable (t : Table) (hs next : List ℕ) (p : ℕ) : Type 0 where
+-- what a read of the arc at p needs, and the next one
+pub record Readable (t : Table) (hs ls next : List ℕ) (p : ℕ) : Type 0 where
   pub inside : p < arc_count t
+  pub in_heads : p < length hs
+  pub in_lengths : p < length ls
+  pub in_next : p < length next
   pub head_in : get_or hs p 0 < t.n
   pub rises : p < get_or next p 0
+  pub low : get_or next p 0 ≤ no_arc
 
 pub readable : {t : Table} {hs ls first next : List ℕ} {v p : ℕ} → Outgoing t (star hs ls first next) → OnList t v p → (p ≡ no_arc → ⊥) →
-    Readable t hs next p
+    Readable t hs ls next p
 readable {t} {hs} {ls} {first} {next} {v} {p} here on more =
     let at = (on.inside more).0 in
-    record { inside = at; head_in = omega (arith, here.head p at, here.head_in p at); rises = (on_next here v on more).1 }
+    let n = on_next here v on more in
+    record {
+      inside = at;
+      in_heads = omega (arith, here.head_count);
+      in_lengths = omega (arith, here.length_count);
+      in_next = omega (arith, here.linked.next_count);
+      head_in = omega (arith, here.head p at, here.head_in p at);
+      rises = n.1;
+      low = on_low here v n.0;
+    }

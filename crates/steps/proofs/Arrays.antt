@@ -1,17 +1,21 @@
 -- What the auction's functions read off the arrays, and what a store does to the state that they hold. Assumes nothing.
-use mathlib.Core.Path.{◌≡◌, refl, ap, ◌∙◌}
+use mathlib.Core.Path.{◌≡◌, refl, sym, ap, ◌∙◌}
 use mathlib.Core.List.{List, [], ◌∷◌, map}
 use mathlib.Core.Option.{Option, none, some}
 use Prim.Native.Nat.{ℕ, zero, suc, ◌≤◌, ◌<◌}
 use native.Mathlib.Omega.{arith}
-use lib.ListN.{length, get_or, set, take, replicate, length-set, length-replicate}
+use lib.ListN.{length, get_or, set, take, replicate}
 use lib.Seq.{take-set-lt}
 use borrow.Author.Tests.{ne_eqb, eq-eqb}
-use Rattle.table.specs.Table.{Table, no_arc, no_distance}
+use Rattle.table.specs.Table.{Table, no_arc, no_node, no_distance}
+use Rattle.steps.specs.declared.state.Status.TheVariants.{Unreached}
 use Rattle.table.proofs.Basics.{map_set, map_replicate}
-use Rattle.auction.specs.Auction.{state, bid, price_at, bound_at, kept_at, status_at, distance, or_zero, with_kept, with_status, fresh}
+use Rattle.auction.specs.Auction.{state, price_at, bound_at, kept_at, status_at, distance, or_zero, with_kept, with_status, fresh}
 use Rattle.steps.specs.declared.state.Progress.{Progress}
-use Rattle.steps.specs.Seen.{bound_of, arc_of, bid_of, nodes_of, seen}
+use Rattle.steps.specs.Seen.{bound_of, arc_of, nodes_of, seen, run_of, first_of, held, status_number}
+use Rattle.steps.specs.declared.state.Node.{Node}
+use Rattle.steps.specs.Memory.{node_at}
+use Rattle.steps.proofs.Nodes.{written, unwritten}
 
 -- the sentinels
 pub some_bound : (b : ℕ) → (b ≡ no_distance → ⊥) → bound_of b ≡ some b
@@ -22,10 +26,6 @@ pub some_arc : (k : ℕ) → (k ≡ no_arc → ⊥) → arc_of k ≡ some k
 unfolding arc_of
 some_arc k h = rw (ne_eqb k no_arc h)
 
-pub some_bid : (b i : ℕ) → (i ≡ no_arc → ⊥) → bid_of b i ≡ some (bid b i)
-unfolding bid_of
-some_bid b i h = rw (ne_eqb i no_arc h)
-
 pub no_bound : (b : ℕ) → b ≡ no_distance → bound_of b ≡ none
 unfolding bound_of
 no_bound b e = rw (eq-eqb b no_distance e)
@@ -33,10 +33,6 @@ no_bound b e = rw (eq-eqb b no_distance e)
 pub no_kept : (k : ℕ) → k ≡ no_arc → arc_of k ≡ none
 unfolding arc_of
 no_kept k e = rw (eq-eqb k no_arc e)
-
-pub no_bid : (b i : ℕ) → i ≡ no_arc → bid_of b i ≡ none
-unfolding bid_of
-no_bid b i e = rw (eq-eqb i no_arc e)
 
 -- lists
 pub get_d_map : (f : ℕ → Option ℕ) (l : List ℕ) (i : ℕ) → i < length l → get_or (map f l) i none ≡ f (get_or l i 0)
@@ -77,26 +73,46 @@ module _ (p u b k s : List ℕ) (g : Progress) where
   unfolding seen with_status state
   store_status j a = refl
 
--- the fresh state
-take_replicate : (m n a : ℕ) → n ≤ m → take n (replicate m a) ≡ replicate n a
+-- THE FRESH STATE
+take_replicate : {A : Type 0} (m n : ℕ) (a : A) → n ≤ m → take n (replicate m a) ≡ replicate n a
 take_replicate m zero a h = refl
 take_replicate zero (suc n) a h = absurd (omega arith)
 take_replicate (suc m) (suc n) a h = ap (λ l. a ∷ l) (take_replicate m n a (omega arith))
-
-pub stored_long : (m a i b : ℕ) → length (set (replicate m a) i b) ≡ m
-stored_long m a i b = length-set (replicate m a) i b ∙ length-replicate {A = ℕ} m a
 
 path_begins : (m n o : ℕ) → o < n → n ≤ m → get_or (take n (set (replicate m 0) 0 o)) 0 0 ≡ o
 path_begins m zero o h l = absurd (omega arith)
 path_begins zero (suc n) o h l = absurd (omega arith)
 path_begins (suc m) (suc n) o h l = refl
 
+node_filled : (n v : ℕ) (a : Node) → v < n → node_at v (replicate n a) ≡ a
+node_filled zero v a h = absurd (omega arith)
+node_filled (suc n) zero a h = refl
+node_filled (suc n) (suc v) a h = node_filled n v a (omega arith)
+
+-- as many nodes alike, but one
+module _ (m n v : ℕ) (a b : Node) (low : v < n) (few : n ≤ m) where
+  lent_nodes : take n (set (replicate m a) v b) ≡ set (replicate n a) v b
+  lent_nodes = take-set-lt n (replicate m a) v b low ∙ ap (λ l. set l v b) (take_replicate m n a few)
+
+  module _ {A : Type 0} (f : Node → A) where
+    column_but_one : map f (take n (set (replicate m a) v b)) ≡ set (replicate n (f a)) v (f b)
+    column_but_one = ap (map f) lent_nodes ∙ written f (replicate n a) v b ∙ ap (λ l. set l v (f b)) (map_replicate f n a)
+
+    column_alike : f b ≡ f a → map f (take n (set (replicate m a) v b)) ≡ replicate n (f a)
+    column_alike e =
+        ap (map f) lent_nodes ∙ unwritten f (replicate n a) v b (e ∙ sym (ap f (node_filled n v a low))) ∙ map_replicate f n a
+
+-- a node before anything is reached, and the origin's
+abbrev fresh_node : (bound : ℕ) → Node
+fresh_node b = record { price = 0; bound = b; kept = no_arc; remembered = no_node; status = Unreached }
+
 pub fresh_seen : (m : ℕ) (t : Table) (o at : ℕ) (g : Progress) → at ≡ o → t.origin ≡ o → t.origin < t.n → t.n ≤ m →
     (g.depth ≡ 1) → (g.contractions ≡ 0) → (g.extensions ≡ 0) → (g.deletions ≡ 0) →
-    seen (take t.n (set (replicate m 0) 0 o)) (take t.n (replicate m 0)) (take t.n (set (replicate m no_distance) at 0))
-    (take t.n (replicate m no_arc)) (take t.n (replicate m 0)) g ≡ fresh t
+    held (first_of t.n (run_of (set (replicate m 0) 0 o) (set (replicate m (fresh_node no_distance)) at (fresh_node 0)) g)) ≡ fresh t
 unfolding seen fresh nodes_of
 fresh_seen m t o at g ea eo h l ed ec ee ex =
     let n = t.n in
+    let a = fresh_node no_distance in
+    let b = fresh_node 0 in
     let below : o < n = omega arith in
-    rw (ea, ed, ec, ee, ex, path_begins m n o below l, take-set-lt n (replicate m no_distance) o 0 below, take_replicate m n no_distance l, take_replicate m n no_arc l, take_replicate m n 0 l, map_set bound_of (replicate n no_distance) o 0, map_replicate bound_of n no_distance, map_replicate arc_of n no_arc, some_bound 0 (λ z. omega arith), no_bound no_distance refl, no_kept no_arc refl, eo)
+    rw (ea, ed, ec, ee, ex, path_begins m n o below l, column_alike m n o a b below l (λ k. k.price) refl, column_but_one m n o a b below l (λ k. k.bound), column_alike m n o a b below l (λ k. k.kept) refl, column_alike m n o a b below l (λ k. status_number k.status) refl, map_set bound_of (replicate n no_distance) o 0, map_replicate bound_of n no_distance, map_replicate arc_of n no_arc, some_bound 0 (λ z. omega arith), no_bound no_distance refl, no_kept no_arc refl, eo)

@@ -1,2 +1,3 @@
 -- What a deletion, a contraction and an extension do to the arrays.
 pub mod Stepping
+pub mod Writing

@@ -1,50 +1,55 @@
 -- WHAT THE NODES REMEMBER: for each node the child of its best bid at its last scan, or no node where it has to scan again. Assumes nothing: these are
 -- definitions.
-use Rattle.std.specs.Prelude.{◌≡◌, true, false, cond, List, ◌⊎◌, ℕ, ◌-◌, ◌<◌, ◌≤◌, eqb, length, get_or, set}
+use Rattle.std.specs.Prelude.{◌≡◌, true, false, cond, List, ◌⊎◌, ℕ, ◌-◌, ◌<◌, ◌≤◌, eqb, length, get_or, set, Option, Some, None}
 use Rattle.std.proofs.Math.Option.{some}
 use Rattle.table.specs.Table.{Table, arc_count, tail_at, head_at, no_arc, no_node}
 use Rattle.auction.specs.Auction.{State, kept_at, status_at, to_child, unreached}
-use Rattle.steps.specs.declared.bids.LeastBid.{LeastBid}
+use Rattle.forward_star.specs.declared.star.Star.{Star}
+use Rattle.steps.specs.declared.state.Node.{Node}
+use Rattle.steps.specs.declared.state.Status.TheVariants.{Unreached}
 use Rattle.steps.specs.declared.state.RunState.{RunState}
-use Rattle.steps.specs.Seen.{held}
-use Rattle.forward_star.specs.Lists.{Star, Outgoing, Tails}
+use Rattle.steps.specs.declared.bids.LeastBid.{LeastBid}
+use Rattle.table.specs.Lent.{table_in}
+use Rattle.steps.specs.Seen.{held, prices_in, kepts_in, memory_in}
+
+-- the node at an index
+abbrev pub nobody : Node
+nobody = record { price = 0; bound = 0; kept = 0; remembered = 0; status = Unreached }
+
+abbrev pub node_at : (v : ℕ) → List Node → Node
+node_at v ns = get_or ns v nobody
 
 -- A NODE FORGETS its child
 
+abbrev pub forgetting : (v : ℕ) → List Node → List Node
+forgetting v ns = set ns v (record (node_at v ns) { remembered = no_node })
+
 -- the node that an arc leaves, where the arc is given up
-unfoldable pub without_tail : (arc : ℕ) → (tails remembered : List ℕ) → List ℕ
-without_tail i ts m = cond (eqb i no_arc) m (set m (get_or ts i 0) no_node)
+abbrev pub without_tail : (arc : ℕ) → (tails : List ℕ) → List Node → List Node
+without_tail i ts ns = cond (eqb i no_arc) ns (forgetting (get_or ts i 0) ns)
 
 -- the node before the terminal one on the path
 abbrev pub before : (depth : ℕ) → (path : List ℕ) → ℕ
 before d p = get_or p (d - 2) 0
 
-unfoldable pub without_before : (depth : ℕ) → (path remembered : List ℕ) → List ℕ
-without_before d p m = set m (before d p) no_node
-
 -- there is such a node, which can be looked up
-pub record HasBefore (depth : ℕ) (path remembered : List ℕ) : Type 0 where
+pub record HasBefore (depth : ℕ) (path : List ℕ) (nodes : List Node) : Type 0 where
   -- the path has two nodes or more,
   pub some_node : 2 ≤ depth
   -- which stand in its array,
   pub on_path : depth ≤ length path
   -- and the node has an entry
-  pub inside : before depth path < length remembered
-
--- ONE ARC OFFERED to its head: nothing is kept, or the head, which is unreached, gives up the arc that it kept
-abbrev pub GivesUp : (head position : ℕ) → (tails status kept remembered kept' remembered' : List ℕ) → Type 0
-GivesUp j i ts s k m k' m' =
-    ((k' ≡ k) × (m' ≡ m)) ⊎ ((get_or s j 0 ≡ 0) × ((k' ≡ set k j i) × (m' ≡ without_tail (get_or k j 0) ts m)))
+  pub inside : before depth path < length nodes
 
 -- each arc that is kept stands in the column of tails, whose entries are nodes
-pub record KeptIn (nodes : ℕ) (tails kept : List ℕ) : Type 0 where
-  pub listed : (u : ℕ) → u < length kept → (get_or kept u 0 ≡ no_arc → ⊥) → get_or kept u 0 < length tails
-  pub tail_in : (i : ℕ) → i < length tails → get_or tails i 0 < nodes
+pub record KeptIn (tails : List ℕ) (nodes : List Node) : Type 0 where
+  pub listed : (u : ℕ) → u < length nodes → (get_or (kepts_in nodes) u 0 ≡ no_arc → ⊥) → get_or (kepts_in nodes) u 0 < length tails
+  pub tail_in : (i : ℕ) → i < length tails → get_or tails i 0 < length nodes
 
--- and there is a tail for each arc
-pub record TailsKnown (nodes : ℕ) (tails heads kept : List ℕ) : Type 0 where
-  pub as_long : length tails ≡ length heads
-  pub kept_in : KeptIn nodes tails kept
+-- there are as many nodes as the table has, and each kept arc is one of its arcs
+pub record Ready (star : Star) (nodes : List Node) : Type 0 where
+  pub count : length nodes ≡ star.table.n
+  pub kept_in : KeptIn star.table.columns.tails.now nodes
 
 -- an arc of the table that leads into node u and leaves a node
 pub record ArcInto (t : Table) (u k : ℕ) : Type 0 where
@@ -79,10 +84,9 @@ pub record Remembering (t : Table) (which : ℕ → Type 0) (remembered remember
   -- and no node begins to remember
   pub nothing : (u : ℕ) → get_or remembered u 0 ≡ no_node → get_or remembered' u 0 ≡ no_node
 
--- so it is, of these nodes, in each table whose forward star and tails these are
-abbrev pub Remembers : Star → (tails : List ℕ) → (which : State → ℕ → Type 0) → (remembered remembered' : List ℕ) → (a b : RunState) → Type 0
-Remembers o ts which m m' a b =
-    (t : Table) → Outgoing t o → Tails t ts o.lengths → KeptArcs t (held a) → Remembering t (which (held a)) m m' (held a) (held b)
+-- so it is, of these nodes, between two states of a run in which the kept arcs are arcs of the table
+abbrev pub Remembers : Table → (which : State → ℕ → Type 0) → (a b : RunState) → Type 0
+Remembers t which a b = KeptArcs t (held a) → Remembering t (which (held a)) (memory_in a.nodes) (memory_in b.nodes) (held a) (held b)
 
 -- all nodes but one
 abbrev pub but : (v : ℕ) → State → ℕ → Type 0
@@ -92,14 +96,23 @@ but v x u = u ≡ v → ⊥
 abbrev pub those_reached : State → ℕ → Type 0
 those_reached x u = unreached < status_at x u
 
+-- the child that a bid is for
+abbrev pub child_of : Star → LeastBid → ℕ
+child_of star c = get_or star.table.columns.heads.now c.arc 0
+
+-- a node remembers a child
+abbrev pub remembering : (v child : ℕ) → RunState → RunState
+remembering v j r = record r { nodes = set r.nodes v (record (node_at v r.nodes) { remembered = j }) }
+
 -- AN ITERATION at node v, whose least bid is given
-pub record Remembered (v origin : ℕ) (least : LeastBid) (o : Star) (tails remembered remembered' : List ℕ) (a b : RunState) : Type 0 where
+pub record Remembered (v : ℕ) (least : Option LeastBid) (star : Star) (a b : RunState) : Type 0 where
   -- a deletion: the node before it forgets
-  pub deletes : least.arc ≡ no_arc → remembered' ≡ without_before a.progress.depth a.path remembered
+  pub deletes : least ≡ None → memory_in b.nodes ≡ memory_in (forgetting (before a.progress.depth a.path) a.nodes)
   -- a contraction: the node remembers the child of the bid, and the node before it, where it is not the origin, forgets
-  pub contracts : (least.arc ≡ no_arc → ⊥) → get_or a.price v 0 < least.value → (v ≡ origin → ⊥) →
-      remembered' ≡ without_before a.progress.depth a.path (set remembered v least.child)
-  pub at_origin : (least.arc ≡ no_arc → ⊥) → get_or a.price v 0 < least.value → v ≡ origin → remembered' ≡ set remembered v least.child
+  pub contracts : (c : LeastBid) → least ≡ Some c → get_or (prices_in a.nodes) v 0 < c.value → (v ≡ star.table.origin → ⊥) →
+      memory_in b.nodes ≡ memory_in (forgetting (before a.progress.depth a.path) (remembering v (child_of star c) a).nodes)
+  pub at_origin : (c : LeastBid) → least ≡ Some c → get_or (prices_in a.nodes) v 0 < c.value → v ≡ star.table.origin →
+      memory_in b.nodes ≡ memory_in (remembering v (child_of star c) a).nodes
   -- an extension: the node remembers the child of the bid; then nodes may lose children to a node that is reached
-  pub extends : (least.arc ≡ no_arc → ⊥) → least.value ≤ get_or a.price v 0 →
-      Remembers o tails those_reached (set remembered v least.child) remembered' a b
+  pub extends : (c : LeastBid) → least ≡ Some c → c.value ≤ get_or (prices_in a.nodes) v 0 →
+      Remembers (table_in star.table) those_reached (remembering v (child_of star c) a) b

@@ -1,60 +1,60 @@
 -- What the small functions of the run leave behind. Assumes nothing: these are definitions.
-use Rattle.std.specs.Prelude.{◌≡◌, true, List, ℕ, ◌+◌, ◌≤◌, ◌<◌, length, get_or}
-use Rattle.std.proofs.Math.Option.{Option, none, some}
-use Rattle.table.specs.Table.{Table, tail_at, head_at, length_at, no_arc}
-use Rattle.auction.specs.Auction.{State, Bid, bid, with_bid, to_child, price_at, iteration, offer, distance, lower_bid, Ended, iterations, was_reached, bound_at}
+use Rattle.std.specs.Prelude.{◌≡◌, ◌&&◌, not, true, cond, List, ℕ, ◌+◌, ◌≤◌, ◌<◌, ltb, set, length, get_or, Option, Some, None}
+use Rattle.std.proofs.Math.Option as maybe
+use Rattle.std.proofs.Math.Option.{none, some}
+use Rattle.table.specs.Table.{Table, tail_at, head_at, length_at}
+use Rattle.auction.specs.Auction.{State, Bid, bid, with_bid, lower_bid, to_child, price_at, iteration, improves, unreached, Ended, iterations, was_reached, bound_at}
 use Rattle.auction.specs.Scans.{scans}
 use Rattle.auction.specs.HandOver.{first_missing}
-use Rattle.steps.specs.declared.state.Progress.{Progress}
-use Rattle.steps.specs.declared.state.RunState.{RunState}
+use Rattle.forward_star.specs.declared.star.Star.{Star}
 use Rattle.steps.specs.declared.bids.LeastBid.{LeastBid}
-use Rattle.steps.specs.Seen.{seen, held, bid_of, greatest_sum, too_many}
-use Rattle.forward_star.specs.Lists.{Star, Outgoing}
+use Rattle.steps.specs.declared.state.Node.{Node}
+use Rattle.steps.specs.declared.state.RunState.{RunState}
+use Rattle.steps.specs.Seen.{held, bound_of, arc_of, status_number, prices_in, bounds_in, greatest_sum, too_many}
+use Rattle.steps.specs.Memory.{node_at, without_tail, child_of}
 
--- WHAT BECOMES OF THE ARRAYS: for each table whose forward star this is, they hold what `f` makes of the state that they held before.
-abbrev pub Becomes : (o : Star) → (f : Table → State → State) → (a b : RunState) → Type 0
-Becomes o f a b = (t : Table) → Outgoing t o → held b ≡ f t (held a)
+-- WHAT BECOMES OF A RUN'S STATE: what `f` makes of the state that was held
+abbrev pub Becomes : (f : State → State) → (a b : RunState) → Type 0
+Becomes f a b = held b ≡ f (held a)
 
--- One arc, whose head and the bound that it offers are given, has been offered to its head.
-pub record ArcOffered (head position bound : ℕ) (bounds kept status bounds' kept' : List ℕ) : Type 0 where
-  -- the state is the one that `offer` gives, in each table that has such an arc there
-  pub as_defined : (t : Table) (v : ℕ) (path price : List ℕ) (g : Progress) → tail_at t position ≡ v → head_at t position ≡ head →
-      distance (seen path price bounds kept status g) v + length_at t position ≡ bound →
-      seen path price bounds' kept' status g ≡ offer t v position (seen path price bounds kept status g)
-  -- no distance of a reached node has changed
-  pub fixed : (v : ℕ) → 0 < get_or status v 0 → get_or bounds' v 0 ≡ get_or bounds v 0
+-- A node keeps an arc, with the bound that it offers
+abbrev pub keeping : (node position bound : ℕ) → List Node → List Node
+keeping j i b ns = set ns j (record (node_at j ns) { bound = b; kept = i })
+
+-- ONE ARC OFFERED to its head: kept, and the arc that was kept before given up, where the head is unreached and the bound is better
+abbrev pub offered_arc : (head position bound : ℕ) → (tails : List ℕ) → List Node → List Node
+offered_arc j i b ts ns =
+    let n = node_at j ns in
+    cond (not (ltb unreached (status_number n.status)) && improves b i (bound_of n.bound) (arc_of n.kept)) (keeping j i b (without_tail n.kept ts ns)) ns
 
 -- the lower of two bids, the first where they are equal
-unfoldable pub lower_of : Option Bid → Option Bid → Option Bid
+unfoldable pub lower_of : maybe.Option Bid → maybe.Option Bid → maybe.Option Bid
 lower_of none b = b
 lower_of (some a) b = some (lower_bid a b)
 
 -- the bid that the code holds
-abbrev pub bid_in : LeastBid → Option Bid
-bid_in l = bid_of l.value l.arc
+abbrev pub bid_in : Option LeastBid → maybe.Option Bid
+bid_in None = none
+bid_in (Some c) = some (bid c.value c.arc)
 
 -- the bid over the arc at a position, where that leads to a child
-abbrev pub bid_over : (t : Table) → (position : ℕ) → State → Option Bid
+abbrev pub bid_over : (t : Table) → (position : ℕ) → State → maybe.Option Bid
 bid_over t i x = with_bid (to_child t (tail_at t i) i x) (bid (length_at t i + price_at x (head_at t i)) i) none
 
--- the arc leads to the child, where there is an arc
-abbrev pub Leads : (heads : List ℕ) → (arc child : ℕ) → Type 0
-Leads hs arc child = (arc ≡ no_arc → ⊥) → child ≡ get_or hs arc 0
-
--- What an iteration at node v may rely on, whose least bid is `value` over `arc`
-pub record CanStep (v origin value arc depth : ℕ) (heads path price bound : List ℕ) : Type 0 where
+-- What an iteration at node v may rely on, whose least bid is given
+pub record CanStep (v : ℕ) (least : Option LeastBid) (star : Star) (a : RunState) : Type 0 where
   -- it is no stop: the origin has a child
-  pub no_stop : arc ≡ no_arc → v ≡ origin → ⊥
+  pub no_stop : least ≡ None → v ≡ star.table.origin → ⊥
   -- the arc of the least bid is an arc of the table
-  pub listed : (arc ≡ no_arc → ⊥) → arc < length heads
+  pub listed : (c : LeastBid) → least ≡ Some c → c.arc < length star.table.columns.heads.now
   -- where the path is to be extended there is room for one node more
-  pub room : (arc ≡ no_arc → ⊥) → value ≤ get_or price v 0 → depth < length path
+  pub room : (c : LeastBid) → least ≡ Some c → c.value ≤ get_or (prices_in a.nodes) v 0 → a.progress.depth < length a.path
   -- the child has a bound
-  pub bounded : (arc ≡ no_arc → ⊥) → get_or bound (get_or heads arc 0) 0 ≤ greatest_sum
+  pub bounded : (c : LeastBid) → least ≡ Some c → get_or (bounds_in a.nodes) (child_of star c) 0 ≤ greatest_sum
 
--- AN ITERATION at node v, whose least bid is given: the arrays hold the next state.
-abbrev pub Steps : (v origin : ℕ) → LeastBid → Star → (a b : RunState) → Type 0
-Steps v origin least o a b = (t : Table) → Outgoing t o → t.origin ≡ origin → iteration (bid_in least) t v (held a) ≡ some (held b)
+-- AN ITERATION at node v, whose least bid is given: the next state is held.
+abbrev pub Steps : (v : ℕ) → Option LeastBid → Table → (a b : RunState) → Type 0
+Steps v least t a b = iteration (bid_in least) t v (held a) ≡ some (held b)
 
 -- A RUN HAS ENDED as `e` says; `missing` is the index of the first wanted node that was not reached, or their number where all were; so many scans
 -- were made

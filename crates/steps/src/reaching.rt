@@ -1,16 +1,16 @@
 // Reaching a node: its outgoing arcs are offered to their heads, in table order.
-ghost use Rattle.std.specs.Prelude.{◌≡◌, List, [], ◌∷◌, ℕ, ◌+◌, ◌≤◌, ◌<◌, length, get_or};
+ghost use Rattle.std.specs.Prelude.{◌≡◌, List, ℕ, ◌+◌, ◌≤◌, ◌<◌, length, get_or};
 ghost use Rattle.table.specs.Table.{arc_count, no_arc, no_distance};
+ghost use Rattle.table.specs.Lent.{table_in};
 ghost use Rattle.auction.specs.Auction.{improves, offers, reach};
 ghost use Rattle.steps.specs.declared.state.Progress.{Progress};
-ghost use Rattle.steps.specs.Seen.{AllLong, bound_of, arc_of, arrays, greatest_sum};
-ghost use Rattle.forward_star.specs.Lists.{star, lent_star, SomeTable};
-ghost use Rattle.steps.specs.Memory.{without_tail, GivesUp, KeptIn, TailsKnown, Remembers, but};
-ghost use Rattle.steps.specs.Steps.{Becomes, ArcOffered};
+ghost use Rattle.steps.specs.Seen.{bound_of, arc_of, run_of, greatest_sum, bounds_in, statuses_in};
+ghost use Rattle.steps.specs.Memory.{without_tail, KeptIn, Ready, Remembers, but};
+ghost use Rattle.steps.specs.Steps.{Becomes, offered_arc};
 
-use super::long;
-use super::state::{NO_NODE, RunState};
-use table::{NO_ARC, wide};
+use super::state::{NO_NODE, Node, Status};
+use forward_star::star::Star;
+use table::NO_ARC;
 
 // Whether a bound offered by the arc at a position is to be kept: it is smaller, or equal and from a lower position. A node that has
 // no bound takes any.
@@ -25,102 +25,64 @@ fn improves(offered: u64, position: u16, bound: u64, kept: u16) -> bool
 }
 
 // An arc is given up: the node that it leaves has lost a child, so it forgets the child that it remembers and scans again.
-fn forget_tail(arc: u16, tails: &[u16], remembered: &mut [u16])
-    requires { (arc ≡ no_arc → ⊥) → (arc < length tails.now) × (get_or tails.now arc 0 < length remembered.old) }
-    ensures { remembered.new ≡ without_tail arc tails.now remembered.old }
+fn forget_tail(arc: u16, tails: &[u16], nodes: &mut [Node])
+    requires { (arc ≡ no_arc → ⊥) → (arc < length tails.now) × (get_or tails.now arc 0 < length nodes.old) }
+    ensures { nodes.new ≡ without_tail arc tails.now nodes.old }
 {
     if arc != NO_ARC {
-        let i = wide(arc);
-        let u = wide(tails[i]);
-        remembered[u] = NO_NODE;
+        let u = usize::from(tails[usize::from(arc)]);
+        nodes[u].remembered = NO_NODE;
     }
 }
 
 // Offers one arc to its head, which keeps it where it is unreached and the offer improves its bound, and gives up the arc that it kept.
-fn offer(
-    head: usize,
-    position: u16,
-    offered: u64,
-    tails: &[u16],
-    bound: &mut [u64],
-    kept: &mut [u16],
-    remembered: &mut [u16],
-    status: &[u8],
-)
-    requires head_in_bounds { (head < length bound.old) × ((head < length kept.old) × (head < length status.now)) }
-    requires offered_lt_no_distance { (offered < no_distance) × (position < no_arc) }
-    requires kept_in { KeptIn (length remembered.old) tails.now kept.old }
-    ensures offers { ArcOffered head position offered bound.old kept.old status.now bound.new kept.new }
-    ensures gives_up { GivesUp head position tails.now status.now kept.old remembered.old kept.new remembered.new }
+fn offer(head: usize, position: u16, offered: u64, tails: &[u16], nodes: &mut [Node])
+    requires head_in_bounds { head < length nodes.old }
+    requires offered_lt_no_distance { offered < no_distance }
+    requires kept_in { KeptIn tails.now nodes.old }
+    ensures { nodes.new ≡ offered_arc head position offered tails.now nodes.old }
 {
-    if status[head] == RunState::UNREACHED {
-        if improves(offered, position, bound[head], kept[head]) {
-            forget_tail(kept[head], tails, remembered);
-            bound[head] = offered;
-            kept[head] = position;
-        }
+    let node = nodes[head];
+    if !node.status.was_reached() && improves(offered, position, node.bound, node.kept) {
+        forget_tail(node.kept, tails, nodes);
+        let node = &mut nodes[head];
+        node.bound = offered;
+        node.kept = position;
     }
 }
 
 // Offers every arc out of a reached node, whose distance is given, in table order: only the node's own arcs are looked at.
-fn offer_arcs(
-    v: usize,
-    distance: u64,
-    tails: &[u16],
-    heads: &[u16],
-    lengths: &[u32],
-    first: &[u16],
-    next: &[u16],
-    bound: &mut [u64],
-    kept: &mut [u16],
-    remembered: &mut [u16],
-    status: &[u8],
-)
-    requires some_table { SomeTable (star heads.now lengths.now first.now next.now) }
-    requires all_long { AllLong (length first.now) (bound.old ∷ kept.old ∷ remembered.old ∷ status.now ∷ []) }
-    requires v_in_bounds { (v < length first.now) × ((distance ≤ greatest_sum) × ((0 < get_or status.now v 0) × (get_or bound.old v 0 ≡ distance))) }
-    requires tails_known { TailsKnown (length first.now) tails.now heads.now kept.old }
-    ensures offers { (path price : List ℕ) (g : Progress) → Becomes (lent_star heads lengths first next) (λ t. offers (arc_count t) 0 t v)
-        (arrays path price bound.old kept.old status.now g) (arrays path price bound.new kept.new status.now g) }
-    ensures remembers { (path price : List ℕ) (g : Progress) → Remembers (lent_star heads lengths first next) tails.now (but v) remembered.old remembered.new
-        (arrays path price bound.old kept.old status.now g) (arrays path price bound.new kept.new status.now g) }
+fn offer_arcs(v: usize, distance: u64, star: &Star, nodes: &mut [Node])
+    requires ready { Ready star.now nodes.old }
+    requires v_in_bounds { (v < star.now.table.n) × (distance ≤ greatest_sum) }
+    requires distance { (0 < get_or (statuses_in nodes.old) v 0) × (get_or (bounds_in nodes.old) v 0 ≡ distance) }
+    ensures offers { (path : List ℕ) (g : Progress) → Becomes (offers (arc_count (table_in star.now.table)) 0 (table_in star.now.table) v)
+        (run_of path nodes.old g) (run_of path nodes.new g) }
+    ensures remembers { (path : List ℕ) (g : Progress) → Remembers (table_in star.now.table) (but v) (run_of path nodes.old g) (run_of path nodes.new g) }
 {
-    let mut p = first[v];
+    let tails = star.table.columns.tails;
+    let heads = star.table.columns.heads;
+    let lengths = star.table.columns.lengths;
+    let next = star.next;
+    let mut p = star.first[v];
     while p != NO_ARC {
-        let i = wide(p);
-        let head = wide(heads[i]);
-        let offered = distance + long(lengths[i]);
-        offer(head, p, offered, tails, bound, kept, remembered, status);
+        let i = usize::from(p);
+        let head = usize::from(heads[i]);
+        let arc_length = u64::from(lengths[i]);
+        offer(head, p, distance + arc_length, tails, nodes);
         p = next[i];
     }
 }
 
 // Marks a node as reached, which fixes its distance, and offers its arcs.
-pub fn reach(
-    v: usize,
-    tails: &[u16],
-    heads: &[u16],
-    lengths: &[u32],
-    first: &[u16],
-    next: &[u16],
-    bound: &mut [u64],
-    kept: &mut [u16],
-    remembered: &mut [u16],
-    status: &mut [u8],
-)
-    requires some_table { SomeTable (star heads.now lengths.now first.now next.now) }
-    requires all_long { AllLong (length first.now) (bound.old ∷ kept.old ∷ remembered.old ∷ status.old ∷ []) }
-    requires v_in_bounds { (v < length first.now) × (get_or bound.old v 0 ≤ greatest_sum) }
-    requires tails_known { TailsKnown (length first.now) tails.now heads.now kept.old }
-    ensures reaches { (path price : List ℕ) (g : Progress) → Becomes (lent_star heads lengths first next) (λ t. reach t v)
-        (arrays path price bound.old kept.old status.old g) (arrays path price bound.new kept.new status.new g) }
-    ensures remembers { (path price : List ℕ) (g : Progress) → get_or status.old v 0 ≡ 0 →
-        Remembers (lent_star heads lengths first next) tails.now (but v) remembered.old remembered.new
-        (arrays path price bound.old kept.old status.old g) (arrays path price bound.new kept.new status.new g) }
+pub fn reach(v: usize, star: &Star, nodes: &mut [Node])
+    requires ready { Ready star.now nodes.old }
+    requires v_in_bounds { (v < star.now.table.n) × (get_or (bounds_in nodes.old) v 0 ≤ greatest_sum) }
+    ensures reaches { (path : List ℕ) (g : Progress) → Becomes (reach (table_in star.now.table) v) (run_of path nodes.old g) (run_of path nodes.new g) }
+    ensures remembers { (path : List ℕ) (g : Progress) → get_or (statuses_in nodes.old) v 0 ≡ 0 →
+        Remembers (table_in star.now.table) (but v) (run_of path nodes.old g) (run_of path nodes.new g) }
 {
-    status[v] = RunState::REACHED;
-    let distance = bound[v];
-    offer_arcs(
-        v, distance, tails, heads, lengths, first, next, bound, kept, remembered, status,
-    );
+    nodes[v].status = Status::Reached;
+    let distance = nodes[v].bound;
+    offer_arcs(v, distance, star, nodes);
 }

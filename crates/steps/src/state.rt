@@ -1,13 +1,58 @@
-// The state of a run: arrays that a run lends to small functions, and numbers that travel by value.
-ghost use Rattle.std.specs.Prelude.{◌≡◌, ◌≤◌, ◌<◌, length};
+// The state of a run: the nodes and the path, which are lent to small functions, and numbers that travel by value.
+ghost use Rattle.std.specs.Prelude.{◌≡◌, ◌≤◌, ◌<◌, length, ltb, eqb};
 ghost use Rattle.table.specs.Table.{Table, most_nodes};
-ghost use Rattle.auction.specs.Auction.{fresh};
-ghost use Rattle.steps.specs.Seen.{first_of, held, Sized};
+ghost use Rattle.auction.specs.Auction.{fresh, unreached, deleted};
+ghost use Rattle.steps.specs.Seen.{status_number, first_of, held};
 
-use table::{MOST_NODES, NO_ARC, NO_DISTANCE, wide};
+use table::{MOST_NODES, NO_ARC, NO_DISTANCE};
 
-// In the array of remembered children: none, so that the node has to scan.
+// What a node remembers where it has to scan.
 pub const NO_NODE: u16 = 65535;
+
+// Whether a node has been reached, and deleted since.
+#[derive(Clone, Copy)]
+pub enum Status {
+    Unreached,
+    Reached,
+    Deleted,
+}
+
+impl Status {
+    // A deleted node has been reached before.
+    pub fn was_reached(self) -> bool
+        ensures { result ≡ ltb unreached (status_number self) }
+    {
+        !matches!(self, Status::Unreached)
+    }
+
+    pub fn is_deleted(self) -> bool
+        ensures { result ≡ eqb (status_number self) deleted }
+    {
+        matches!(self, Status::Deleted)
+    }
+}
+
+// A node: its price, its bound, the position of its kept arc, the child that it remembers and its status. Positions and nodes that are not there are told
+// by NO_ARC, NO_DISTANCE and NO_NODE, as in the columns that are handed over: an Option would make each node a third larger.
+#[derive(Clone, Copy)]
+pub struct Node {
+    pub price: u64,
+    pub bound: u64,
+    pub kept: u16,
+    pub remembered: u16,
+    pub status: Status,
+}
+
+impl Node {
+    // A node before anything is reached.
+    pub const FRESH: Node = Node {
+        price: 0,
+        bound: NO_DISTANCE,
+        kept: NO_ARC,
+        remembered: NO_NODE,
+        status: Status::Unreached,
+    };
+}
 
 // How many nodes are on the path, and the three counts.
 #[derive(Clone, Copy)]
@@ -27,35 +72,29 @@ pub struct RunEnd {
     pub progress: Progress,
 }
 
-// The path from the origin on, with room for the most nodes; for each node its price, bound, kept arc and status; the progress.
+// The path from the origin on, with room for the most nodes, as many as the progress says; the nodes; the progress.
 #[derive(Drop)]
 pub struct RunState {
     pub path: [u16; MOST_NODES],
-    pub price: [u64; MOST_NODES],
-    pub bound: [u64; MOST_NODES],
-    pub kept: [u16; MOST_NODES],
-    pub status: [u8; MOST_NODES],
+    pub nodes: [Node; MOST_NODES],
     pub progress: Progress,
 }
 
 impl RunState {
-    pub const UNREACHED: u8 = 0;
-
-    pub const REACHED: u8 = 1;
-
-    pub const DELETED: u8 = 2;
-
     // The state before anything is reached, for any number of nodes above the origin.
     pub fn fresh(origin: u16) -> RunState
         requires { origin < most_nodes }
         ensures so { (t : Table) → t.origin ≡ origin → t.origin < t.n → t.n ≤ most_nodes → held (first_of t.n result) ≡ fresh t }
-        ensures long { (length result.path ≡ most_nodes) × Sized most_nodes result.price result.bound result.kept result.status }
+        ensures long { (length result.path ≡ most_nodes) × (length result.nodes ≡ most_nodes) }
     {
-        let at = wide(origin);
-        let mut path: [u16; MOST_NODES] = [0; MOST_NODES];
+        let mut path = [0; MOST_NODES];
         path[0] = origin;
-        let mut bound: [u64; MOST_NODES] = [NO_DISTANCE; MOST_NODES];
-        bound[at] = 0;
+        let mut nodes = [Node::FRESH; MOST_NODES];
+        let at = usize::from(origin);
+        nodes[at] = Node {
+            bound: 0,
+            ..Node::FRESH
+        };
         let progress = Progress {
             depth: 1,
             contractions: 0,
@@ -63,12 +102,9 @@ impl RunState {
             deletions: 0,
         };
         RunState {
-            path: path,
-            price: [0; MOST_NODES],
-            bound: bound,
-            kept: [NO_ARC; MOST_NODES],
-            status: [RunState::UNREACHED; MOST_NODES],
-            progress: progress,
+            path,
+            nodes,
+            progress,
         }
     }
 }

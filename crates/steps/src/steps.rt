@@ -1,46 +1,39 @@
 // An iteration: a deletion, a contraction or an extension at the terminal node.
-ghost use Rattle.std.specs.Prelude.{◌≡◌, List, [], ◌∷◌, ℕ, ◌+◌, ◌≤◌, ◌<◌, length, get_or};
+ghost use Rattle.std.specs.Prelude.{◌≡◌, List, ℕ, ◌+◌, ◌≤◌, ◌<◌, length, get_or};
 ghost use Rattle.table.specs.Table.{Table};
+ghost use Rattle.table.specs.Lent.{table_in};
 ghost use Rattle.auction.specs.Auction.{deletion, contraction, extension};
-ghost use Rattle.steps.specs.Seen.{AllLong, seen, arrays, lent, back, greatest_sum, too_many};
-ghost use Rattle.forward_star.specs.Lists.{star, lent_star, SomeTable};
-ghost use Rattle.steps.specs.Memory.{without_before, HasBefore, TailsKnown, Remembers, Remembered, those_reached};
-ghost use Rattle.steps.specs.Steps.{Becomes, CanStep, Leads, Steps};
+ghost use Rattle.steps.specs.Seen.{run_of, bounds_in, memory_in, greatest_sum, too_many};
+ghost use Rattle.steps.specs.Memory.{before, forgetting, HasBefore, Ready, Remembers, Remembered, those_reached};
+ghost use Rattle.steps.specs.Steps.{Becomes, CanStep, Steps};
 
 use super::bids::LeastBid;
 use super::reaching::reach;
-use super::state::{NO_NODE, Progress, RunState};
-use table::{NO_ARC, wide};
+use super::state::{NO_NODE, Node, Progress, Status};
+use forward_star::star::Star;
 
 // The node before the terminal one on the path forgets the child that it remembers, which is the terminal node: it scans again.
-fn forget_before(depth: usize, path: &[u16], remembered: &mut [u16])
-    requires { HasBefore depth path.now remembered.old }
-    ensures { remembered.new ≡ without_before depth path.now remembered.old }
+fn forget_before(depth: usize, path: &[u16], nodes: &mut [Node])
+    requires { HasBefore depth path.now nodes.old }
+    ensures { nodes.new ≡ forgetting (before depth path.now) nodes.old }
 {
-    let u = wide(path[depth - 2]);
-    remembered[u] = NO_NODE;
+    let u = usize::from(path[depth - 2]);
+    nodes[u].remembered = NO_NODE;
 }
 
 // A node without children is deleted and leaves the path; the node before it scans again.
-fn delete(
-    g: Progress,
-    v: usize,
-    path: &[u16],
-    remembered: &mut [u16],
-    status: &mut [u8],
-) -> Progress
-    requires { HasBefore g.depth path.now remembered.old × ((v < length status.old) × (g.deletions < too_many)) }
-    ensures deletes { (nodes price bound kept : List ℕ) →
-        seen nodes price bound kept status.new result ≡ deletion v (seen nodes price bound kept status.old g) }
-    ensures remembers { remembered.new ≡ without_before g.depth path.now remembered.old }
+fn delete(g: Progress, v: usize, path: &[u16], nodes: &mut [Node]) -> Progress
+    requires has_before { HasBefore g.depth path.now nodes.old }
+    requires v_in_bounds { (v < length nodes.old) × (g.deletions < too_many) }
+    ensures deletes { Becomes (deletion v) (run_of path.now nodes.old g) (run_of path.now nodes.new result) }
+    ensures remembers { memory_in nodes.new ≡ memory_in (forgetting (before g.depth path.now) nodes.old) }
 {
-    forget_before(g.depth, path, remembered);
-    status[v] = RunState::DELETED;
+    forget_before(g.depth, path, nodes);
+    nodes[v].status = Status::Deleted;
     Progress {
         depth: g.depth - 1,
-        contractions: g.contractions,
-        extensions: g.extensions,
         deletions: g.deletions + 1,
+        ..g
     }
 }
 
@@ -48,35 +41,29 @@ fn delete(
 fn contract(
     g: Progress,
     v: usize,
-    origin: usize,
+    origin: u16,
     value: u64,
     path: &[u16],
-    price: &mut [u64],
-    remembered: &mut [u16],
+    nodes: &mut [Node],
 ) -> Progress
-    requires le_depth { (1 ≤ g.depth) × ((v < length price.old) × (g.contractions < too_many)) }
-    requires has_before { (v ≡ origin → ⊥) → HasBefore g.depth path.now remembered.old }
-    ensures contracts { (t : Table) (nodes bound kept status : List ℕ) → t.origin ≡ origin →
-        seen nodes price.new bound kept status result ≡ contraction t v value (seen nodes price.old bound kept status g) }
-    ensures at_origin { v ≡ origin → remembered.new ≡ remembered.old }
-    ensures remembers { (v ≡ origin → ⊥) → remembered.new ≡ without_before g.depth path.now remembered.old }
+    requires v_in_bounds { (1 ≤ g.depth) × ((v < length nodes.old) × (g.contractions < too_many)) }
+    requires has_before { (v ≡ origin → ⊥) → HasBefore g.depth path.now nodes.old }
+    ensures contracts { (t : Table) → t.origin ≡ origin → Becomes (contraction t v value) (run_of path.now nodes.old g) (run_of path.now nodes.new result) }
+    ensures at_origin { v ≡ origin → memory_in nodes.new ≡ memory_in nodes.old }
+    ensures remembers { (v ≡ origin → ⊥) → memory_in nodes.new ≡ memory_in (forgetting (before g.depth path.now) nodes.old) }
 {
-    price[v] = value;
-    let contractions = g.contractions + 1;
-    if v == origin {
-        return Progress {
-            depth: g.depth,
-            contractions: contractions,
-            extensions: g.extensions,
-            deletions: g.deletions,
-        };
+    nodes[v].price = value;
+    let contracted = Progress {
+        contractions: g.contractions + 1,
+        ..g
+    };
+    if v == usize::from(origin) {
+        return contracted;
     }
-    forget_before(g.depth, path, remembered);
+    forget_before(g.depth, path, nodes);
     Progress {
         depth: g.depth - 1,
-        contractions: contractions,
-        extensions: g.extensions,
-        deletions: g.deletions,
+        ..contracted
     }
 }
 
@@ -84,41 +71,26 @@ fn contract(
 pub fn extend(
     g: Progress,
     child: u16,
-    tails: &[u16],
-    heads: &[u16],
-    lengths: &[u32],
-    first: &[u16],
-    next: &[u16],
+    star: &Star,
     path: &mut [u16],
-    bound: &mut [u64],
-    kept: &mut [u16],
-    remembered: &mut [u16],
-    status: &mut [u8],
+    nodes: &mut [Node],
 ) -> Progress
-    requires some_table { SomeTable (star heads.now lengths.now first.now next.now) }
-    requires all_long { AllLong (length first.now) (bound.old ∷ kept.old ∷ remembered.old ∷ status.old ∷ []) }
-    requires child_in_bounds { (child < length first.now) × ((get_or bound.old child 0 ≤ greatest_sum) × ((g.depth < length path.old) × (g.extensions < too_many))) }
-    requires tails_known { TailsKnown (length first.now) tails.now heads.now kept.old }
-    ensures extends { (price : List ℕ) → Becomes (lent_star heads lengths first next) (λ t. extension t child)
-        (arrays path.old price bound.old kept.old status.old g) (arrays path.new price bound.new kept.new status.new result) }
-    ensures remembers { (price : List ℕ) → Remembers (lent_star heads lengths first next) tails.now those_reached remembered.old remembered.new
-        (arrays path.old price bound.old kept.old status.old g) (arrays path.new price bound.new kept.new status.new result) }
+    requires ready { Ready star.now nodes.old }
+    requires child_in_bounds { (child < star.now.table.n) × (get_or (bounds_in nodes.old) child 0 ≤ greatest_sum) }
+    requires room { (g.depth < length path.old) × (g.extensions < too_many) }
+    ensures extends { Becomes (extension (table_in star.now.table) child) (run_of path.old nodes.old g) (run_of path.new nodes.new result) }
+    ensures remembers { Remembers (table_in star.now.table) those_reached (run_of path.old nodes.old g) (run_of path.new nodes.new result) }
 {
-    let depth = g.depth;
-    path[depth] = child;
+    path[g.depth] = child;
     let longer = Progress {
-        depth: depth + 1,
-        contractions: g.contractions,
+        depth: g.depth + 1,
         extensions: g.extensions + 1,
-        deletions: g.deletions,
+        ..g
     };
-    let v = wide(child);
-    if status[v] != RunState::UNREACHED {
-        return longer;
+    let v = usize::from(child);
+    if !nodes[v].status.was_reached() {
+        reach(v, star, nodes);
     }
-    reach(
-        v, tails, heads, lengths, first, next, bound, kept, remembered, status,
-    );
     longer
 }
 
@@ -127,52 +99,27 @@ pub fn extend(
 pub fn step(
     g: Progress,
     v: usize,
-    least: LeastBid,
-    origin: usize,
-    tails: &[u16],
-    heads: &[u16],
-    lengths: &[u32],
-    first: &[u16],
-    next: &[u16],
+    least: Option<LeastBid>,
+    star: &Star,
     path: &mut [u16],
-    price: &mut [u64],
-    bound: &mut [u64],
-    kept: &mut [u16],
-    remembered: &mut [u16],
-    status: &mut [u8],
+    nodes: &mut [Node],
 ) -> Progress
-    requires some_table { SomeTable (star heads.now lengths.now first.now next.now) }
-    requires all_long { AllLong (length first.now) (price.old ∷ bound.old ∷ kept.old ∷ remembered.old ∷ status.old ∷ []) }
-    requires v_in_bounds { (v < length first.now) × ((1 ≤ g.depth) × (g.contractions + g.extensions + g.deletions < too_many)) }
-    requires can_step { CanStep v origin least.value least.arc g.depth heads.now path.old price.old bound.old }
-    requires leads { Leads heads.now least.arc least.child }
-    requires has_before { (v ≡ origin → ⊥) → HasBefore g.depth path.old remembered.old }
-    requires tails_known { TailsKnown (length first.now) tails.now heads.now kept.old }
-    ensures steps { Steps v origin least (lent_star heads lengths first next) (lent path price bound kept status g) (back path price bound kept status result) }
-    ensures remembers { Remembered v origin least (lent_star heads lengths first next) tails.now remembered.old remembered.new
-        (lent path price bound kept status g) (back path price bound kept status result) }
+    requires ready { Ready star.now nodes.old }
+    requires v_in_bounds { (v < star.now.table.n) × ((1 ≤ g.depth) × (g.contractions + g.extensions + g.deletions < too_many)) }
+    requires can_step { CanStep v least star.now (run_of path.old nodes.old g) }
+    requires has_before { (v ≡ star.now.table.origin → ⊥) → HasBefore g.depth path.old nodes.old }
+    ensures steps { Steps v least (table_in star.now.table) (run_of path.old nodes.old g) (run_of path.new nodes.new result) }
+    ensures remembers { Remembered v least star.now (run_of path.old nodes.old g) (run_of path.new nodes.new result) }
 {
-    let arc = least.arc;
-    if arc == NO_ARC {
-        return delete(g, v, path, remembered, status);
+    let Some(bid) = least else {
+        return delete(g, v, path, nodes);
+    };
+    let heads = star.table.columns.heads;
+    let child = heads[usize::from(bid.arc)];
+    let price = nodes[v].price;
+    nodes[v].remembered = child;
+    if price < bid.value {
+        return contract(g, v, star.table.origin, bid.value, path, nodes);
     }
-    remembered[v] = least.child;
-    let value = least.value;
-    if price[v] < value {
-        return contract(g, v, origin, value, path, price, remembered);
-    }
-    extend(
-        g,
-        least.child,
-        tails,
-        heads,
-        lengths,
-        first,
-        next,
-        path,
-        bound,
-        kept,
-        remembered,
-        status,
-    )
+    extend(g, child, star, path, nodes)
 }

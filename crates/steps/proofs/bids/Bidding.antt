@@ -2,21 +2,27 @@
 use mathlib.Core.Path.{◌≡◌, refl, sym, ap, subst, ◌∙◌}
 use mathlib.Core.Bool.{Bool, true, false, ◌&&◌, not}
 use mathlib.Core.List.{List}
-use mathlib.Core.Logic.{◌⊎◌, ⊎_elim}
-use mathlib.Core.Option.{none}
+use mathlib.Core.Logic.{◌⊎◌, inl, inr, ⊎_elim}
+use mathlib.Core.Option.{none, some}
+use Rattle.std.specs.Prelude.{Option, Some, None}
+use mathlib.Core.Option as maybe
 use Prim.Native.Nat.{ℕ, ◌+◌, ◌-◌, ◌≤◌, ◌<◌}
 use native.Mathlib.Omega.{arith}
 use lib.Dec.{eqb}
 use lib.ListN.{length, get_or}
-use borrow.Author.Tests.{le-leb, lt-leb, eq-eqb, ne_eqb}
+use borrow.Author.Tests.{le-leb, lt-leb, eq-eqb, ne_eqb, eqb-true, eqb-false}
 use Rattle.table.specs.Table.{Table, arc_count, tail_at, head_at, length_at, no_arc}
 use Rattle.auction.specs.Auction.{State, Bid, bid, best, best_from, to_child, with_bid, lower_bid, is_kept, is_deleted, price_at}
 use Rattle.table.proofs.Basics.{same_or}
 use Rattle.steps.specs.declared.state.Progress.{Progress}
-use Rattle.steps.specs.Seen.{arc_of, bid_of, seen}
-use Rattle.forward_star.specs.Lists.{star, Outgoing}
-use Rattle.steps.specs.Steps.{lower_of, bid_over}
-use Rattle.steps.proofs.Arrays.{some_arc, no_kept, some_bid, no_bid, seen_kept, seen_status, seen_price}
+use Rattle.steps.specs.declared.bids.LeastBid.{LeastBid}
+use Rattle.steps.specs.declared.state.Node.{Node}
+use Rattle.steps.specs.Memory.{node_at}
+use Rattle.steps.specs.Seen.{arc_of, seen, status_number, run_of, held, prices_in, bounds_in, kepts_in, statuses_in}
+use Rattle.steps.proofs.Nodes.{entry, as_many}
+use Rattle.forward_star.proofs.Outgoing.{star, Outgoing}
+use Rattle.steps.specs.Steps.{lower_of, bid_over, bid_in}
+use Rattle.steps.proofs.Arrays.{some_arc, no_kept, seen_kept, seen_status, seen_price}
 use Rattle.forward_star.proofs.Along.{OnList, on_first, on_next}
 use Rattle.steps.proofs.Arcs.{bids_first, bids_next, bids_done, lower_of_none, lower_of_bid}
 
@@ -52,75 +58,99 @@ module _ (t : Table) (i j : ℕ) (p u b k s : List ℕ) (g : Progress) (at : hea
   a_child e low d =
       child_is ∙ rw (some_arc (get_or k j 0) (λ z. omega arith), eq-eqb (get_or k j 0) i e, ne_eqb (get_or s j 0) 2 d)
 
+-- the same, and the bid, by what the head has
+module _ (t : Table) (i j : ℕ) (path : List ℕ) (ns : List Node) (g : Progress) (at : head_at t i ≡ j) (inside : j < length ns) where
+  abbrev x : State
+  x = held (run_of path ns g)
+
+  abbrev n : Node
+  n = node_at j ns
+
+  kept_is : get_or (kepts_in ns) j 0 ≡ n.kept
+  kept_is = entry (λ m. m.kept) ns j
+
+  status_is : get_or (statuses_in ns) j 0 ≡ status_number n.status
+  status_is = entry (λ m. status_number m.status) ns j
+
+  kepts_long : j < length (kepts_in ns)
+  kepts_long = omega (arith, as_many (λ m. m.kept) ns)
+
+  pub no_child_there : ((n.kept ≡ i → ⊥) ⊎ (eqb (status_number n.status) 2 ≡ true)) → to_child t (tail_at t i) i x ≡ false
+  no_child_there e =
+      no_child t i j path (prices_in ns) (bounds_in ns) (kepts_in ns) (statuses_in ns) g at kepts_long
+      (⊎_elim (λ (d : n.kept ≡ i → ⊥). inl (λ z. d (sym kept_is ∙ z))) (λ (d : eqb (status_number n.status) 2 ≡ true). inr (status_is ∙ eqb-true _ 2 d)) e)
+
+  child_there : n.kept ≡ i → i < no_arc → eqb (status_number n.status) 2 ≡ false → to_child t (tail_at t i) i x ≡ true
+  child_there e low d =
+      a_child t i j path (prices_in ns) (bounds_in ns) (kepts_in ns) (statuses_in ns) g at kepts_long (kept_is ∙ e) low
+      (λ z. eqb-false _ 2 d (sym status_is ∙ z))
+
+  pub bid_there : n.kept ≡ i → i < no_arc → eqb (status_number n.status) 2 ≡ false → (l w : ℕ) → length_at t i ≡ l → w ≡ l →
+      bid_over t i x ≡ some (bid (w + n.price) i)
+  unfolding with_bid lower_bid
+  bid_there e low d l w el ew =
+      let price : price_at x j ≡ n.price =
+      seen_price path (prices_in ns) (bounds_in ns) (kepts_in ns) (statuses_in ns) g j ∙ entry (λ m. m.price) ns j in
+      rw (child_there e low d, el, at, price, ew)
+
 -- ONE BID MORE
-pub bid_value : (t : Table) (i j l : ℕ) (p u b k s : List ℕ) (g : Progress) → head_at t i ≡ j → length_at t i ≡ l →
-    length_at t i + price_at (seen p u b k s g) (head_at t i) ≡ l + get_or u j 0
-bid_value t i j l p u b k s g eh el = rw (eh, el, seen_price p u b k s g j)
-
-pub stays : (value arc : ℕ) (child : Bool) (b : Bid) → child ≡ false → bid_of value arc ≡ lower_of (bid_of value arc) (with_bid child b none)
+pub stays : (least : Option LeastBid) (child : Bool) (b : Bid) → child ≡ false → bid_in least ≡ lower_of (bid_in least) (with_bid child b none)
 unfolding with_bid
-stays value arc child b e = rw e (sym (lower_of_none (bid_of value arc)))
+stays least child b e = rw e (sym (lower_of_none (bid_in least)))
 
-module _ (value arc fresh i : ℕ) (child : Bool) (e : child ≡ true) where
-  pub not_lower : (arc ≡ no_arc → ⊥) → value ≤ fresh → bid_of value arc ≡ lower_of (bid_of value arc) (with_bid child (bid fresh i) none)
-  unfolding with_bid lower_of lower_bid bid
-  not_lower d h = rw (e, some_bid value arc d, le-leb value fresh h)
+-- another bid beside the least one
+module _ (least : Option LeastBid) (over : maybe.Option Bid) (value i : ℕ) (e : over ≡ some (bid value i)) where
+  pub first_bid : least ≡ None → some (bid value i) ≡ lower_of (bid_in least) over
+  unfolding lower_of
+  first_bid z = rw (z, e)
 
-  pub lower : i < no_arc → ((arc ≡ no_arc) ⊎ (fresh < value)) → bid_of fresh i ≡ lower_of (bid_of value arc) (with_bid child (bid fresh i) none)
-  unfolding with_bid lower_of lower_bid bid
-  lower low c =
-      rw (e, some_bid fresh i (λ z. omega arith))
-      (⊎_elim
-      (λ (z : arc ≡ no_arc). rw (no_bid value arc z))
-      (λ (z : fresh < value).
-      ⊎_elim (λ (q : arc ≡ no_arc). rw (no_bid value arc q)) (λ (q : arc ≡ no_arc → ⊥). rw (some_bid value arc q, lt-leb value fresh z))
-      (same_or arc no_arc))
-      c)
+  pub not_lower : (a : LeastBid) → least ≡ Some a → a.value ≤ value → some (bid a.value a.arc) ≡ lower_of (bid_in least) over
+  unfolding lower_of lower_bid bid
+  not_lower a z h = rw (z, e, le-leb a.value value h)
+
+  pub lower : (a : LeastBid) → least ≡ Some a → value < a.value → some (bid value i) ≡ lower_of (bid_in least) over
+  unfolding lower_of lower_bid bid
+  lower a z h = rw (z, e, lt-leb a.value value h)
 
 -- ALL BIDS: those from p on are left to compare
-pub record Uncompared (t : Table) (v : ℕ) (price kept status : List ℕ) (value arc p : ℕ) : Type 0 where
+pub record Uncompared (t : Table) (v : ℕ) (nodes : List Node) (least : Option LeastBid) (p : ℕ) : Type 0 where
   pub on_list : OnList t v p
-  pub rest : (path bound : List ℕ) (g : Progress) →
-      lower_of (bid_of value arc) (best_from (arc_count t - p) p t v (seen path price bound kept status g)) ≡ best t v (seen path price bound kept status g)
+  pub rest : (path : List ℕ) (g : Progress) →
+      lower_of (bid_in least) (best_from (arc_count t - p) p t v (held (run_of path nodes g))) ≡ best t v (held (run_of path nodes g))
 
-abbrev pub Comparing : (heads lengths first next : List ℕ) → (v : ℕ) → (price kept status : List ℕ) → (value arc p : ℕ) → Type 0
-Comparing hs ls first next v u k s value arc p = (t : Table) → Outgoing t (star hs ls first next) → Uncompared t v u k s value arc p
-
-module _ (hs ls first next : List ℕ) (v : ℕ) (u k s : List ℕ) where
-  pub begins : (value arc : ℕ) → arc ≡ no_arc → v < length first → Comparing hs ls first next v u k s value arc (get_or first v 0)
+module _ {t : Table} {hs ls first next : List ℕ} (here : Outgoing t (star hs ls first next)) {v : ℕ} {ns : List Node} where
+  pub begins : v < t.n → Uncompared t v ns None (get_or first v 0)
   unfolding best lower_of
-  begins value arc e h t here =
-      let below : v < t.n = omega (arith, here.linked.first_count) in
+  begins below =
       record {
         on_list = on_first here v below;
-        rest = λ path bound g. rw (no_bid value arc e) (bids_first here v (seen path u bound k s g) below);
+        rest = λ path g. bids_first here v (held (run_of path ns g)) below;
       }
 
-  pub goes_on : (value arc p value' arc' i j : ℕ) → Comparing hs ls first next v u k s value arc p → i ≡ p → j ≡ get_or hs p 0 → (p ≡ no_arc → ⊥) →
-      ((t : Table) (path bound : List ℕ) (g : Progress) → head_at t p ≡ j → length_at t p ≡ get_or ls i 0 →
-      bid_of value' arc' ≡ lower_of (bid_of value arc) (bid_over t p (seen path u bound k s g))) →
-      Comparing hs ls first next v u k s value' arc' (get_or next i 0)
-  goes_on value arc p value' arc' i j inv ei ej more lowered t here =
-      let l = inv t here in
+  pub goes_on : {least later : Option LeastBid} {p : ℕ} (i j : ℕ) → Uncompared t v ns least p → i ≡ p → j ≡ get_or hs p 0 → (p ≡ no_arc → ⊥) →
+      ((path : List ℕ) (g : Progress) → head_at t p ≡ j → length_at t p ≡ get_or ls i 0 →
+      bid_in later ≡ lower_of (bid_in least) (bid_over t p (held (run_of path ns g)))) →
+      Uncompared t v ns later (get_or next i 0)
+  goes_on {least} {later} {p} i j l ei ej more lowered =
       let at = l.on_list.inside more in
       record {
         on_list = rw ei (on_next here v l.on_list more).0;
-        rest = λ path bound g.
-            let x = seen path u bound k s g in
+        rest = λ path g.
+            let x = held (run_of path ns g) in
             let eh : head_at t p ≡ j = sym (here.head p at.0) ∙ sym ej in
             let el : length_at t p ≡ get_or ls i 0 = sym (here.arc_length p at.0) ∙ ap (λ m. get_or ls m 0) (sym ei) in
-            let later = best_from (arc_count t - get_or next p 0) (get_or next p 0) t v x in
-            let e = lowered t path bound g eh el in
+            let rest = best_from (arc_count t - get_or next p 0) (get_or next p 0) t v x in
+            let e = lowered path g eh el in
             let b = bid (length_at t p + price_at x (head_at t p)) p in
-            rw (ei, e, lower_of_bid (bid_of value arc) (to_child t (tail_at t p) p x) b later)
-            (subst (λ (w : ℕ). lower_of (bid_of value arc) (with_bid (to_child t w p x) b later) ≡ best t v x)
+            rw (ei, e, lower_of_bid (bid_in least) (to_child t (tail_at t p) p x) b rest)
+            (subst (λ (w : ℕ). lower_of (bid_in least) (with_bid (to_child t w p x) b rest) ≡ best t v x)
             (sym at.1)
-            (ap (λ o. lower_of (bid_of value arc) o) (sym (bids_next here v l.on_list more x)) ∙ l.rest path bound g));
+            (ap (λ o. lower_of (bid_in least) o) (sym (bids_next here v l.on_list more x)) ∙ l.rest path g));
       }
 
-  pub ends : (value arc p : ℕ) → Comparing hs ls first next v u k s value arc p → p ≡ no_arc →
-      (t : Table) (path bound : List ℕ) (g : Progress) → Outgoing t (star hs ls first next) → bid_of value arc ≡ best t v (seen path u bound k s g)
-  ends value arc p inv e t path bound g here =
-      sym (lower_of_none (bid_of value arc))
-      ∙ ap (λ o. lower_of (bid_of value arc) o) (sym (bids_done here v p (seen path u bound k s g) e))
-      ∙ (inv t here).rest path bound g
+  pub ends : {least : Option LeastBid} {p : ℕ} → Uncompared t v ns least p → p ≡ no_arc →
+      (path : List ℕ) (g : Progress) → bid_in least ≡ best t v (held (run_of path ns g))
+  ends {least} {p} l e path g =
+      sym (lower_of_none (bid_in least))
+      ∙ ap (λ o. lower_of (bid_in least) o) (sym (bids_done here v p (held (run_of path ns g)) e))
+      ∙ l.rest path g

@@ -1,11 +1,12 @@
 -- What the nodes remember where arcs are offered: a node whose arc is given up has lost a child, so it forgets; the others keep their children.
 -- Assumes nothing.
 use mathlib.Core.Path.{◌≡◌, refl, sym, ap, subst, ◌∙◌}
-use mathlib.Core.Bool.{false}
+use mathlib.Core.Bool.{false, cond}
 use mathlib.Core.List.{List, map}
-use mathlib.Core.Logic.{inl, inr, ⊎_elim}
+use mathlib.Core.Logic.{◌⊎◌, inl, inr, ⊎_elim}
 use mathlib.Core.Option.{none, some}
 use Prim.Native.Nat.{ℕ, ◌<◌}
+use lib.Dec.{eqb}
 use native.Mathlib.Omega.{arith}
 use lib.ListN.{length, get_or, set, length-set}
 use lib.Seq.{get_or-set_same, get_or-set_other}
@@ -16,11 +17,24 @@ use Rattle.auction.specs.Auction.{State, state, kept_at, status_at, is_deleted, 
 use Rattle.auction.proofs.Steps.Bids.{child, child_test}
 use Rattle.steps.specs.declared.state.Progress.{Progress}
 use Rattle.steps.specs.Seen.{arc_of, seen}
-use Rattle.forward_star.specs.Lists.{star, Outgoing, Tails}
-use Rattle.steps.specs.Memory.{without_tail, GivesUp, KeptIn, ArcInto, KeptArcs, Loses, Remembering, but}
+use Rattle.forward_star.proofs.Outgoing.{star, Outgoing, Tails}
+use Rattle.steps.specs.Memory.{ArcInto, KeptArcs, Loses, Remembering, but}
 use Rattle.steps.proofs.Arrays.{some_arc, no_kept, seen_kept, seen_status}
 use Rattle.forward_star.proofs.Along.{OnList}
 use Rattle.steps.proofs.Remembering.{same_child, arcs_alike, seen_alike, in_two, unchanged}
+
+-- THE COLUMN of what the nodes remember, where an arc is given up: the node that it leaves forgets
+unfoldable pub tail_forgets : (arc : ℕ) → (tails remembered : List ℕ) → List ℕ
+tail_forgets i ts m = cond (eqb i no_arc) m (set m (get_or ts i 0) no_node)
+
+-- one arc offered to its head: nothing is kept, or the head, which is unreached, gives up the arc that it kept
+abbrev pub GivesUp : (head position : ℕ) → (tails status kept remembered kept' remembered' : List ℕ) → Type 0
+GivesUp j i ts s k m k' m' =
+    ((k' ≡ k) × (m' ≡ m)) ⊎ ((get_or s j 0 ≡ 0) × ((k' ≡ set k j i) × (m' ≡ tail_forgets (get_or k j 0) ts m)))
+
+-- each arc that is kept stands in the column of tails
+pub record Listed (arcs : ℕ) (kept : List ℕ) : Type 0 where
+  pub listed : (u : ℕ) → u < length kept → (get_or kept u 0 ≡ no_arc → ⊥) → get_or kept u 0 < arcs
 
 -- AN ARC IS KEPT between state x and state y
 record KeptInstead (j i : ℕ) (x y : State) : Type 0 where
@@ -101,8 +115,8 @@ still_nothing m w u e =
 
 module _ (t : Table) {ts ls : List ℕ} (tails : Tails t ts ls) {j i v : ℕ} {x y : State} (taken : KeptInstead j i x y) (from : tail_at t i ≡ v) (m : List ℕ) where
   -- the head has kept no arc
-  gives_none : (k : ℕ) → k ≡ no_arc → kept_at x j ≡ arc_of k → Remembering t (but v x) m (without_tail k ts m) x y
-  unfolding without_tail
+  gives_none : (k : ℕ) → k ≡ no_arc → kept_at x j ≡ arc_of k → Remembering t (but v x) m (tail_forgets k ts m) x y
+  unfolding tail_forgets
   gives_none k e kept =
       rw (eq-eqb k no_arc e)
       (record {
@@ -113,8 +127,8 @@ module _ (t : Table) {ts ls : List ℕ} (tails : Tails t ts ls) {j i v : ℕ} {x
 
   -- or it has kept one
   gives_one : (k : ℕ) → (k ≡ no_arc → ⊥) → kept_at x j ≡ arc_of k → length m ≡ t.n → status_at x j ≡ unreached → KeptArcs t x →
-      Remembering t (but v x) m (without_tail k ts m) x y
-  unfolding without_tail
+      Remembering t (but v x) m (tail_forgets k ts m) x y
+  unfolding tail_forgets
   gives_one k any found long new arcs =
       let kept : kept_at x j ≡ some k = found ∙ some_arc k any in
       let arc = arcs j k kept in
@@ -160,7 +174,7 @@ module _ (p u b b' k s : List ℕ) (g : Progress) {j i : ℕ} (inside : j < leng
 module _ {t : Table} {ts ls : List ℕ} (tails : Tails t ts ls) {v i : ℕ} (on : OnList t v i) (more : i ≡ no_arc → ⊥) {j : ℕ} (to : head_at t i ≡ j)
     (p u b b' k s : List ℕ) (g : Progress) (inside : j < length k) (arcs : KeptArcs t (seen p u b k s g)) where
   kept_since : (m : List ℕ) → length m ≡ t.n → get_or s j 0 ≡ 0 →
-      Losing t v m (without_tail (get_or k j 0) ts m) (seen p u b k s g) (seen p u b' (set k j i) s g)
+      Losing t v m (tail_forgets (get_or k j 0) ts m) (seen p u b k s g) (seen p u b' (set k j i) s g)
   kept_since m long new =
       let at = on.inside more in
       let taken = kept_instead p u b b' k s g inside more in
@@ -178,12 +192,12 @@ module _ {t : Table} {ts ls : List ℕ} (tails : Tails t ts ls) {v i : ℕ} (on 
       let alike = seen_alike p u b p u b' k s g g in
       ⊎_elim
       (λ (e : (k' ≡ k) × (m' ≡ m)). rw (e.0, e.1) (record { remembering = unchanged alike; arcs = arcs_alike alike arcs }))
-      (λ (e : (get_or s j 0 ≡ 0) × ((k' ≡ set k j i) × (m' ≡ without_tail (get_or k j 0) ts m))). rw (e.1.0, e.1.1) (kept_since m long e.0))
+      (λ (e : (get_or s j 0 ≡ 0) × ((k' ≡ set k j i) × (m' ≡ tail_forgets (get_or k j 0) ts m))). rw (e.1.0, e.1.1) (kept_since m long e.0))
       gives
 
--- the arc that is kept stands in the column of tails
-kept_in_set : {n : ℕ} {ts k : List ℕ} (j i : ℕ) → i < length ts → KeptIn n ts k → KeptIn n ts (set k j i)
-kept_in_set {n} {ts} {k} j i h a =
+-- so does one that is kept now
+listed_set : {arcs : ℕ} {k : List ℕ} (j i : ℕ) → i < arcs → Listed arcs k → Listed arcs (set k j i)
+listed_set {arcs} {k} j i h a =
     record {
       listed = λ u at any.
           let low : u < length k = omega (arith, length-set k j i) in
@@ -191,7 +205,6 @@ kept_in_set {n} {ts} {k} j i h a =
           (λ (z : u ≡ j). let e : get_or (set k j i) u 0 ≡ i = ap (λ w. get_or (set k w i) u 0) (sym z) ∙ get_or-set_same k u i 0 low in omega arith)
           (λ (d : u ≡ j → ⊥). let e = get_or-set_other k j u i 0 d in omega (arith, a.listed u low (λ z. any (e ∙ z))))
           (same_or u j);
-      tail_in = a.tail_in;
     }
 
 -- ALL ARCS OUT OF A NODE: some of them have been offered
@@ -199,14 +212,14 @@ pub record Forgetting (heads lengths first next tails : List ℕ) (v : ℕ) (bou
   -- there are as many entries as before
   pub memory_long : length remembered ≡ length remembered₀
   -- each kept arc stands in the column of tails
-  pub kept_in : KeptIn (length first) tails kept
+  pub kept_in : Listed (length tails) kept
   -- what the nodes remember since the first of them
   pub since : (path price : List ℕ) (g : Progress) (t : Table) → Outgoing t (star heads lengths first next) → Tails t tails lengths →
       KeptArcs t (seen path price bound₀ kept₀ status g) →
       Losing t v remembered₀ remembered (seen path price bound₀ kept₀ status g) (seen path price bound kept status g)
 
 module _ {hs ls first next ts : List ℕ} {v : ℕ} {b₀ k₀ m₀ s : List ℕ} where
-  pub none_yet : KeptIn (length first) ts k₀ → Forgetting hs ls first next ts v b₀ k₀ m₀ s b₀ k₀ m₀
+  pub none_yet : Listed (length ts) k₀ → Forgetting hs ls first next ts v b₀ k₀ m₀ s b₀ k₀ m₀
   none_yet a =
       record {
         memory_long = refl;
@@ -222,7 +235,7 @@ module _ {hs ls first next ts : List ℕ} {v : ℕ} {b₀ k₀ m₀ s : List ℕ
         memory_long = same ∙ inv.memory_long;
         kept_in =
             ⊎_elim (λ (e : (k' ≡ k) × (m' ≡ m)). rw e.0 inv.kept_in)
-            (λ (e : (get_or s j 0 ≡ 0) × ((k' ≡ set k j p) × (m' ≡ without_tail (get_or k j 0) ts m))). rw e.1.0 (kept_in_set j p listed inv.kept_in))
+            (λ (e : (get_or s j 0 ≡ 0) × ((k' ≡ set k j p) × (m' ≡ tail_forgets (get_or k j 0) ts m))). rw e.1.0 (listed_set j p listed inv.kept_in))
             gives;
         since = λ path price g t here tails arcs.
             let before = inv.since path price g t here tails arcs in

@@ -14,11 +14,19 @@ use Rattle.auction.specs.Auction.{State, improves, takes, offer, offers, distanc
 use Rattle.table.proofs.Basics.{same_or}
 use Rattle.steps.specs.declared.state.Progress.{Progress}
 use Rattle.steps.specs.Seen.{bound_of, arc_of, seen}
-use Rattle.forward_star.specs.Lists.{star, Outgoing}
-use Rattle.steps.specs.Steps.{ArcOffered}
+use Rattle.forward_star.proofs.Outgoing.{star, Outgoing}
 use Rattle.steps.proofs.Arrays.{some_bound, some_arc, no_bound, no_kept, seen_bound, seen_kept, seen_status, store_kept, seen_distance}
 use Rattle.forward_star.proofs.Along.{OnList, on_first, on_next}
 use Rattle.steps.proofs.Arcs.{offers_first, offers_next, offers_done}
+
+-- ONE ARC, whose head and the bound that it offers are given, has been offered to its head
+pub record ArcOffered (head position bound : ℕ) (bounds kept status bounds' kept' : List ℕ) : Type 0 where
+  -- the state is the one that `offer` gives, in each table that has such an arc there
+  pub as_defined : (t : Table) (v : ℕ) (path price : List ℕ) (g : Progress) → tail_at t position ≡ v → head_at t position ≡ head →
+      distance (seen path price bounds kept status g) v + length_at t position ≡ bound →
+      seen path price bounds' kept' status g ≡ offer t v position (seen path price bounds kept status g)
+  -- no distance of a reached node has changed
+  pub fixed : (v : ℕ) → 0 < get_or status v 0 → get_or bounds' v 0 ≡ get_or bounds v 0
 
 -- WHETHER A BOUND IS KEPT
 module _ (o i b k : ℕ) (fits : o < no_distance) where

@@ -8,12 +8,13 @@ use native.Mathlib.Numerals.{add-one}
 use lib.ListN.{length, get_or, set}
 use lib.Seq.{get_or-set_same, get_or-set_other, lt-length-set}
 use borrow.Author.Tests.{lt-ltb, le-ltb, eq-eqb, ne_eqb}
-use Rattle.table.specs.Table.{Table, head_at, no_arc}
+use Rattle.table.specs.Table.{Table, head_at}
 use Rattle.auction.specs.Auction.{State, state, bid, was_reached, price_at, without_terminal, deletion, contraction, longer, extension, reach, iteration, status_at, unreached}
 use Rattle.steps.specs.declared.state.Progress.{Progress}
-use Rattle.steps.specs.Seen.{bid_of, nodes_of, seen}
+use Rattle.steps.specs.declared.state.Node.{Node}
+use Rattle.steps.specs.Seen.{nodes_of, seen}
 use Rattle.steps.specs.Memory.{HasBefore}
-use Rattle.steps.proofs.Arrays.{seen_status, some_bid, no_bid}
+use Rattle.steps.proofs.Arrays.{seen_status}
 
 -- THE PATH
 pub shorter : (d : ℕ) (p : List ℕ) → 1 ≤ d → nodes_of (d - 1) p ≡ without_terminal (nodes_of d p)
@@ -44,9 +45,9 @@ as_many zero p = refl
 as_many (suc d) p = ap suc (as_many d p)
 
 -- the node before the terminal one can be looked up still
-pub before_still : {d : ℕ} {p m : List ℕ} (v a : ℕ) → HasBefore d p m → HasBefore d p (set m v a)
-before_still {d} {p} {m} v a h =
-    record { some_node = h.some_node; on_path = h.on_path; inside = lt-length-set m v a h.inside }
+pub before_still : {d : ℕ} {p : List ℕ} {ns : List Node} (v : ℕ) (a : Node) → HasBefore d p ns → HasBefore d p (set ns v a)
+before_still {d} {p} {ns} v a h =
+    record { some_node = h.some_node; on_path = h.on_path; inside = lt-length-set ns v a h.inside }
 
 -- THE THREE KINDS OF ITERATION
 abbrev pub grown : Progress → Progress
@@ -106,19 +107,19 @@ module _ (p u b k s : List ℕ) (g : Progress) where
   reached_other v e w h z = let q = ap (λ m. get_or s m 0) z in omega (arith, seen_status p u b k s g w)
 
 -- WHICH OF THEM
-module _ (t : Table) (v value arc : ℕ) (x : State) where
-  pub is_deletion : arc ≡ no_arc → (v ≡ t.origin → ⊥) → iteration (bid_of value arc) t v x ≡ some (deletion v x)
+module _ (t : Table) (v : ℕ) (x : State) where
+  pub is_deletion : (v ≡ t.origin → ⊥) → iteration none t v x ≡ some (deletion v x)
   unfolding iteration
-  is_deletion e d = rw (no_bid value arc e, ne_eqb v t.origin d)
+  is_deletion d = rw (ne_eqb v t.origin d)
 
-  pub is_contraction : (arc ≡ no_arc → ⊥) → price_at x v < value → iteration (bid_of value arc) t v x ≡ some (contraction t v value x)
+  pub is_contraction : (value arc : ℕ) → price_at x v < value → iteration (some (bid value arc)) t v x ≡ some (contraction t v value x)
   unfolding iteration bid
-  is_contraction e h = rw (some_bid value arc e, lt-ltb (price_at x v) value h)
+  is_contraction value arc h = rw (lt-ltb (price_at x v) value h)
 
-  pub is_extension : (arc ≡ no_arc → ⊥) → value ≤ price_at x v → iteration (bid_of value arc) t v x ≡ some (extension t (head_at t arc) x)
+  pub is_extension : (value arc : ℕ) → value ≤ price_at x v → iteration (some (bid value arc)) t v x ≡ some (extension t (head_at t arc) x)
   unfolding iteration bid
-  is_extension e h = rw (some_bid value arc e, le-ltb (price_at x v) value h)
+  is_extension value arc h = rw (le-ltb (price_at x v) value h)
 
-  pub is_stop : arc ≡ no_arc → v ≡ t.origin → iteration (bid_of value arc) t v x ≡ none
+  pub is_stop : v ≡ t.origin → iteration none t v x ≡ none
   unfolding iteration
-  is_stop e h = rw (no_bid value arc e, eq-eqb v t.origin h)
+  is_stop h = rw (eq-eqb v t.origin h)

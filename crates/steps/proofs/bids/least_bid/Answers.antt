@@ -1,80 +1,59 @@
 -- The bids from p on are left to compare; p rises along the node's list. Assumes nothing.
-use mathlib.Core.Path.{◌≡◌, refl, ap, ◌∙◌}
+use mathlib.Core.Path.{◌≡◌, ap, ◌∙◌}
 use native.Mathlib.Omega.{arith}
 use lib.ListN.{get_or}
+use Rattle.table.specs.Lent.{table_in}
 use Rattle.forward_star.proofs.Along.{Readable, readable}
+use Rattle.forward_star.proofs.Columns.{outgoing_of, nodes_are}
 use Rattle.steps.proofs.bids.Bidding.{begins, goes_on, ends}
 use Rattle.steps.proofs.bids.least_bid.Goals as goal
-use Rattle.steps.proofs.bids.least_bid.Goals.{After-wide-head, In-loop-p}
+use Rattle.steps.proofs.bids.least_bid.Goals.{In-loop-p, After-from-head}
 
 module _ (c : In-loop-p) where
-  inside : Readable c.args.heads.now c.args.lengths.now c.args.first.now c.args.next.now c.loop-p.p
-  inside = readable (λ t here. (c.loop-p.invariant.0 t here).on_list) c.requires.some_table c.loop-p-test.true
+  here : Readable (table_in c.args.star.now.table) c.args.star.now.table.columns.heads.now c.args.star.now.table.columns.lengths.now c.args.star.now.next.now
+      c.loop-p.p
+  here = readable (outgoing_of c.args.star.now) c.loop-p.invariant.on_list c.loop-p-test.true
 
-module _ (c : After-wide-head) where
-  index : c.wide-i.result ≡ c.loop-p.p
-  index = c.wide-i.ensures.same
+module _ (c : After-from-head) where
+  head : c.from-head.result ≡ get_or c.args.star.now.table.columns.heads.now c.loop-p.p 0
+  head = c.from-head.ensures ∙ ap (λ i. get_or c.args.star.now.table.columns.heads.now i 0) c.from-i.ensures
 
-  child : get_or c.args.heads.now c.wide-i.result 0 ≡ get_or c.args.heads.now c.loop-p.p 0
-  child = ap (λ m. get_or c.args.heads.now m 0) index
-
-  head : c.wide-head.result ≡ get_or c.args.heads.now c.loop-p.p 0
-  head = c.wide-head.ensures.same ∙ child
+pub bounds-star-v : goal.bounds-star-v
+bounds-star-v c = let star = c.args.star.now in omega (arith, star.linked.first_count, nodes_are star.table, c.requires.v_in_bounds.0)
 
 pub loop-p-init : goal.loop-p-init
-loop-p-init c =
-    let a = c.args in (
-      begins a.heads.now a.lengths.now a.first.now a.next.now a.v a.price.now a.kept.now a.status.now _ _ refl c.requires.v_in_bounds.0,
-      (omega (arith, c.type_inv.first a.v), λ any. absurd (any refl)),
-    )
+loop-p-init c = let star = c.args.star.now in begins (outgoing_of star) (omega (arith, nodes_are star.table, c.requires.v_in_bounds.0))
 
 pub bounds-heads-i : goal.bounds-heads-i
-bounds-heads-i c =
-    let r = inside (goal.at.bounds-heads-i c).In-loop-p in omega (arith, c.wide-i.ensures.same, r.inside, r.listed.head_count)
+bounds-heads-i c = omega (arith, c.from-i.ensures, (here (goal.at.bounds-heads-i c).In-loop-p).in_heads)
 
 pub bounds-lengths-i : goal.bounds-lengths-i
-bounds-lengths-i c =
-    let places = goal.at.bounds-lengths-i c in
-    let r = inside places.In-loop-p in omega (arith, index places.After-wide-head, r.inside, r.listed.length_count)
-
-pub lower_bid-least-requires-clause-head_bound : goal.lower_bid-least-requires-clause-head_bound
-lower_bid-least-requires-clause-head_bound c =
-    let places = goal.at.lower_bid-least-requires-clause-head_bound c in
-    let r = inside places.In-loop-p in
-    let n = r.listed.linked.first_count in
-    let lengths = c.requires.all_long in (
-      omega (arith, head places.After-wide-head, r.head_in, n, lengths.0),
-      (omega (arith, head places.After-wide-head, r.head_in, n, lengths.1.0), omega (arith, head places.After-wide-head, r.head_in, n, lengths.1.1)),
-    )
+bounds-lengths-i c = omega (arith, c.from-i.ensures, (here (goal.at.bounds-lengths-i c).In-loop-p).in_lengths)
 
 pub bounds-next-i : goal.bounds-next-i
-bounds-next-i c =
-    let places = goal.at.bounds-next-i c in
-    let r = inside places.In-loop-p in omega (arith, index places.After-wide-head, r.inside, r.listed.linked.next_count)
+bounds-next-i c = omega (arith, c.from-i.ensures, (here (goal.at.bounds-next-i c).In-loop-p).in_next)
+
+pub lower_bid-least-requires : goal.lower_bid-least-requires
+lower_bid-least-requires c =
+    let places = goal.at.lower_bid-least-requires c in
+    let r = here places.In-loop-p in
+    record {
+      head_bound = omega (arith, head places.After-from-head, r.head_in, nodes_are c.args.star.now.table, c.requires.nodes_len);
+      position_lt_no_arc = (omega (arith, r.rises, r.low), c.requires.v_in_bounds.1 c.from-head.result);
+    }
 
 pub loop-p-smaller : goal.loop-p-smaller
 loop-p-smaller c =
-    let places = goal.at.loop-p-smaller c in
-    let n = c.args.next.now in
-    let same : get_or n c.wide-i.result 0 ≡ get_or n c.loop-p.p 0 = ap (λ m. get_or n m 0) (index places.After-wide-head) in
-    omega (arith, same, (inside places.In-loop-p).rises, c.type_inv.next c.wide-i.result)
+    let r = here (goal.at.loop-p-smaller c).In-loop-p in
+    let same : get_or c.args.star.now.next.now c.from-i.result 0 ≡ get_or c.args.star.now.next.now c.loop-p.p 0 =
+    ap (λ i. get_or c.args.star.now.next.now i 0) c.from-i.ensures in
+    omega (arith, same, r.rises, r.low)
 
 pub loop-p-preserved : goal.loop-p-preserved
 loop-p-preserved c =
-    let places = goal.at.loop-p-preserved c in
-    let a = c.args in
-    let inv = c.loop-p.invariant in (
-      goes_on a.heads.now a.lengths.now a.first.now a.next.now a.v a.price.now a.kept.now a.status.now _ _ _ _ _
-          c.wide-i.result c.wide-head.result inv.0 (index places.After-wide-head)
-          (head places.After-wide-head) c.loop-p-test.true c.lower_bid-least.ensures.lower,
-      (
-        omega (arith, c.type_inv.next c.wide-i.result),
-        c.lower_bid-least.ensures.leads a.heads.now inv.1.1
-            (child places.After-wide-head),
-      ),
-    )
+    let star = c.args.star.now in
+    goes_on (outgoing_of star) c.from-i.result c.from-head.result c.loop-p.invariant c.from-i.ensures (head (goal.at.loop-p-preserved c).After-from-head)
+    c.loop-p-test.true (λ path g eh el. c.lower_bid-least.ensures (table_in star.table) path g eh el)
 
-pub returns-clause-least : goal.returns-clause-least
-returns-clause-least c =
-    let a = c.args in ends a.heads.now a.lengths.now a.first.now a.next.now a.v a.price.now a.kept.now a.status.now _ _ _ c.loop-p.invariant.0
-    c.loop-p-test.false
+pub returns : goal.returns
+returns c = λ path g. ends (outgoing_of c.args.star.now) c.loop-p.invariant c.loop-p-test.false path g

@@ -1,18 +1,12 @@
--- Each way out is one case of `offer`. Assumes nothing.
-use mathlib.Core.Path.{sym, ◌∙◌}
-use Rattle.steps.proofs.reaching.Offering.{offered_kept, offered_dropped, offered_reached}
+-- The kept arc has a tail. Assumes nothing.
+use mathlib.Core.Path.{sym, ◌∙◌, subst}
+use Prim.Native.Nat.{ℕ, ◌<◌}
+use lib.ListN.{length}
+use Rattle.steps.proofs.Nodes.{entry}
 use Rattle.steps.proofs.reaching.offer.Goals as goal
 
-pub returns-then-improves-clause-offers : goal.returns-then-improves-clause-offers
-returns-then-improves-clause-offers c =
-    offered_kept c.requires.head_in_bounds.0 c.requires.head_in_bounds.1.0 c.requires.offered_lt_no_distance.0 c.requires.offered_lt_no_distance.1
-    c.if-status-head-eq-UNREACHED.true (sym c.improves.ensures ∙ c.if-improves.true)
-
-pub returns-else-improves-clause-offers : goal.returns-else-improves-clause-offers
-returns-else-improves-clause-offers c =
-    offered_dropped c.requires.head_in_bounds.0 c.requires.head_in_bounds.1.0
-    (sym c.improves.ensures ∙ c.if-improves.false) c.if-status-head-eq-UNREACHED.true
-
-pub returns-else-status-head-eq-UNREACHED-clause-offers : goal.returns-else-status-head-eq-UNREACHED-clause-offers
-returns-else-status-head-eq-UNREACHED-clause-offers c =
-    offered_reached c.requires.head_in_bounds.0 c.requires.head_in_bounds.1.0 c.if-status-head-eq-UNREACHED.false
+pub forget_tail-requires : goal.forget_tail-requires
+forget_tail-requires c = λ any.
+    let kept = entry (λ m. m.kept) c.args.nodes.now c.args.head in
+    let listed = subst (λ (k : ℕ). k < length c.args.tails.now) kept (c.requires.kept_in.listed c.args.head c.requires.head_in_bounds (λ z. any (sym kept ∙ z))) in
+    (listed, c.requires.kept_in.tail_in _ listed)

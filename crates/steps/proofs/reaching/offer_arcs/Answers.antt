@@ -1,89 +1,95 @@
--- The arcs from p on are left to offer, and the nodes remember what they should after those before; p rises along the node's list. Assumes nothing.
+-- The arcs before p have been offered; p rises along the node's list. Assumes nothing.
 use mathlib.Core.Path.{◌≡◌, ap, ◌∙◌}
 use Prim.Native.Nat.{◌+◌, ◌<◌}
 use native.Mathlib.Omega.{arith}
 use lib.ListN.{length, get_or}
-use Rattle.steps.proofs.reaching.Offering.{begins, goes_on, ends}
-use Rattle.steps.proofs.reaching.Losing.{none_yet, one_more}
+use Rattle.table.specs.Table.{no_distance}
+use Rattle.table.specs.Lent.{table_in}
 use Rattle.forward_star.proofs.Along.{Readable, readable}
+use Rattle.forward_star.proofs.Columns.{outgoing_of, nodes_are, tails_below}
+use Rattle.steps.proofs.Nodes.{as_many}
+use Rattle.steps.proofs.reaching.Offered.{now_offered}
+use Rattle.steps.proofs.reaching.Walk.{begins, on_list, goes_on, ends, remembers}
 use Rattle.steps.proofs.reaching.offer_arcs.Goals as goal
-use Rattle.steps.proofs.reaching.offer_arcs.Goals.{After-long, After-wide-head, In-loop-p}
+use Rattle.steps.proofs.reaching.offer_arcs.Goals.{In-loop-p, After-from-head, After-from-arc_length}
 
 module _ (c : In-loop-p) where
-  inside : Readable c.args.heads.now c.args.lengths.now c.args.first.now c.args.next.now c.loop-p.p
-  inside = readable (λ t here. (c.loop-p.invariant.0.left_over t here).on_list) c.requires.some_table c.loop-p-test.true
+  here : Readable (table_in c.args.star.now.table) c.args.star.now.table.columns.heads.now c.args.star.now.table.columns.lengths.now c.args.star.now.next.now
+      c.loop-p.p
+  here = readable (outgoing_of c.args.star.now) (on_list c.args.star.now c.loop-p.invariant) c.loop-p-test.true
 
-module _ (c : After-wide-head) where
-  index : c.wide-i.result ≡ c.loop-p.p
-  index = c.wide-i.ensures.same
+module _ (c : After-from-head) where
+  head : c.from-head.result ≡ get_or c.args.star.now.table.columns.heads.now c.loop-p.p 0
+  head = c.from-head.ensures ∙ ap (λ i. get_or c.args.star.now.table.columns.heads.now i 0) c.from-i.ensures
 
-  head : c.wide-head.result ≡ get_or c.args.heads.now c.loop-p.p 0
-  head = c.wide-head.ensures.same ∙ ap (λ m. get_or c.args.heads.now m 0) index
-
-  in_kept : Readable c.args.heads.now c.args.lengths.now c.args.first.now c.args.next.now c.loop-p.p → c.wide-head.result < length c.loop-p.kept
-  in_kept r =
-      omega (arith, head, r.head_in, r.listed.linked.first_count, c.requires.all_long.1.0, c.loop-p.invariant.0.kepts_long)
-
-module _ (c : After-long) where
-  length_so : c.long.result ≡ get_or c.args.lengths.now c.loop-p.p 0
-  length_so = c.long.ensures.same ∙ ap (λ m. get_or c.args.lengths.now m 0) c.wide-i.ensures.same
+pub bounds-star-v : goal.bounds-star-v
+bounds-star-v c = let star = c.args.star.now in omega (arith, star.linked.first_count, nodes_are star.table, c.requires.v_in_bounds.0)
 
 pub loop-p-init : goal.loop-p-init
-loop-p-init c = (
-  begins c.requires.v_in_bounds.0 c.requires.v_in_bounds.1.1.1,
-  (none_yet c.requires.tails_known.kept_in, omega (arith, c.type_inv.first c.args.v)),
-)
+loop-p-init c = begins c.args.star.now c.requires.ready c.requires.v_in_bounds.0 c.requires.distance.1
+
+pub offset_bounds-heads-i : goal.offset_bounds-heads-i
+offset_bounds-heads-i c = let r = here (goal.at.offset_bounds-heads-i c).In-loop-p in omega (arith, c.from-i.ensures, r.rises, r.low)
 
 pub bounds-heads-i : goal.bounds-heads-i
-bounds-heads-i c =
-    let r = inside (goal.at.bounds-heads-i c).In-loop-p in omega (arith, c.wide-i.ensures.same, r.inside, r.listed.head_count)
+bounds-heads-i c = omega (arith, c.from-i.ensures, (here (goal.at.bounds-heads-i c).In-loop-p).in_heads)
+
+pub offset_bounds-lengths-i : goal.offset_bounds-lengths-i
+offset_bounds-lengths-i c = let r = here (goal.at.offset_bounds-lengths-i c).In-loop-p in omega (arith, c.from-i.ensures, r.rises, r.low)
 
 pub bounds-lengths-i : goal.bounds-lengths-i
-bounds-lengths-i c =
-    let places = goal.at.bounds-lengths-i c in
-    let r = inside places.In-loop-p in omega (arith, index places.After-wide-head, r.inside, r.listed.length_count)
+bounds-lengths-i c = omega (arith, c.from-i.ensures, (here (goal.at.bounds-lengths-i c).In-loop-p).in_lengths)
 
-pub offer-requires-clause-head_in_bounds : goal.offer-requires-clause-head_in_bounds
-offer-requires-clause-head_in_bounds c =
-    let places = goal.at.offer-requires-clause-head_in_bounds c in
-    let r = inside places.In-loop-p in
-    let n = r.listed.linked.first_count in
-    let lengths = c.requires.all_long in
-    let inv = c.loop-p.invariant in (
-      omega (arith, head places.After-wide-head, r.head_in, n, lengths.0, inv.0.bounds_long),
-      (in_kept places.After-wide-head r, omega (arith, head places.After-wide-head, r.head_in, n, lengths.1.1.1)),
-    )
+pub offset_bounds-next-i : goal.offset_bounds-next-i
+offset_bounds-next-i c = let r = here (goal.at.offset_bounds-next-i c).In-loop-p in omega (arith, c.from-i.ensures, r.rises, r.low)
 
 pub bounds-next-i : goal.bounds-next-i
-bounds-next-i c =
-    let places = goal.at.bounds-next-i c in
-    let r = inside places.In-loop-p in omega (arith, index places.After-wide-head, r.inside, r.listed.linked.next_count)
+bounds-next-i c = omega (arith, c.from-i.ensures, (here (goal.at.bounds-next-i c).In-loop-p).in_next)
+
+pub offer-requires : goal.offer-requires
+offer-requires c =
+    let places = goal.at.offer-requires c in
+    let star = c.args.star.now in
+    let r = here places.In-loop-p in
+    let inv = c.loop-p.invariant in
+    record {
+      head_in_bounds = omega (arith, head places.After-from-head, r.head_in, nodes_are star.table, inv.long, c.requires.ready.count);
+      offered_lt_no_distance = omega (arith, c.requires.v_in_bounds.1, c.from-arc_length.ensures, c.type_inv.lengths c.from-i.result);
+      kept_in = record {
+        listed = λ u h. inv.forgetting.kept_in.listed u (omega (arith, as_many (λ m. m.kept) c.loop-p.nodes));
+        tail_in = λ i h. omega (arith, tails_below star.table i h, inv.long, c.requires.ready.count);
+      };
+    }
 
 pub loop-p-smaller : goal.loop-p-smaller
 loop-p-smaller c =
-    let places = goal.at.loop-p-smaller c in
-    let n = c.args.next.now in
-    let same : get_or n c.wide-i.result 0 ≡ get_or n c.loop-p.p 0 = ap (λ m. get_or n m 0) (index places.After-wide-head) in
-    omega (arith, same, (inside places.In-loop-p).rises, c.type_inv.next c.wide-i.result)
+    let r = here (goal.at.loop-p-smaller c).In-loop-p in
+    let same : get_or c.args.star.now.next.now c.from-i.result 0 ≡ get_or c.args.star.now.next.now c.loop-p.p 0 =
+    ap (λ i. get_or c.args.star.now.next.now i 0) c.from-i.ensures in
+    omega (arith, same, r.rises, r.low)
+
+module _ (c : After-from-arc_length) where
+  long : c.from-arc_length.result ≡ get_or c.args.star.now.table.columns.lengths.now c.loop-p.p 0
+  long = c.from-arc_length.ensures ∙ ap (λ i. get_or c.args.star.now.table.columns.lengths.now i 0) c.from-i.ensures
 
 pub loop-p-preserved : goal.loop-p-preserved
 loop-p-preserved c =
     let places = goal.at.loop-p-preserved c in
+    let star = c.args.star.now in
+    let r = here places.In-loop-p in
+    let ready = c.requires.ready in
     let inv = c.loop-p.invariant in
-    let more = c.loop-p-test.true in
-    let r = inside places.In-loop-p in
-    let same = c.offer.auto in (
-      goes_on inv.0 c.wide-i.result c.wide-head.result _ (index places.After-wide-head) (head places.After-wide-head)
-          (ap (λ m. c.args.distance + m) (length_so places.After-long)) more (omega (arith, c.requires.v_in_bounds.1.0))
-          (omega (arith, c.requires.v_in_bounds.0, c.requires.all_long.0)) c.requires.v_in_bounds.1.1.0 same.bound same.kept c.offer.ensures.offers,
-      (
-        one_more inv.1.0 (λ t here. (inv.0.left_over t here).on_list) more
-            (omega (arith, r.inside, r.listed.head_count, c.requires.tails_known.as_long)) (head places.After-wide-head)
-            (in_kept places.After-wide-head r) c.requires.all_long.1.1.0 same.remembered c.offer.ensures.gives_up,
-        omega (arith, c.type_inv.next c.wide-i.result),
-      ),
-    )
+    let at = head places.After-from-head in
+    let inside : c.from-head.result < length c.loop-p.nodes = omega (arith, r.head_in, nodes_are star.table, inv.long, ready.count) in
+    let fits : c.args.distance + c.from-arc_length.result < no_distance =
+    omega (arith, c.requires.v_in_bounds.1, c.from-arc_length.ensures, c.type_inv.lengths c.from-i.result) in
+    let now = now_offered c.from-head.result c.loop-p.p (c.args.distance + c.from-arc_length.result) star.table.columns.tails.now c.loop-p.nodes inside fits
+    (omega (arith, r.rises, r.low)) in
+    goes_on star c.from-i.result c.from-head.result _ inv ready c.from-i.ensures at (ap (λ l. c.args.distance + l) (long places.After-from-arc_length))
+    c.loop-p-test.true (omega (arith, c.requires.v_in_bounds.1)) c.requires.v_in_bounds.0 c.requires.distance.0 inside r.inside (rw c.offer.ensures now)
 
 pub returns-clause-offers : goal.returns-clause-offers
-returns-clause-offers c =
-    ends c.loop-p.invariant.0 c.loop-p-test.false
+returns-clause-offers c = λ path g. ends c.args.star.now c.loop-p.invariant path g c.loop-p-test.false
+
+pub returns-clause-remembers : goal.returns-clause-remembers
+returns-clause-remembers c = λ path g. remembers c.args.star.now c.loop-p.invariant path g

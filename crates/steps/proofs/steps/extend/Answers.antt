@@ -1,30 +1,57 @@
 -- The child goes on the path; where it is unreached, reaching it is the definition's own last step. Assumes nothing.
-use Rattle.steps.proofs.steps.Stepping.{extended_known, extended_reached, reached_other}
+use mathlib.Core.Path.{◌≡◌, sym, ◌∙◌}
+use mathlib.Core.List.{List}
+use Prim.Native.Nat.{ℕ}
+use native.Mathlib.Omega.{arith}
+use lib.ListN.{get_or, set}
+use borrow.Author.Tests.{ltb-true, ltb-false}
+use Rattle.steps.specs.Seen.{prices_in, bounds_in, kepts_in, statuses_in, status_number}
+use Rattle.steps.proofs.Nodes.{entry}
+use Rattle.steps.proofs.steps.Stepping.{grown, extended_known, extended_reached, reached_other}
 use Rattle.steps.proofs.Remembering.{seen_alike, unchanged, after_alike, fewer}
 use Rattle.steps.proofs.steps.extend.Goals as goal
+use Rattle.steps.proofs.steps.extend.Goals.{Then-not-was_reached}
 
-pub returns-then-status-v-ne-UNREACHED-clause-extends : goal.returns-then-status-v-ne-UNREACHED-clause-extends
-returns-then-status-v-ne-UNREACHED-clause-extends c =
-    let a = c.args in λ price t here.
-    extended_known a.path.now price a.bound.now a.kept.now a.status.now a.g t a.child c.wide-v.result c.wide-v.ensures.same
-    c.requires.child_in_bounds.1.1.0 c.if-status-v-ne-UNREACHED.true
+module _ (c : Then-not-was_reached) where
+  abbrev status : List ℕ
+  status = statuses_in c.args.nodes.now
 
-pub returns-then-status-v-ne-UNREACHED-clause-remembers : goal.returns-then-status-v-ne-UNREACHED-clause-remembers
-returns-then-status-v-ne-UNREACHED-clause-remembers c =
-    let a = c.args in λ price t here tails arcs. unchanged (seen_alike _ price a.bound.now _ price a.bound.now a.kept.now a.status.now _ _)
+  new : get_or status c.from-v.result 0 ≡ 0
+  new =
+      let s = entry (λ m. status_number m.status) c.args.nodes.now c.from-v.result in
+      omega (arith, s, ltb-false _ _ (sym c.was_reached.ensures ∙ c.if-not-was_reached.true))
 
-pub returns-clause-extends : goal.returns-clause-extends
-returns-clause-extends c =
+pub returns-then-not-was_reached-clause-extends : goal.returns-then-not-was_reached-clause-extends
+returns-then-not-was_reached-clause-extends c =
     let a = c.args in
-    let new = c.if-status-v-ne-UNREACHED.false in λ price t here.
-    extended_reached a.path.now price a.bound.now a.kept.now a.status.now a.g t a.child c.wide-v.result _ c.wide-v.ensures.same
-    c.requires.child_in_bounds.1.1.0 new (c.reach.ensures.reaches _ price _ t here)
+    let ns = a.nodes.now in
+    extended_reached a.path.now (prices_in ns) (bounds_in ns) (kepts_in ns) (statuses_in ns) a.g _ a.child c.from-v.result _ c.from-v.ensures
+    c.requires.room.0 (new (goal.at.returns-then-not-was_reached-clause-extends c).Then-not-was_reached)
+    (c.reach.ensures.reaches (set a.path.now a.g.depth a.child) (grown a.g))
 
-pub returns-clause-remembers : goal.returns-clause-remembers
-returns-clause-remembers c =
+pub returns-then-not-was_reached-clause-remembers : goal.returns-then-not-was_reached-clause-remembers
+returns-then-not-was_reached-clause-remembers c = λ arcs.
     let a = c.args in
-    let new = c.if-status-v-ne-UNREACHED.false in λ price t here tails arcs.
-    after_alike (seen_alike a.path.now price a.bound.now _ price a.bound.now a.kept.now a.status.now a.g _) arcs
+    let ns = a.nodes.now in
+    let unreached = new (goal.at.returns-then-not-was_reached-clause-remembers c).Then-not-was_reached in
+    after_alike
+    (seen_alike a.path.now (prices_in ns) (bounds_in ns) (set a.path.now a.g.depth a.child) (prices_in ns) (bounds_in ns) (kepts_in ns) (statuses_in ns) a.g (grown a.g))
+    arcs
     (λ still.
-    fewer (reached_other a.path.now price a.bound.now a.kept.now a.status.now a.g c.wide-v.result new)
-    (c.reach.ensures.remembers _ price _ new t here tails still))
+    fewer (reached_other a.path.now (prices_in ns) (bounds_in ns) (kepts_in ns) (statuses_in ns) a.g c.from-v.result unreached)
+    (c.reach.ensures.remembers (set a.path.now a.g.depth a.child) (grown a.g) unreached still))
+
+pub returns-else-not-was_reached-clause-extends : goal.returns-else-not-was_reached-clause-extends
+returns-else-not-was_reached-clause-extends c =
+    let a = c.args in
+    let ns = a.nodes.now in
+    let s = entry (λ m. status_number m.status) ns c.from-v.result in
+    extended_known a.path.now (prices_in ns) (bounds_in ns) (kepts_in ns) (statuses_in ns) a.g _ a.child c.from-v.result c.from-v.ensures
+    c.requires.room.0 (λ z. omega (arith, s, ltb-true _ _ (sym c.was_reached.ensures ∙ c.if-not-was_reached.false)))
+
+pub returns-else-not-was_reached-clause-remembers : goal.returns-else-not-was_reached-clause-remembers
+returns-else-not-was_reached-clause-remembers c = λ arcs.
+    let a = c.args in
+    let ns = a.nodes.now in
+    unchanged
+    (seen_alike a.path.now (prices_in ns) (bounds_in ns) (set a.path.now a.g.depth a.child) (prices_in ns) (bounds_in ns) (kepts_in ns) (statuses_in ns) a.g (grown a.g))

@@ -1,79 +1,108 @@
 -- The bid picks the kind of iteration, as in the definition. Assumes nothing.
-use mathlib.Core.Path.{◌≡◌, ap, sym, subst, ◌∙◌}
+use mathlib.Core.Path.{◌≡◌, refl, sym, ap, subst, ◌∙◌}
 use mathlib.Core.List.{List}
 use mathlib.Core.Option.{some}
+use Prim.Native.Nat.{ℕ, ◌<◌}
 use native.Mathlib.Omega.{arith}
-use Prim.Native.Nat.{ℕ, ◌≤◌, ◌<◌}
-use lib.ListN.{get_or}
-use Rattle.table.specs.Table.{Table, arc_count, head_at}
-use Rattle.auction.specs.Auction.{State, price_at, extension}
-use Rattle.forward_star.specs.Lists.{star, Outgoing, SomeTable}
+use lib.ListN.{length, get_or}
+use Rattle.std.specs.Prelude.{Some}
+use Rattle.table.specs.Table.{head_at}
+use Rattle.table.specs.Lent.{table_in}
+use Rattle.auction.specs.Auction.{price_at, contraction, extension}
+use Rattle.forward_star.proofs.Columns.{origin_is, heads_below, outgoing_of}
+use Rattle.steps.specs.declared.bids.LeastBid.{LeastBid}
+use Rattle.steps.specs.declared.state.Node.{Node}
+use Rattle.steps.specs.Memory.{node_at, child_of, remembering, Remembers, those_reached}
 use Rattle.steps.specs.declared.state.Progress.{Progress}
-use Rattle.steps.specs.Seen.{arrays, held, greatest_sum}
+use Rattle.steps.specs.Seen.{run_of, held, prices_in, bounds_in, kepts_in, statuses_in}
 use Rattle.steps.proofs.Arrays.{seen_price}
+use Rattle.steps.proofs.Nodes.{entry, unwritten, held_with_memory, still_ready}
 use Rattle.steps.proofs.steps.Stepping.{is_deletion, is_contraction, is_extension}
 use Rattle.steps.proofs.steps.step.Goals as goal
-use Rattle.steps.proofs.steps.step.Goals.{Else-arc, Then-arc}
+use Rattle.steps.proofs.steps.step.Goals.{In-Some}
 
--- the state that the arrays hold, and a price in it
-module _ (path price bound kept status : List ℕ) (g : Progress) where
-  abbrev x : State
-  x = held (arrays path price bound kept status g)
+-- the price of a node in the state that is held
+price_read : (path : List ℕ) (ns : List Node) (g : Progress) (v : ℕ) → price_at (held (run_of path ns g)) v ≡ get_or (prices_in ns) v 0
+price_read path ns g v = seen_price path (prices_in ns) (bounds_in ns) (kepts_in ns) (statuses_in ns) g v
 
-  price_read : (v : ℕ) → price_at x v ≡ get_or price v 0
-  price_read v = seen_price path price bound kept status g v
-
--- where the node has no child
-module _ (c : Then-arc) where
-  not_origin : c.args.v ≡ c.args.origin → ⊥
-  not_origin = c.requires.can_step.no_stop c.if-arc.true
-
--- where it has one
-module _ (c : Else-arc) where
-  child_is : c.args.least.child ≡ get_or c.args.heads.now c.args.least.arc 0
-  child_is = c.requires.leads c.if-arc.false
-
-  listed : (t : Table) → Outgoing t (star c.args.heads.now c.args.lengths.now c.args.first.now c.args.next.now) →
-      c.args.least.arc < arc_count t
-  listed t here = omega (arith, c.requires.can_step.listed c.if-arc.false, here.head_count)
-
-pub returns-then-arc-clause-steps : goal.returns-then-arc-clause-steps
-returns-then-arc-clause-steps c =
+pub returns-in_default-clause-steps : goal.returns-in_default-clause-steps
+returns-in_default-clause-steps c =
     let a = c.args in
-    let apart = not_origin (goal.at.returns-then-arc-clause-steps c).Then-arc in λ t here eo.
-    is_deletion t a.v a.least.value a.least.arc (x a.path.now a.price.now a.bound.now a.kept.now a.status.now a.g) c.if-arc.true (λ z. apart (z ∙ eo))
-    ∙ ap some (sym (c.delete.ensures.deletes a.path.now a.price.now a.bound.now a.kept.now))
+    let t = table_in a.star.now.table in
+    rw c.in_default.is
+    (is_deletion t a.v (held (run_of a.path.now a.nodes.now a.g)) (λ z. c.requires.can_step.no_stop c.in_default.is (z ∙ origin_is a.star.now.table))
+    ∙ ap some (sym c.delete.ensures.deletes))
 
-pub returns-then-price-v-clause-steps : goal.returns-then-price-v-clause-steps
-returns-then-price-v-clause-steps c =
+module _ (c : In-Some) where
+  -- the child that the bid is for, which is remembered
+  abbrev child : ℕ
+  child = child_of c.args.star.now c.in-Some.bid
+
+  child_read : (arc : ℕ) → arc ≡ c.in-Some.bid.arc → get_or c.args.star.now.table.columns.heads.now arc 0 ≡ child
+  child_read arc e = ap (λ i. get_or c.args.star.now.table.columns.heads.now i 0) e
+
+  listed : c.in-Some.bid.arc < length c.args.star.now.table.columns.heads.now
+  listed = c.requires.can_step.listed c.in-Some.bid c.in-Some.is
+
+  head_so : head_at (table_in c.args.star.now.table) c.in-Some.bid.arc ≡ child
+  head_so = let here = outgoing_of c.args.star.now in sym (here.head c.in-Some.bid.arc (omega (arith, listed, here.head_count)))
+
+  price_so : price_at (held (run_of c.args.path.now c.args.nodes.now c.args.g)) c.args.v ≡ (node_at c.args.v c.args.nodes.now).price
+  price_so = price_read c.args.path.now c.args.nodes.now c.args.g c.args.v ∙ entry (λ m. m.price) c.args.nodes.now c.args.v
+
+pub returns-then-price-bid-clause-steps : goal.returns-then-price-bid-clause-steps
+returns-then-price-bid-clause-steps c =
     let a = c.args in
-    let price = price_read a.path.now a.price.now a.bound.now a.kept.now a.status.now a.g a.v in λ t here eo.
-    is_contraction t a.v a.least.value a.least.arc (x a.path.now a.price.now a.bound.now a.kept.now a.status.now a.g) c.if-arc.false
-    (subst (λ (m : ℕ). m < a.least.value) (sym price) c.if-price-v.true)
-    ∙ ap some (sym (c.contract.ensures.contracts t a.path.now a.bound.now a.kept.now a.status.now eo))
+    let some_bid = (goal.at.returns-then-price-bid-clause-steps c).In-Some in
+    let t = table_in a.star.now.table in
+    rw c.in-Some.is
+    (is_contraction t a.v (held (run_of a.path.now a.nodes.now a.g)) c.in-Some.bid.value c.in-Some.bid.arc (omega (arith, price_so some_bid, c.if-price-bid.true))
+    ∙ ap some
+    (sym
+    (c.contract.ensures.contracts t (origin_is a.star.now.table)
+    ∙ ap (contraction t a.v c.in-Some.bid.value) (held_with_memory a.path.now a.nodes.now a.g a.v (get_or a.star.now.table.columns.heads.now c.from.result 0)))))
+
+pub extend-requires-clause-ready : goal.extend-requires-clause-ready
+extend-requires-clause-ready c = still_ready c.args.v _ refl c.requires.ready
 
 pub extend-requires-clause-child_in_bounds : goal.extend-requires-clause-child_in_bounds
-unfolding SomeTable
 extend-requires-clause-child_in_bounds c =
-    let places = goal.at.extend-requires-clause-child_in_bounds c in
-    let can = c.requires.can_step in
-    let here = c.requires.some_table.1 in
-    let inside = listed places.Else-arc c.requires.some_table.0 here in
-    let arc = c.args.least.arc in (
-      omega (arith, child_is places.Else-arc, here.head arc inside, here.head_in arc inside, here.linked.first_count),
-      (
-        subst (λ (j : ℕ). get_or c.args.bound.now j 0 ≤ greatest_sum) (sym (child_is places.Else-arc)) (can.bounded c.if-arc.false),
-        (can.room c.if-arc.false c.if-price-v.false, omega (arith, c.requires.v_in_bounds.1.1)),
-      ),
+    let a = c.args in
+    let some_bid = (goal.at.extend-requires-clause-child_in_bounds c).In-Some in
+    let n : Node = record (node_at a.v a.nodes.now) { remembered = get_or a.star.now.table.columns.heads.now c.from.result 0 } in
+    let same = child_read some_bid c.from.result c.from.ensures in (
+      omega (arith, heads_below a.star.now.table c.from.result (omega (arith, c.from.ensures, listed some_bid, a.star.now.table.columns.heads_are))),
+      rw (unwritten (λ m. m.bound) a.nodes.now a.v n refl, same) (c.requires.can_step.bounded c.in-Some.bid c.in-Some.is),
     )
 
 pub returns-clause-steps : goal.returns-clause-steps
 returns-clause-steps c =
-    let places = goal.at.returns-clause-steps c in
     let a = c.args in
-    let price = price_read a.path.now a.price.now a.bound.now a.kept.now a.status.now a.g a.v in λ t here eo.
-    let child : head_at t a.least.arc ≡ a.least.child = sym (child_is places.Else-arc ∙ here.head a.least.arc (listed places.Else-arc t here)) in
-    is_extension t a.v a.least.value a.least.arc (x a.path.now a.price.now a.bound.now a.kept.now a.status.now a.g) c.if-arc.false
-    (subst (λ (m : ℕ). a.least.value ≤ m) (sym price) c.if-price-v.false)
-    ∙ ap (λ j. some (extension t j (x a.path.now a.price.now a.bound.now a.kept.now a.status.now a.g))) child
-    ∙ ap some (sym (c.extend.ensures.extends a.price.now t here))
+    let some_bid = (goal.at.returns-clause-steps c).In-Some in
+    let t = table_in a.star.now.table in
+    let x = held (run_of a.path.now a.nodes.now a.g) in
+    let read = get_or a.star.now.table.columns.heads.now c.from.result 0 in
+    let same : head_at t c.in-Some.bid.arc ≡ read = head_so some_bid ∙ sym (child_read some_bid c.from.result c.from.ensures) in
+    rw c.in-Some.is
+    (is_extension t a.v x c.in-Some.bid.value c.in-Some.bid.arc (omega (arith, price_so some_bid, c.if-price-bid.false))
+    ∙ ap (λ j. some (extension t j x)) same
+    ∙ ap some (sym (c.extend.ensures.extends ∙ ap (extension t read) (held_with_memory a.path.now a.nodes.now a.g a.v read))))
+
+pub returns-clause-remembers : goal.returns-clause-remembers
+returns-clause-remembers c =
+    let a = c.args in
+    let some_bid = (goal.at.returns-clause-remembers c).In-Some in
+    let price = entry (λ m. m.price) a.nodes.now a.v in
+    let same : (d : LeastBid) → a.least ≡ Some d → c.in-Some.bid ≡ d = λ d e. cc in
+    record {
+      deletes = λ z. cc;
+      contracts = λ d e h. let v = ap (λ b. b.value) (same d e) in absurd (omega (arith, price, c.if-price-bid.false));
+      at_origin = λ d e h. let v = ap (λ b. b.value) (same d e) in absurd (omega (arith, price, c.if-price-bid.false));
+      extends = λ d e h.
+          let read : get_or a.star.now.table.columns.heads.now c.from.result 0 ≡ child_of a.star.now d =
+          child_read some_bid c.from.result c.from.ensures ∙ ap (child_of a.star.now) (same d e) in
+          subst
+          (λ (j : ℕ). Remembers (table_in a.star.now.table) those_reached (remembering a.v j (run_of a.path.now a.nodes.now a.g))
+          (run_of c.extend.new.path c.extend.new.nodes c.extend.result)) read
+          c.extend.ensures.remembers;
+    }
