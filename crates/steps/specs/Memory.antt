@@ -24,6 +24,10 @@ node_at v ns = get_or ns v nobody
 abbrev pub forgetting : (v : ℕ) → List Node → List Node
 forgetting v ns = set ns v (record (node_at v ns) { remembered = no_node })
 
+-- no node remembers a child, as it is before the first scan
+abbrev pub AllForgotten : List Node → Type 0
+AllForgotten ns = (v : ℕ) → v < length ns → (node_at v ns).remembered ≡ no_node
+
 -- the node that an arc leaves, where the arc is given up
 abbrev pub without_tail : (arc : ℕ) → (tails : List ℕ) → List Node → List Node
 without_tail i ts ns = cond (eqb i no_arc) ns (forgetting (get_or ts i 0) ns)

@@ -1,85 +1,74 @@
 -- From the fresh state to the start: the origin has the bound 0, and reaching it is the start. Assumes nothing.
-use mathlib.Core.Path.{◌≡◌, sym, ap, ◌∙◌}
-use mathlib.Core.Bool.{true}
-use mathlib.Core.List.{List}
+use mathlib.Core.Path.{◌≡◌, sym, ap, subst, ◌∙◌}
 use mathlib.Core.Option.{none}
 use Prim.Native.Nat.{ℕ, ◌≤◌, ◌<◌}
 use native.Mathlib.Omega.{arith}
 use lib.ListN.{length, get_or}
-use Rattle.table.specs.Table.{Table, table_of, is_table}
+use Rattle.table.specs.Table.{Table, no_node}
+use Rattle.table.specs.Lent.{table_in}
 use Rattle.auction.specs.Auction.{State, bound_at, kept_at, status_at, reach, fresh, start}
 use Rattle.table.proofs.Basics.{some_none}
-use Rattle.auction.proofs.Good.{good}
 use Rattle.auction.proofs.Invariant.Starting.{fresh_status, fresh_kept, fresh_origin}
-use Rattle.steps.specs.declared.state.Progress.{Progress}
-use Rattle.steps.specs.Seen.{seen, greatest_sum}
-use Rattle.forward_star.specs.Lists.{star, Outgoing}
-use Rattle.steps.specs.Memory.{TailsKnown, KeptArcs, Remembering, but}
-use Rattle.solver.specs.Runs.{Begun, AllForgotten}
+use Rattle.forward_star.specs.declared.star.Star.{Star}
+use Rattle.forward_star.proofs.Columns.{good_table, nodes_are, origin_is, tails_below}
+use Rattle.steps.specs.declared.state.RunState.{RunState}
+use Rattle.steps.specs.Seen.{held, prices_in, bounds_in, kepts_in, memory_in, statuses_in, greatest_sum}
+use Rattle.steps.specs.Memory.{AllForgotten, Ready, KeptArcs, Remembers, but}
+use Rattle.steps.specs.Steps.{Becomes}
 use Rattle.steps.proofs.Arrays.{seen_bound, seen_kept, seen_status, some_arc}
+use Rattle.steps.proofs.Nodes.{as_many, entry}
 use Rattle.solver.proofs.run.Ready.{bound_value}
-use Rattle.table.proofs.Columns.{nodes_so, origin_so}
-use Rattle.forward_star.proofs.Columns.{tails_held, tails_below}
 
-module _ {t : Table} {ws : List ℕ} {o : ℕ} {ts hs ls first nexts : List ℕ} where
-  module _ (p u b k s : List ℕ) (g : Progress) (bg : Begun fresh t ws o (star hs ls first nexts) ts (seen p u b k s g)) where
-    pub origin_below : o < length first
-    origin_below = omega (arith, (good t ws bg.good).origin_in, bg.origin_is, bg.listed.linked.first_count)
+module _ (star : Star) (r : RunState) (begun : held r ≡ fresh (table_in star.table)) (many : length r.nodes ≡ star.table.n) where
+  abbrev t : Table
+  t = table_in star.table
 
-    pub origin_bound : length b ≡ length first → get_or b o 0 ≤ greatest_sum
-    origin_bound l =
-        let e = sym (seen_bound p u b k s g o (omega (arith, origin_below))) ∙ ap (λ x. bound_at x o) bg.begun
-        ∙ ap (bound_at (fresh t)) (sym bg.origin_is) ∙ fresh_origin t (good t ws bg.good) in
-        omega (arith, bound_value _ 0 e)
+  abbrev o : ℕ
+  o = star.table.origin
 
-    -- no node has been reached, and none keeps an arc
-    pub origin_unreached : get_or s o 0 ≡ 0
-    origin_unreached = sym (seen_status p u b k s g o) ∙ ap (λ x. status_at x o) bg.begun ∙ fresh_status t (good t ws bg.good) o
+  pub origin_below : o < star.table.n
+  origin_below = omega (arith, (good_table star.table).origin_in, origin_is star.table, nodes_are star.table)
 
-    unkept : (v : ℕ) → kept_at (seen p u b k s g) v ≡ none
-    unkept v = ap (λ x. kept_at x v) bg.begun ∙ fresh_kept t (good t ws bg.good) v
+  pub origin_bound : get_or (bounds_in r.nodes) o 0 ≤ greatest_sum
+  origin_bound =
+      let inside : o < length (bounds_in r.nodes) = omega (arith, origin_below, many, as_many (λ m. m.bound) r.nodes) in
+      let e = sym (seen_bound r.path (prices_in r.nodes) (bounds_in r.nodes) (kepts_in r.nodes) (statuses_in r.nodes) r.progress o inside)
+      ∙ ap (λ (x : State). bound_at x o) begun ∙ ap (bound_at (fresh t)) (sym (origin_is star.table)) ∙ fresh_origin t (good_table star.table) in
+      omega (arith, bound_value _ 0 e)
 
-    pub none_kept : KeptArcs t (seen p u b k s g)
-    none_kept v i e = absurd (some_none e (unkept v))
+  -- no node has been reached, and none keeps an arc
+  pub origin_unreached : get_or (statuses_in r.nodes) o 0 ≡ 0
+  origin_unreached =
+      sym (seen_status r.path (prices_in r.nodes) (bounds_in r.nodes) (kepts_in r.nodes) (statuses_in r.nodes) r.progress o)
+      ∙ ap (λ (x : State). status_at x o) begun ∙ fresh_status t (good_table star.table) o
 
-    pub no_arc_kept : TailsKnown (length first) ts hs k
-    no_arc_kept =
-        record {
-          as_long = bg.tailed.count ∙ sym bg.listed.head_count;
-          kept_in =
-              record {
-                listed = λ v h d. absurd (some_none (seen_kept p u b k s g v h ∙ some_arc (get_or k v 0) d) (unkept v));
-                tail_in = λ i h. omega (arith, bg.tails_in i h, bg.listed.linked.first_count);
-              };
-        }
+  unkept : (v : ℕ) → kept_at (held r) v ≡ none
+  unkept v = ap (λ (x : State). kept_at x v) begun ∙ fresh_kept t (good_table star.table) v
 
-    -- so reaching the origin makes none remember a child
-    pub still_forgotten : (l l' : List ℕ) (y : State) → AllForgotten (length first) l → length l' ≡ length l →
-        Remembering t (but o (seen p u b k s g)) l l' (seen p u b k s g) y → AllForgotten (length first) l'
-    still_forgotten l l' y f e r = record { count = e ∙ f.count; nothing = λ v h. r.nothing v (f.nothing v h) }
+  pub none_kept : KeptArcs t (held r)
+  none_kept v i e = absurd (some_none e (unkept v))
 
-  pub started : {x y : State} → Begun fresh t ws o (star hs ls first nexts) ts x → y ≡ reach t o x → Begun start t ws o (star hs ls first nexts) ts y
-  unfolding start
-  started {x} {y} bg e =
+  pub nodes_ready : Ready star r.nodes
+  nodes_ready =
       record {
-        listed = bg.listed;
-        tailed = bg.tailed;
-        tails_in = bg.tails_in;
-        origin_is = bg.origin_is;
-        good = bg.good;
-        begun = e ∙ ap (λ v. reach t v x) (sym bg.origin_is) ∙ ap (reach t t.origin) bg.begun;
+        count = many;
+        kept_in =
+            record {
+              listed = λ v h d.
+                  let inside : v < length (kepts_in r.nodes) = omega (arith, as_many (λ m. m.kept) r.nodes) in
+                  let read = seen_kept r.path (prices_in r.nodes) (bounds_in r.nodes) (kepts_in r.nodes) (statuses_in r.nodes) r.progress v inside in
+                  absurd (some_none (read ∙ some_arc (get_or (kepts_in r.nodes) v 0) d) (unkept v));
+              tail_in = λ i h. omega (arith, tails_below star.table i h);
+            };
       }
 
--- the columns of a table that is not refused, and the lists of its outgoing arcs
-pub begun_fresh : (n o : ℕ) (ts hs ls ws : List ℕ) (eh : length hs ≡ length ts) (el : length ls ≡ length ts) →
-    is_table (table_of n o ts hs ls) ws ≡ true → {first nexts : List ℕ} {x : State} (at : ℕ) → at ≡ o → Outgoing (table_of n o ts hs ls) (star hs ls first nexts) →
-    x ≡ fresh (table_of n o ts hs ls) → Begun fresh (table_of n o ts hs ls) ws at (star hs ls first nexts) ts x
-begun_fresh n o ts hs ls ws eh el ok at ea listed e =
-    record {
-      listed = listed;
-      tailed = tails_held n o ts hs ls ws eh el ok;
-      tails_in = λ i h. omega (arith, tails_below n o ts hs ls ws eh el ok i h, nodes_so n o ts hs ls eh el);
-      origin_is = origin_so n o ts hs ls eh el ∙ sym ea;
-      good = ok;
-      begun = e;
-    }
+  -- so reaching the origin is the start, and makes none remember a child
+  module _ (r' : RunState) (v : ℕ) (ev : v ≡ o) where
+    pub started : Becomes (reach t v) r r' → held r' ≡ start t
+    unfolding start
+    started e = e ∙ ap (λ (w : ℕ). reach t w (held r)) (ev ∙ sym (origin_is star.table)) ∙ ap (reach t t.origin) begun
+
+    pub still_forgotten : AllForgotten r.nodes → length r'.nodes ≡ length r.nodes → Remembers t (but v) r r' → AllForgotten r'.nodes
+    still_forgotten none_there long remembers w h =
+        sym (entry (λ m. m.remembered) r'.nodes w)
+        ∙ (remembers none_kept).nothing w (entry (λ m. m.remembered) r.nodes w ∙ none_there w (omega arith))

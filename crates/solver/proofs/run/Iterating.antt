@@ -1,41 +1,44 @@
--- The run's loop: the arrays hold a state of the run, the index is that of the first wanted node missing there, the origin's price is not above the limit,
--- and so many iterations have scanned. Assumes nothing.
+-- The run's loop: a state of the run is held, the index is that of the first wanted node missing there, the origin's price is not above the limit, and so
+-- many iterations have scanned. Assumes nothing.
 use mathlib.Core.Path.{◌≡◌, refl, sym, ap, subst, ◌∙◌}
 use mathlib.Core.Bool.{false}
 use mathlib.Core.List.{List}
 use mathlib.Core.Logic.{⊎_elim}
-use mathlib.Core.Option.{some}
+use mathlib.Core.Option.{none, some}
 use Prim.Native.Nat.{ℕ, suc, ◌+◌, ◌-◌, ◌≤◌, ◌<◌}
 use native.Mathlib.Omega.{arith}
 use lib.ListN.{length, get_or}
 use lib.Dec.{ltb}
 use borrow.Author.Tests.{lt-ltb, le-ltb}
-use Rattle.table.specs.Table.{Table, no_arc, no_node}
-use Rattle.auction.specs.Auction.{State, Ended, Bid, state, ended, bid, best, next, terminal, price_at, kept_at, all_reached, iterations, start, extension}
+use Rattle.std.specs.Prelude.{Option, Some, None}
+use Rattle.table.specs.Table.{Table, no_node}
+use Rattle.table.specs.Lent.{table_in}
+use Rattle.auction.specs.Auction.{State, Ended, Bid, state, ended, bid, best, next, terminal, price_at, kept_at, all_reached, iterations, iteration, start, extension}
 use Rattle.auction.specs.Scans.{history, scan_count, scans}
 use Rattle.auction.specs.HandOver.{first_missing}
 use Rattle.auction.specs.Limit.{above, decided, limited}
 use Rattle.table.proofs.Basics.{same_or, either_first, either_second, neither}
-use Rattle.auction.proofs.Good.{good, wanted_in}
+use Rattle.auction.proofs.Good.{wanted_in}
 use Rattle.auction.proofs.Steps.Effects.{reached_status, status_reached, kept_below}
-use Rattle.auction.proofs.Steps.Keeps.{start_path, lifts, moves_keep_price, reaches_none}
+use Rattle.auction.proofs.Steps.Keeps.{extension_keeps, start_path, lifts, moves_keep_price, reaches_none}
 use Rattle.auction.proofs.Invariant.Sound.{terminal_status}
 use Rattle.auction.proofs.Invariant.Starting.{started_iterations, started_price}
 use Rattle.auction.proofs.Run.{Running, begins, goes_on, done, stuck, stepped}
 use Rattle.auction.proofs.Remembering.{scans_within}
-use Rattle.steps.specs.declared.state.Progress.{Progress}
+use Rattle.forward_star.specs.declared.star.Star.{Star}
+use Rattle.forward_star.proofs.Columns.{good_table, nodes_are, origin_is}
 use Rattle.steps.specs.declared.bids.LeastBid.{LeastBid}
-use Rattle.steps.specs.Seen.{bid_of, seen, arrays, Sized, greatest_sum, too_many}
-use Rattle.forward_star.specs.Lists.{star, Outgoing}
-use Rattle.steps.specs.Memory.{HasBefore, TailsKnown, Remembers, Remembered, those_reached}
-use Rattle.steps.specs.Steps.{bid_in, Leads, Becomes, CanStep, Steps}
-use Rattle.solver.specs.Runs.{Begun, RanWithin, AllForgotten, FirstFrom}
-use Rattle.steps.proofs.Arrays.{seen_price}
+use Rattle.steps.specs.declared.state.RunState.{RunState}
+use Rattle.steps.specs.Seen.{seen, held, prices_in, bounds_in, kepts_in, memory_in, statuses_in, greatest_sum, too_many}
+use Rattle.steps.specs.Memory.{HasBefore, Ready, AllForgotten, Remembers, Remembered, those_reached}
+use Rattle.steps.specs.Steps.{bid_in, Becomes, CanStep, Steps}
+use Rattle.solver.specs.Runs.{RanWithin, FirstFrom}
+use Rattle.steps.proofs.Nodes.{as_many, entry}
 use Rattle.steps.proofs.steps.Stepping.{is_stop}
 use Rattle.solver.proofs.run.Wanted.{some_missing, none_missing, same_missing, jump}
 use Rattle.solver.proofs.run.Holding.{Holding}
-use Rattle.solver.proofs.run.Ready.{Ready, few_in_all, path_length, ready, room_for, bound_low, next_is, can_step, kept_arcs, kept_in, has_before}
-use Rattle.solver.proofs.run.Storing.{bid_arc, stores}
+use Rattle.solver.proofs.run.Ready.{InRun, few_in_all, path_length, price_held, in_run, room_for, bound_low, next_is, can_step, kept_arcs, nodes_ready, has_before}
+use Rattle.solver.proofs.run.Storing.{the_bid, stores}
 use Rattle.solver.proofs.run.Recalling.{memory, holding_first, entry_kept, extends_by_entry, scans_no_more, holding_recalled, scans_once_more, holding_next}
 
 -- THE LOOP
@@ -46,7 +49,7 @@ pub record Round (t : Table) (ws : List ℕ) (limit w c : ℕ) (l : List ℕ) (x
   pub missing : w ≡ first_missing 0 ws x
   -- so many iterations have scanned,
   pub scanned : c ≡ scans (iterations x) t
-  -- and the array says which child each node remembers
+  -- and the nodes say which child each remembers
   pub holding : Holding t (memory (iterations x) t) l x
 
 -- Y IS THE NEXT STATE after x
@@ -54,39 +57,31 @@ pub record Next (t : Table) (l' : List ℕ) (c' : ℕ) (x y : State) : Type 0 wh
   pub is_next : next t x ≡ some y
   -- so many iterations have scanned then,
   pub scanned : c' ≡ scans (suc (iterations x)) t
-  -- and the array says which child each node remembers
+  -- and the nodes say which child each remembers
   pub holding : Holding t (memory (suc (iterations x)) t) l' y
 
--- AN ITERATION HAS BEEN MADE from state x: the arrays hold the next one, and are as long as they were
-pub record Made (ws : List ℕ) (o : ℕ) (ts hs ls first nexts : List ℕ) (x₀ x : State) (p u b k l s : List ℕ) (g : Progress) (c : ℕ) : Type 0 where
-  pub to : (t : Table) → Begun start t ws o (star hs ls first nexts) ts x₀ → Next t l c x (seen p u b k s g)
-  pub path_long : length p ≡ length first
-  pub remembered_long : length l ≡ length first
-  pub sized : Sized (length first) u b k s
-
--- the same arrays under other names
-pub made_same : {ws : List ℕ} {o : ℕ} {ts hs ls first nexts : List ℕ} {x₀ x : State} {p u b k l s p' u' b' k' l' s' : List ℕ} {g g' : Progress} {c c' : ℕ} →
-    p' ≡ p → u' ≡ u → b' ≡ b → k' ≡ k → l' ≡ l → s' ≡ s → g' ≡ g → c' ≡ c → Made ws o ts hs ls first nexts x₀ x p u b k l s g c →
-    Made ws o ts hs ls first nexts x₀ x p' u' b' k' l' s' g' c'
-made_same ep eu eb ek el es eg ec m = rw (ep, eu, eb, ek, el, es, eg, ec) m
+-- AN ITERATION HAS BEEN MADE from state x: the next one is held, by as many nodes
+pub record Made (star : Star) (x : State) (r : RunState) (c : ℕ) : Type 0 where
+  pub to : Next (table_in star.table) (memory_in r.nodes) c x (held r)
+  pub path_long : length r.path ≡ star.table.n
+  pub nodes_long : length r.nodes ≡ star.table.n
 
 -- the index is that of the first wanted node that is missing in state x
-pub record Missing (ws : List ℕ) (o : ℕ) (ts hs ls first next : List ℕ) (x₀ : State) (w : ℕ) (x : State) : Type 0 where
-  pub low : w ≤ length ws
-  pub missing : (t : Table) → Begun start t ws o (star hs ls first next) ts x₀ → w ≡ first_missing 0 ws x
+pub record Missing (star : Star) (w : ℕ) (x : State) : Type 0 where
+  pub low : w ≤ length star.table.wanted.now
+  pub missing : w ≡ first_missing 0 star.table.wanted.now x
 
 -- AT THE LOOP'S HEAD
-pub record Iterating (ws : List ℕ) (limit o : ℕ) (ts hs ls first next : List ℕ) (x₀ : State) (p u b k l s : List ℕ) (g : Progress) (w c : ℕ) : Type 0 where
+pub record Iterating (star : Star) (limit : ℕ) (r : RunState) (w c : ℕ) : Type 0 where
   -- the index is that of a wanted node, or their number
-  pub low : w ≤ length ws
-  -- each array has an entry for each node
-  pub path_long : length p ≡ length first
-  pub remembered_long : length l ≡ length first
-  pub sized : Sized (length first) u b k s
+  pub low : w ≤ length star.table.wanted.now
+  -- there is room on the path for each node, and an entry
+  pub path_long : length r.path ≡ star.table.n
+  pub nodes_long : length r.nodes ≡ star.table.n
   -- the origin's price is not above the limit
-  pub below : get_or u o 0 ≤ limit
-  -- and in each table with which the run has begun they hold a state of it
-  pub round : (t : Table) → Begun start t ws o (star hs ls first next) ts x₀ → Round t ws limit w c l (seen p u b k s g)
+  pub below : get_or (prices_in r.nodes) star.table.origin 0 ≤ limit
+  -- and a state of the run is held
+  pub round : Round (table_in star.table) star.table.wanted.now limit w c (memory_in r.nodes) (held r)
 
 -- where the run ends in a state of it, all that is known there
 ran : {t : Table} {ws : List ℕ} (limit : ℕ) {w c : ℕ} {x : State} → Running t (decided t ws limit) x → (limited t ws limit).last ≡ x → w ≡ first_missing 0 ws x →
@@ -101,313 +96,268 @@ ran {t} limit {x = x} r last missing low scanned =
       scans_so = scanned;
     }
 
-status_is : (p u b k s : List ℕ) (g : Progress) → (seen p u b k s g).status ≡ s
+statuses_held : (r : RunState) → (held r).status ≡ statuses_in r.nodes
 unfolding seen state
-status_is p u b k s g = refl
+statuses_held r = refl
 
-module _ {ws : List ℕ} {o : ℕ} {ts hs ls first nexts : List ℕ} where
-  nodes_so : {x₀ : State} (t : Table) → Begun start t ws o (star hs ls first nexts) ts x₀ → t.n ≡ length first
-  nodes_so t bg = sym bg.listed.linked.first_count
+module _ (star : Star) where
+  abbrev t : Table
+  t = table_in star.table
 
-  pub wanted_below : {x₀ : State} (t : Table) → Begun start t ws o (star hs ls first nexts) ts x₀ → (status : List ℕ) → length status ≡ length first →
-      (j : ℕ) → j < length ws → get_or ws j 0 < length status
-  wanted_below t bg status l j h = omega (arith, wanted_in t ws bg.good j h, nodes_so t bg)
+  abbrev ws : List ℕ
+  ws = star.table.wanted.now
 
-  -- a price as the code reads it
-  price_read : {x₀ : State} (t : Table) → Begun start t ws o (star hs ls first nexts) ts x₀ → (p u b k s : List ℕ) (g : Progress) →
-      price_at (seen p u b k s g) t.origin ≡ get_or u o 0
-  price_read t bg p u b k s g = seen_price p u b k s g t.origin ∙ ap (λ (v : ℕ). get_or u v 0) bg.origin_is
+  pub wanted_below : (nodes : ℕ) → nodes ≡ star.table.n → (j : ℕ) → j < length ws → get_or ws j 0 < nodes
+  wanted_below nodes e j h = omega (arith, wanted_in t ws star.table.good j h, nodes_are star.table)
 
-  pub starts : (p u b k l s : List ℕ) (g : Progress) {limit w : ℕ} → (t : Table) → Begun start t ws o (star hs ls first nexts) ts (seen p u b k s g) →
-      length p ≡ length first → Sized (length first) u b k s → AllForgotten (length first) l → FirstFrom 0 ws s w →
-      Iterating ws limit o ts hs ls first nexts (seen p u b k s g) p u b k l s g w 0
+  -- the origin's price as the code reads it
+  price_read : (r : RunState) → price_at (held r) t.origin ≡ get_or (prices_in r.nodes) star.table.origin 0
+  price_read r = price_held r t.origin ∙ ap (λ (v : ℕ). get_or (prices_in r.nodes) v 0) (origin_is star.table)
+
+  pub starts : (r : RunState) {limit w : ℕ} → held r ≡ start t → length r.path ≡ star.table.n → length r.nodes ≡ star.table.n → AllForgotten r.nodes →
+      FirstFrom 0 ws (statuses_in r.nodes) w → Iterating star limit r w 0
   unfolding scans history scan_count
-  starts p u b k l s g {limit} {w} t bg lp sized forgotten f =
+  starts r {limit} {w} begun long many forgotten f =
+      let good = good_table star.table in
+      let first_one : iterations (held r) ≡ 0 = ap iterations begun ∙ started_iterations t good in
+      let nothing : (v : ℕ) → v < t.n → get_or (memory_in r.nodes) v 0 ≡ no_node =
+      λ v h. entry (λ m. m.remembered) r.nodes v ∙ forgotten v (omega (arith, nodes_are star.table)) in
       record {
         low = f.low;
-        path_long = lp;
-        remembered_long = forgotten.count;
-        sized = sized;
-        below =
-            omega
-            (arith, sym (price_read t bg p u b k s g) ∙ ap (λ (x : State). price_at x t.origin) bg.begun, started_price t (good t ws bg.good));
-        round = λ t bg.
-            let x = seen p u b k s g in
-            let first_one : iterations x ≡ 0 = ap iterations bg.begun ∙ started_iterations t (good t ws bg.good) in
-            record {
-              running = subst (λ (x : State). Running t (decided t ws limit) x) (sym bg.begun) (begins (good t ws bg.good));
-              missing = f.first x (status_is p u b k s g);
-              scanned = subst (λ (a : ℕ). 0 ≡ scans a t) (sym first_one) refl;
-              holding =
-                  subst (λ (a : ℕ). Holding t (memory a t) l x) (sym first_one)
-                  (holding_first t l x (λ v h. forgotten.nothing v (omega (arith, h, nodes_so t bg))) (ap (λ (y : State). y.path) bg.begun ∙ start_path t));
-            };
+        path_long = long;
+        nodes_long = many;
+        below = omega (arith, sym (price_read r) ∙ ap (λ (x : State). price_at x t.origin) begun, started_price t good);
+        round = record {
+          running = subst (λ (x : State). Running t (decided t ws limit) x) (sym begun) (begins good);
+          missing = f.first (held r) (statuses_held r);
+          scanned = subst (λ (a : ℕ). 0 ≡ scans a t) (sym first_one) refl;
+          holding =
+              subst (λ (a : ℕ). Holding t (memory a t) (memory_in r.nodes) (held r)) (sym first_one)
+              (holding_first t (memory_in r.nodes) (held r) nothing (ap (λ (y : State). y.path) begun ∙ start_path t));
+        };
       }
 
-  module _ {limit : ℕ} {x₀ : State} {p u b k l s : List ℕ} {g : Progress} {w c : ℕ} (i : Iterating ws limit o ts hs ls first nexts x₀ p u b k l s g w c) where
-    undecided : w < length ws → (t : Table) → Begun start t ws o (star hs ls first nexts) ts x₀ → decided t ws limit (seen p u b k s g) ≡ false
+  module _ {limit : ℕ} {r : RunState} {w c : ℕ} (i : Iterating star limit r w c) where
+    abbrev x : State
+    x = held r
+
+    abbrev run : Running t (decided t ws limit) x
+    run = i.round.running
+
+    many : length r.nodes ≡ t.n
+    many = i.nodes_long ∙ sym (nodes_are star.table)
+
+    undecided : w < length ws → decided t ws limit x ≡ false
     unfolding decided above
-    undecided h t bg =
-        let x = seen p u b k s g in
-        neither (all_reached ws x) (ltb limit (price_at x t.origin)) (some_missing ws x (omega (arith, (i.round t bg).missing)))
-        (le-ltb limit (price_at x t.origin) (omega (arith, price_read t bg p u b k s g, i.below)))
+    undecided h =
+        neither (all_reached ws x) (ltb limit (price_at x t.origin)) (some_missing ws x (omega (arith, i.round.missing)))
+        (le-ltb limit (price_at x t.origin) (omega (arith, price_read r, i.below)))
 
     -- what the loop's body needs
-    module _ (t : Table) (bg : Begun start t ws o (star hs ls first nexts) ts x₀) where
-      pub now_ready : Ready (length first) p u g (seen p u b k s g)
-      now_ready = ready p u b k s g (i.round t bg).running (length first) (nodes_so t bg)
+    pub now_ready : InRun star.table.n r
+    now_ready = in_run r run star.table.n (nodes_are star.table)
 
-      pub few_scans : c < too_many
-      few_scans =
-          let r = i.round t bg in
-          let low = (scans_within t r.running.good _ _ r.running.steps).1 in
-          omega (arith, r.scanned, low, r.running.few, few_in_all t.n r.running.good.few_nodes)
+    pub few_scans : c < too_many
+    few_scans =
+        let low = (scans_within t run.good _ _ run.steps).1 in
+        omega (arith, i.round.scanned, low, run.few, few_in_all t.n run.good.few_nodes)
 
-      pub tails_known : TailsKnown (length first) ts hs k
-      tails_known =
-          record {
-            as_long = bg.tailed.count ∙ sym bg.listed.head_count;
-            kept_in = kept_in p u b k s l g (i.round t bg).running (length first) (nodes_so t bg) bg.tailed bg.tails_in;
-          }
+    pub ready_nodes : Ready star r.nodes
+    ready_nodes = nodes_ready star r run i.nodes_long
 
-      module _ (v : ℕ) (ev : v ≡ get_or p (g.depth - 1) 0) where
-        at : terminal (seen p u b k s g) ≡ v
-        at = now_ready.terminal_is ∙ sym ev
+    module _ (v : ℕ) (ev : v ≡ get_or r.path (r.progress.depth - 1) 0) where
+      at : terminal x ≡ v
+      at = now_ready.terminal_is ∙ sym ev
 
-        pub node_before : (v ≡ o → ⊥) → HasBefore g.depth p l
-        node_before =
-            has_before p u b k s l g (i.round t bg).running v o at bg.origin_is (omega (arith, i.path_long, nodes_so t bg))
-            (omega (arith, i.remembered_long, nodes_so t bg))
+      pub node_before : (v ≡ star.table.origin → ⊥) → HasBefore r.progress.depth r.path r.nodes
+      node_before = has_before star r run i.nodes_long v at i.path_long
 
-        pub may_step : (value arc : ℕ) → w < length ws → bid_of value arc ≡ best t v (seen p u b k s g) → (arc ≡ no_arc → v ≡ o → ⊥) →
-            CanStep v o value arc g.depth hs p u b
-        may_step value arc h bids go =
-            can_step p u b k s g (i.round t bg).running v o value arc at bg.origin_is bids bg.listed (undecided h t bg)
-            (omega (arith, i.path_long, nodes_so t bg)) (omega (arith, i.sized.bounds, nodes_so t bg)) go
+      pub may_step : (least : Option LeastBid) → w < length ws → bid_in least ≡ best t v x → (least ≡ None → v ≡ star.table.origin → ⊥) →
+          CanStep v least star r
+      may_step least h bids go = can_step star r run i.nodes_long v least at bids (undecided h) i.path_long go
 
-        -- a node that remembers a child can go on to it
-        entry : get_or l (terminal (seen p u b k s g)) 0 ≡ get_or l v 0
-        entry = ap (λ (a : ℕ). get_or l a 0) at
+      -- a node that remembers a child can go on to it
+      entry_at : get_or (memory_in r.nodes) (terminal x) 0 ≡ get_or (memory_in r.nodes) v 0
+      entry_at = ap (λ (a : ℕ). get_or (memory_in r.nodes) a 0) at
 
-        module _ (some_child : get_or l v 0 ≡ no_node → ⊥) where
-          some_entry : get_or l (terminal (seen p u b k s g)) 0 ≡ no_node → ⊥
-          some_entry z = some_child (sym entry ∙ z)
+      module _ (child : ℕ) (ec : get_or (memory_in r.nodes) v 0 ≡ child) (some_child : child ≡ no_node → ⊥) where
+        some_entry : get_or (memory_in r.nodes) (terminal x) 0 ≡ no_node → ⊥
+        some_entry z = some_child (sym ec ∙ sym entry_at ∙ z)
 
-          extends_to_entry : next t (seen p u b k s g) ≡ some (extension t (get_or l v 0) (seen p u b k s g))
-          extends_to_entry =
-              let r = i.round t bg in
-              extends_by_entry t r.running.good _ _ r.running.steps r.running.invariant l r.holding some_entry
-              ∙ ap (λ (j : ℕ). some (extension t j (seen p u b k s g))) entry
+        extends_to_entry : next t x ≡ some (extension t child x)
+        extends_to_entry =
+            extends_by_entry t run.good _ _ run.steps run.invariant (memory_in r.nodes) i.round.holding some_entry
+            ∙ ap (λ (j : ℕ). some (extension t j x)) (entry_at ∙ ec)
 
-          pub may_extend : w < length ws →
-              (get_or l v 0 < length first) × ((get_or b (get_or l v 0) 0 ≤ greatest_sum) × ((g.depth < length p) × (g.extensions < too_many)))
-          may_extend h =
-              let r = i.round t bg in
-              let kept = entry_kept t r.running.good _ _ r.running.steps r.running.invariant l r.holding some_entry in
-              let KeptHere = ap (kept_at (seen p u b k s g)) (sym entry) ∙ kept.1 in
-              let inside = kept_below (get_or l v 0) r.running.invariant.sound.nodes.sizes KeptHere in (
-                omega (arith, inside, nodes_so t bg),
-                (
-                  bound_low p u b k s g r.running (get_or l v 0) kept.0 KeptHere (omega (arith, i.sized.bounds, nodes_so t bg)),
-                  (
-                    omega (arith, room_for p u b k s g r.running (undecided h t bg) (get_or l v 0) extends_to_entry, i.path_long, nodes_so t bg),
-                    omega (arith, now_ready.few, few_in_all (length first) now_ready.few_nodes),
-                  ),
-                ),
-              )
+        pub may_extend : (h : w < length ws) →
+            ((child < star.table.n) × (get_or (bounds_in r.nodes) child 0 ≤ greatest_sum)) × ((r.progress.depth < length r.path) × (r.progress.extensions < too_many))
+        may_extend h =
+            let kept = entry_kept t run.good _ _ run.steps run.invariant (memory_in r.nodes) i.round.holding some_entry in
+            let kept_here = ap (kept_at x) (sym (entry_at ∙ ec)) ∙ kept.1 in
+            let inside = kept_below child run.invariant.sound.nodes.sizes kept_here in (
+              (omega (arith, inside, nodes_are star.table), bound_low r run child kept.0 kept_here many),
+              (
+                omega (arith, room_for r run (undecided h) child extends_to_entry, i.path_long, nodes_are star.table),
+                omega (arith, now_ready.few, few_in_all star.table.n now_ready.few_nodes),
+              ),
+            )
 
-    -- ONE ITERATION MORE, to the state y: it is the auction's next, and what the nodes remember and the scans are as they are after it
+    -- ONE ITERATION MORE: it is the auction's next, and what the nodes remember and the scans are as they are after it
     module _ (h : w < length ws) where
-      pub continues : {p' u' b' k' l' s' : List ℕ} {g' : Progress} {w' c' : ℕ} →
-          Made ws o ts hs ls first nexts x₀ (seen p u b k s g) p' u' b' k' l' s' g' c' → get_or u' o 0 ≤ limit →
-          Missing ws o ts hs ls first nexts x₀ w' (seen p' u' b' k' s' g') → Iterating ws limit o ts hs ls first nexts x₀ p' u' b' k' l' s' g' w' c'
-      continues {p'} {u'} {b'} {k'} {l'} {s'} {g'} {w'} {c'} made low there =
+      pub continues : {r' : RunState} {w' c' : ℕ} → Made star x r' c' → get_or (prices_in r'.nodes) star.table.origin 0 ≤ limit → Missing star w' (held r') →
+          Iterating star limit r' w' c'
+      continues {r'} {w'} {c'} made low there =
+          let n = made.to in
+          let more = goes_on run (held r') (undecided h) n.is_next in
           record {
             low = there.low;
             path_long = made.path_long;
-            remembered_long = made.remembered_long;
-            sized = made.sized;
+            nodes_long = made.nodes_long;
             below = low;
-            round = λ t bg.
-                let x = seen p u b k s g in
-                let y = seen p' u' b' k' s' g' in
-                let r = i.round t bg in
-                let n = made.to t bg in
-                let more = goes_on r.running y (undecided h t bg) n.is_next in
-                record {
-                  running = more.0;
-                  missing = there.missing t bg;
-                  scanned = n.scanned ∙ ap (λ (a : ℕ). scans a t) (sym more.1);
-                  holding = subst (λ (a : ℕ). Holding t (memory a t) l' y) (sym more.1) n.holding;
-                };
+            round = record {
+              running = more.0;
+              missing = there.missing;
+              scanned = n.scanned ∙ ap (λ (a : ℕ). scans a t) (sym more.1);
+              holding = subst (λ (a : ℕ). Holding t (memory a t) (memory_in r'.nodes) (held r')) (sym more.1) n.holding;
+            };
           }
 
-      -- the node that is missing then is looked for from the one before on; where the path is not longer it is that one
-      module _ {p' u' b' k' l' s' : List ℕ} {g' : Progress} {c' : ℕ} (made : Made ws o ts hs ls first nexts x₀ (seen p u b k s g) p' u' b' k' l' s' g' c') where
-        pub looked_for : {w' : ℕ} → FirstFrom w ws s' w' → Missing ws o ts hs ls first nexts x₀ w' (seen p' u' b' k' s' g')
+      module _ {r' : RunState} {c' : ℕ} (made : Made star x r' c') where
+        abbrev y : State
+        y = held r'
+
+        -- the node that is missing then is looked for from the one before on; where the path is not longer it is that one
+        pub looked_for : {w' : ℕ} → FirstFrom w ws (statuses_in r'.nodes) w' → Missing star w' y
         looked_for f =
+            let after = stepped t run.good x run.invariant y made.to.is_next in
             record {
               low = f.low;
-              missing = λ t bg.
-                  let x = seen p u b k s g in
-                  let y = seen p' u' b' k' s' g' in
-                  let r = i.round t bg in
-                  let after = stepped t r.running.good x r.running.invariant y (made.to t bg).is_next in
-                  f.first y (status_is p' u' b' k' s' g')
-                  ∙ jump w ws x y r.missing i.low (λ j q. status_reached y j (after.stays j (reached_status x j q)));
+              missing =
+                  f.first y (statuses_held r')
+                  ∙ jump w ws x y i.round.missing i.low (λ j q. status_reached y j (after.stays j (reached_status x j q)));
             }
 
-        pub still_missing : g'.depth ≤ g.depth → Missing ws o ts hs ls first nexts x₀ w (seen p' u' b' k' s' g')
+        pub still_missing : r'.progress.depth ≤ r.progress.depth → Missing star w y
         still_missing short =
+            let here = status_reached x (terminal x) (omega (arith, terminal_status run.invariant.sound)) in
             record {
               low = i.low;
-              missing = λ t bg.
-                  let x = seen p u b k s g in
-                  let y = seen p' u' b' k' s' g' in
-                  let r = i.round t bg in
-                  let here = status_reached x (terminal x) (omega (arith, terminal_status r.running.invariant.sound)) in
-                  r.missing
-                  ∙ sym
-                  (same_missing 0 ws x y
-                  (reaches_none t x y (made.to t bg).is_next here (omega (arith, short, path_length p u b k s g, path_length p' u' b' k' s' g'))));
+              missing =
+                  i.round.missing
+                  ∙ sym (same_missing 0 ws x y (reaches_none t x y made.to.is_next here (omega (arith, short, path_length r, path_length r'))));
             }
 
-      -- where the path is as long as before the origin's price has become the least bid, and elsewhere it is as it was
-      module _ {p' u' b' k' l' s' : List ℕ} {g' : Progress} {c' : ℕ} (made : Made ws o ts hs ls first nexts x₀ (seen p u b k s g) p' u' b' k' l' s' g' c')
-          (t : Table) (bg : Begun start t ws o (star hs ls first nexts) ts x₀) (v : ℕ) (ev : v ≡ get_or p (g.depth - 1) 0) (least : LeastBid)
-          (bids : bid_in least ≡ best t v (seen p u b k s g)) where
-        lifted : g.depth ≡ g'.depth → get_or u' o 0 ≡ least.value
-        unfolding seen state bid
-        lifted same =
-            let x = seen p u b k s g in
-            let y = seen p' u' b' k' s' g' in
-            let long = path_length p' u' b' k' s' g' ∙ sym same ∙ sym (path_length p u b k s g) in
-            let r = (i.round t bg).running in
-            let to_bid = lifts t x y (made.to t bg).is_next r.within.path_some (omega (arith, r.good.origin_in, nodes_so t bg, i.sized.prices)) long in
-            let is_least = (bid_arc least.value least.arc to_bid.bid (bids ∙ ap (λ (a : ℕ). best t a x) (sym (at t bg v ev)) ∙ to_bid.is_best)).1 in
-            sym (price_read t bg p' u' b' k' s' g') ∙ to_bid.price_so ∙ ap (λ (d : Bid). d.value) (sym is_least)
+        -- where the path is as long as before the origin's price has become the least bid, and elsewhere it is as it was
+        module _ (v : ℕ) (ev : v ≡ get_or r.path (r.progress.depth - 1) 0) (least : Option LeastBid) (bids : bid_in least ≡ best t v x) where
+          lifted : r.progress.depth ≡ r'.progress.depth → (c : LeastBid) → least ≡ Some c → get_or (prices_in r'.nodes) star.table.origin 0 ≡ c.value
+          unfolding seen state bid
+          lifted same c e =
+              let long = path_length r' ∙ sym same ∙ sym (path_length r) in
+              let to_bid =
+              lifts t x y made.to.is_next run.within.path_some (omega (arith, run.good.origin_in, many, as_many (λ m. m.price) r.nodes)) long in
+              let is_least : some (bid c.value c.arc) ≡ some to_bid.bid =
+              ap bid_in (sym e) ∙ bids ∙ ap (λ (a : ℕ). best t a x) (sym (at v ev)) ∙ to_bid.is_best in
+              let value : c.value ≡ to_bid.bid.value = cc in
+              sym (price_read r') ∙ to_bid.price_so ∙ sym value
 
-        pub still_below : (limit < least.value → g.depth ≡ g'.depth → ⊥) → get_or u' o 0 ≤ limit
-        still_below d =
-            let x = seen p u b k s g in
-            let y = seen p' u' b' k' s' g' in
-            ⊎_elim (λ (same : g.depth ≡ g'.depth). let low : limit < least.value → ⊥ = λ above. d above same in omega (arith, lifted same, low))
-            (λ (other : g.depth ≡ g'.depth → ⊥).
-            let long : length y.path ≡ length x.path → ⊥ = λ e. other (sym (path_length p u b k s g) ∙ sym e ∙ path_length p' u' b' k' s' g') in
-            let same = moves_keep_price t x y (made.to t bg).is_next long in
-            omega (arith, same, price_read t bg p u b k s g, price_read t bg p' u' b' k' s' g', i.below))
-            (same_or g.depth g'.depth)
+          pub still_below : ((c : LeastBid) → least ≡ Some c → limit < c.value → r.progress.depth ≡ r'.progress.depth → ⊥) →
+              get_or (prices_in r'.nodes) star.table.origin 0 ≤ limit
+          still_below d =
+              ⊎_elim
+              (λ (same : r.progress.depth ≡ r'.progress.depth).
+              let long = path_length r' ∙ sym same ∙ sym (path_length r) in
+              let to_bid =
+              lifts t x y made.to.is_next run.within.path_some (omega (arith, run.good.origin_in, many, as_many (λ m. m.price) r.nodes)) long in
+              let c = the_bid least to_bid.bid (bids ∙ ap (λ (a : ℕ). best t a x) (sym (at v ev)) ∙ to_bid.is_best) in
+              let low : limit < c.0.value → ⊥ = λ above. d c.0 c.1.0 above same in omega (arith, lifted same c.0 c.1.0, low))
+              (λ (other : r.progress.depth ≡ r'.progress.depth → ⊥).
+              let long : length y.path ≡ length x.path → ⊥ = λ e. other (sym (path_length r) ∙ sym e ∙ path_length r') in
+              let same = moves_keep_price t x y made.to.is_next long in
+              omega (arith, same, price_read r, price_read r', i.below))
+              (same_or r.progress.depth r'.progress.depth)
 
-      -- the iteration is counted
-      pub counted : (p' u' b' k' l' s' : List ℕ) (g' : Progress) (c' : ℕ) → Made ws o ts hs ls first nexts x₀ (seen p u b k s g) p' u' b' k' l' s' g' c' →
-          (t : Table) → Begun start t ws o (star hs ls first nexts) ts x₀ →
-          g'.contractions + g'.extensions + g'.deletions ≡ suc (g.contractions + g.extensions + g.deletions)
-      unfolding iterations seen state
-      counted p' u' b' k' l' s' g' c' made t bg =
-          (goes_on (i.round t bg).running (seen p' u' b' k' s' g') (undecided h t bg) (made.to t bg).is_next).1
+        -- the iteration is counted
+        pub counted : r'.progress.contractions + r'.progress.extensions + r'.progress.deletions
+            ≡ suc (r.progress.contractions + r.progress.extensions + r.progress.deletions)
+        unfolding iterations seen state
+        counted = (goes_on run y (undecided h) made.to.is_next).1
 
-    module _ (v : ℕ) (ev : v ≡ get_or p (g.depth - 1) 0) where
+    module _ (v : ℕ) (ev : v ≡ get_or r.path (r.progress.depth - 1) 0) where
       -- by the child that the node remembers
-      pub by_memory : (some_child : get_or l v 0 ≡ no_node → ⊥) (p' b' k' l' s' : List ℕ) (g' : Progress) →
-          Becomes (star hs ls first nexts) (λ t. extension t (get_or l v 0)) (arrays p u b k s g) (arrays p' u b' k' s' g') →
-          Remembers (star hs ls first nexts) ts those_reached l l' (arrays p u b k s g) (arrays p' u b' k' s' g') →
-          length p' ≡ length p → length b' ≡ length b → length k' ≡ length k → length l' ≡ length l → length s' ≡ length s →
-          Made ws o ts hs ls first nexts x₀ (seen p u b k s g) p' u b' k' l' s' g' c
-      by_memory some_child p' b' k' l' s' g' becomes remembers lp lb lk ll lst =
+      pub by_memory : (child : ℕ) → get_or (memory_in r.nodes) v 0 ≡ child → (child ≡ no_node → ⊥) → (r' : RunState) →
+          Becomes (extension t child) r r' → Remembers t those_reached r r' → length r'.path ≡ length r.path → length r'.nodes ≡ length r.nodes → Made star x r' c
+      by_memory child ec some_child r' becomes remembers lp ln =
+          let e = extends_to_entry v ev child ec some_child ∙ ap some (sym becomes) in
+          let has_entry = some_entry v ev child ec some_child in
+          let l = memory_in r.nodes in
           record {
-            to = λ t bg.
-                let x = seen p u b k s g in
-                let r = i.round t bg in
-                let e = extends_to_entry t bg v ev some_child ∙ ap some (sym (becomes t bg.listed)) in
-                let has_entry = some_entry t bg v ev some_child in
-                record {
-                  is_next = e;
-                  scanned =
-                      r.scanned ∙ sym (scans_no_more t r.running.good _ x r.running.steps r.running.invariant l r.holding has_entry);
-                  holding =
-                      holding_recalled t r.running.good _ x r.running.steps r.running.invariant l r.holding has_entry
-                      (seen p' u b' k' s' g') e l' (remembers t bg.listed bg.tailed (kept_arcs p u b k s l g r.running));
-                };
+            to = record {
+              is_next = e;
+              scanned = i.round.scanned ∙ sym (scans_no_more t run.good _ x run.steps run.invariant l i.round.holding has_entry);
+              holding =
+                  holding_recalled t run.good _ x run.steps run.invariant l i.round.holding has_entry
+                  (held r') e (memory_in r'.nodes) (remembers (kept_arcs r run));
+            };
             path_long = lp ∙ i.path_long;
-            remembered_long = ll ∙ i.remembered_long;
-            sized = record { prices = i.sized.prices; bounds = lb ∙ i.sized.bounds; kepts = lk ∙ i.sized.kepts; statuses = lst ∙ i.sized.statuses };
+            nodes_long = ln ∙ i.nodes_long;
           }
 
+      -- which changes no price
+      pub below_by_memory : (child : ℕ) (r' : RunState) → Becomes (extension t child) r r' → get_or (prices_in r'.nodes) star.table.origin 0 ≤ limit
+      unfolding seen state
+      below_by_memory child r' becomes =
+          let same : prices_in r'.nodes ≡ prices_in r.nodes = ap (λ (a : State). a.price) becomes ∙ (extension_keeps t child x).1 in
+          rw same i.below
+
       -- by a scan, which found the least bid
-      pub by_scan : get_or l v 0 ≡ no_node → (least : LeastBid) →
-          ((t : Table) → Outgoing t (star hs ls first nexts) → bid_in least ≡ best t v (seen p u b k s g)) → Leads hs least.arc least.child →
-          (p' u' b' k' l' s' : List ℕ) (g' : Progress) → Steps v o least (star hs ls first nexts) (arrays p u b k s g) (arrays p' u' b' k' s' g') →
-          Remembered v o least (star hs ls first nexts) ts l l' (arrays p u b k s g) (arrays p' u' b' k' s' g') →
-          length p' ≡ length p → length u' ≡ length u → length b' ≡ length b → length k' ≡ length k → length l' ≡ length l → length s' ≡ length s →
-          Made ws o ts hs ls first nexts x₀ (seen p u b k s g) p' u' b' k' l' s' g' (c + 1)
-      by_scan no_child least bids leads p' u' b' k' l' s' g' steps remembered lp lu lb lk ll lst =
+      pub by_scan : get_or (memory_in r.nodes) v 0 ≡ no_node → (least : Option LeastBid) → bid_in least ≡ best t v x → (r' : RunState) →
+          Steps v least t r r' → Remembered v least star r r' → length r'.path ≡ length r.path → length r'.nodes ≡ length r.nodes → Made star x r' (c + 1)
+      by_scan no_child least bids r' steps remembered lp ln =
+          let y = held r' in
+          let l = memory_in r.nodes in
+          let here = at v ev in
+          let e = next_is r run v least here bids ∙ steps in
+          let deep : (terminal x ≡ t.origin → ⊥) → 2 ≤ r.progress.depth = λ d. (node_before v ev (λ q. d (here ∙ q ∙ sym (origin_is star.table)))).some_node in
+          let stored = stores star r r' (kept_arcs r run) v least here deep bids remembered in
+          let no_entry = entry_at v ev ∙ no_child in
           record {
-            to = λ t bg.
-                let x = seen p u b k s g in
-                let y = seen p' u' b' k' s' g' in
-                let r = i.round t bg in
-                let here = at t bg v ev in
-                let e = next_is p u b k s g r.running v o least.value least.arc here bg.origin_is (bids t bg.listed) ∙ steps t bg.listed bg.origin_is in
-                let deep : (terminal x ≡ t.origin → ⊥) → 2 ≤ g.depth = λ d. (node_before t bg v ev (λ q. d (here ∙ q ∙ sym bg.origin_is))).some_node in
-                let stored =
-                stores p u b k s l g t bg.listed bg.tailed (kept_arcs p u b k s l g r.running) v least here bg.origin_is deep (bids t bg.listed) leads
-                remembered in
-                let no_entry = entry t bg v ev ∙ no_child in
-                record {
-                  is_next = e;
-                  scanned =
-                      omega
-                      (arith, r.scanned, scans_once_more t r.running.good _ x r.running.steps r.running.invariant l r.holding no_entry);
-                  holding =
-                      holding_next t r.running.good _ x r.running.steps r.running.invariant y e l l'
-                      (omega (arith, i.remembered_long, nodes_so t bg)) r.holding no_entry stored;
-                };
+            to = record {
+              is_next = e;
+              scanned = omega (arith, i.round.scanned, scans_once_more t run.good _ x run.steps run.invariant l i.round.holding no_entry);
+              holding =
+                  holding_next t run.good _ x run.steps run.invariant y e l (memory_in r'.nodes)
+                  (as_many (λ m. m.remembered) r.nodes ∙ many) i.round.holding no_entry stored;
+            };
             path_long = lp ∙ i.path_long;
-            remembered_long = ll ∙ i.remembered_long;
-            sized =
-                record {
-                  prices = lu ∙ i.sized.prices;
-                  bounds = lb ∙ i.sized.bounds;
-                  kepts = lk ∙ i.sized.kepts;
-                  statuses = lst ∙ i.sized.statuses;
-                };
+            nodes_long = ln ∙ i.nodes_long;
           }
 
     -- THE ENDS: every wanted node has been reached,
-    pub ends : length ws ≤ w → (t : Table) → Begun start t ws o (star hs ls first nexts) ts x₀ → RanWithin t ws limit w c (seen p u b k s g)
+    pub ends : length ws ≤ w → RanWithin t ws limit w c x
     unfolding limited decided above ended
-    ends h t bg =
-        let r = i.round t bg in
-        let x = seen p u b k s g in
-        let all = either_first (all_reached ws x) (ltb limit (price_at x t.origin)) (none_missing ws x (omega (arith, r.missing))) in
-        ran limit r.running (ap (λ (e : Ended). e.last) (done r.running all)) r.missing i.low r.scanned
+    ends h =
+        let all = either_first (all_reached ws x) (ltb limit (price_at x t.origin)) (none_missing ws x (omega (arith, i.round.missing))) in
+        ran limit run (ap (λ (e : Ended). e.last) (done run all)) i.round.missing i.low i.round.scanned
 
     -- the origin has no children,
-    pub stops : (v : ℕ) (least : LeastBid) → w < length ws → v ≡ get_or p (g.depth - 1) 0 →
-        ((t : Table) → Outgoing t (star hs ls first nexts) → bid_in least ≡ best t v (seen p u b k s g)) → least.arc ≡ no_arc → v ≡ o →
-        (t : Table) → Begun start t ws o (star hs ls first nexts) ts x₀ → RanWithin t ws limit w c (seen p u b k s g)
+    pub stops : (v : ℕ) (least : Option LeastBid) → w < length ws → v ≡ get_or r.path (r.progress.depth - 1) 0 → bid_in least ≡ best t v x →
+        least ≡ None → v ≡ star.table.origin → RanWithin t ws limit w c x
     unfolding limited ended
-    stops v least h ev bids ea eo t bg =
-        let r = i.round t bg in
-        let e = next_is p u b k s g r.running v o least.value least.arc (at t bg v ev) bg.origin_is (bids t bg.listed)
-        ∙ is_stop t v least.value least.arc (seen p u b k s g) ea (eo ∙ sym bg.origin_is) in
-        ran limit r.running (ap (λ (e : Ended). e.last) (stuck r.running (undecided h t bg) e)) r.missing i.low r.scanned
+    stops v least h ev bids none_there eo =
+        let e = next_is r run v least (at v ev) bids ∙ ap (λ l. iteration (bid_in l) t v x) none_there ∙ is_stop t v x (eo ∙ sym (origin_is star.table)) in
+        ran limit run (ap (λ (e : Ended). e.last) (stuck run (undecided h) e)) i.round.missing i.low i.round.scanned
 
     -- or an iteration that leaves the path as long as it was has lifted the origin's price above the limit
-    pub passes : {p' u' b' k' l' s' : List ℕ} {g' : Progress} {c' : ℕ} → w < length ws →
-        Made ws o ts hs ls first nexts x₀ (seen p u b k s g) p' u' b' k' l' s' g' c' → (v : ℕ) → v ≡ get_or p (g.depth - 1) 0 → (least : LeastBid) →
-        ((t : Table) → Outgoing t (star hs ls first nexts) → bid_in least ≡ best t v (seen p u b k s g)) → limit < least.value → g.depth ≡ g'.depth →
-        (t : Table) → Begun start t ws o (star hs ls first nexts) ts x₀ → RanWithin t ws limit w c' (seen p' u' b' k' s' g')
+    pub passes : {r' : RunState} {c' : ℕ} → w < length ws → Made star x r' c' → (v : ℕ) → v ≡ get_or r.path (r.progress.depth - 1) 0 →
+        (least : Option LeastBid) → bid_in least ≡ best t v x → (b : LeastBid) → least ≡ Some b → limit < b.value → r.progress.depth ≡ r'.progress.depth →
+        RanWithin t ws limit w c' (held r')
     unfolding limited decided above ended
-    passes {p'} {u'} {b'} {k'} {l'} {s'} {g'} h made v ev least bids above same t bg =
-        let r = i.round t bg in
-        let x = seen p u b k s g in
-        let y = seen p' u' b' k' s' g' in
-        let n = made.to t bg in
-        let more = goes_on r.running y (undecided h t bg) n.is_next in
-        let high : limit < price_at y t.origin =
-        omega (arith, above, lifted h made t bg v ev least (bids t bg.listed) same, price_read t bg p' u' b' k' s' g') in
+    passes {r'} h made v ev least bids b is_bid above same =
+        let y = held r' in
+        let n = made.to in
+        let more = goes_on run y (undecided h) n.is_next in
+        let high : limit < price_at y t.origin = omega (arith, above, lifted h made v ev least bids same b is_bid, price_read r') in
         let there = still_missing h made (omega (arith, same)) in
         let passed = either_second (all_reached ws y) (ltb limit (price_at y t.origin)) (lt-ltb limit (price_at y t.origin) high) in
-        ran limit more.0 (ap (λ (e : Ended). e.last) (done more.0 passed)) (there.missing t bg) there.low
+        ran limit more.0 (ap (λ (e : Ended). e.last) (done more.0 passed)) there.missing there.low
         (n.scanned ∙ ap (λ (a : ℕ). scans a t) (sym more.1))

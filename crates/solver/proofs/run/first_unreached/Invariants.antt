@@ -1,11 +1,7 @@
 -- The wanted nodes from the first index up to w have been reached. Assumes nothing.
-use Prim.Native.Nat.{◌-◌}
-use lib.ListN.{length}
+use Rattle.steps.specs.Seen.{statuses_in}
 use Rattle.solver.proofs.run.Wanted.{Seeking}
 use Rattle.solver.proofs.run.first_unreached.Given as goal
 
 abbrev pub invariant-loop-w : goal.invariant-loop-w
-invariant-loop-w l = Seeking l.from l.wanted l.status l.w
-
-abbrev pub decreases-loop-w : goal.decreases-loop-w
-decreases-loop-w l = length l.wanted - l.w
+invariant-loop-w l = Seeking l.from l.wanted (statuses_in l.nodes) l.w
