@@ -7,7 +7,7 @@ use lib.ListN.{length, get_or, take, drop, replicate, length-append}
 use lib.Seq.{take_at}
 use Rattle.table.specs.declared.links.LinkTable.{LinkTable}
 use Rattle.table.specs.Lent.{table_in}
-use Rattle.table.specs.Table.{Table, arc_count, length_at, no_arc, most_nodes, most_arcs}
+use Rattle.table.specs.Table.{Table, arc_count, arc_at, head_at, length_at, no_arc, most_nodes, most_arcs}
 use Rattle.table.proofs.Present.{present_tail, absent_tail, down_absent, up_present}
 use Rattle.table.proofs.Columns.{count_so, end_so, head_so, length_so, nodes_so, origin_so}
 use Rattle.auction.proofs.Good.{Good, good}
@@ -47,14 +47,23 @@ module _ (l : LinkTable) where
   pub arcs_are : arc_count t ≡ length ts
   arcs_are = count_so l.n l.origin ts hs ls heads_as lengths_as
 
+  -- an arc is what the columns say
+  pub tail_held : (i : ℕ) → i < length ts → (arc_at t i).tail ≡ get_or ts i 0
+  tail_held i h = end_so l.n l.origin ts hs ls heads_as lengths_as i h
+
+  pub head_held : (i : ℕ) → i < length ts → head_at t i ≡ get_or hs i 0
+  head_held i h = head_so l.n l.origin ts hs ls heads_as lengths_as i h
+
+  pub length_held : (i : ℕ) → i < length ts → length_at t i ≡ get_or ls i 0
+  length_held i h = length_so l.n l.origin ts hs ls heads_as lengths_as i h
+
   pub tails_held : Tails t ts ls
   tails_held =
-      let lengths : (i : ℕ) → i < arc_count t → length_at t i ≡ get_or ls i 0 =
-      λ i h. length_so l.n l.origin ts hs ls heads_as lengths_as i (omega (arith, arcs_are)) in
+      let lengths : (i : ℕ) → i < arc_count t → length_at t i ≡ get_or ls i 0 = λ i h. length_held i (omega (arith, arcs_are)) in
       record {
         count = sym arcs_are;
         tail = λ i h up.
-            sym (present_tail t i (up_present t i (λ e. up (sym (lengths i h) ∙ e))) ∙ end_so l.n l.origin ts hs ls heads_as lengths_as i (omega (arith, arcs_are)));
+            sym (present_tail t i (up_present t i (λ e. up (sym (lengths i h) ∙ e))) ∙ tail_held i (omega (arith, arcs_are)));
         none = λ i h e low. omega (arith, absent_tail t i (down_absent t i (lengths i h ∙ e)), good_table.few_nodes);
       }
 
@@ -66,11 +75,11 @@ module _ (l : LinkTable) where
 
   pub tails_below : (i : ℕ) → i < length ts → get_or ts i 0 < l.n
   tails_below i h =
-      omega (arith, good_table.end_in i (omega (arith, arcs_are)), end_so l.n l.origin ts hs ls heads_as lengths_as i h, nodes_are)
+      omega (arith, good_table.end_in i (omega (arith, arcs_are)), tail_held i h, nodes_are)
 
   pub heads_below : (i : ℕ) → i < length ts → get_or hs i 0 < l.n
   heads_below i h =
-      omega (arith, good_table.head_in i (omega (arith, arcs_are)), head_so l.n l.origin ts hs ls heads_as lengths_as i h, nodes_are)
+      omega (arith, good_table.head_in i (omega (arith, arcs_are)), head_held i h, nodes_are)
 
   pub outgoing : {first next : List ℕ} → Linked t first next → Outgoing t (star hs ls first next)
   outgoing linked =
@@ -78,9 +87,9 @@ module _ (l : LinkTable) where
         few = good_table.few_arcs;
         head_count = omega (arith, arcs_are, heads_as);
         length_count = omega (arith, arcs_are, lengths_as);
-        head = λ i h. sym (head_so l.n l.origin ts hs ls heads_as lengths_as i (omega (arith, arcs_are)));
+        head = λ i h. sym (head_held i (omega (arith, arcs_are)));
         head_in = good_table.head_in;
-        arc_length = λ i h. sym (length_so l.n l.origin ts hs ls heads_as lengths_as i (omega (arith, arcs_are)));
+        arc_length = λ i h. sym (length_held i (omega (arith, arcs_are)));
         linked = linked;
       }
 

@@ -1,135 +1,186 @@
 -- The entries that the code makes are the definition's. Assumes nothing.
-use mathlib.Core.Path.{◌≡◌, sym, ap, ap₂, subst, ◌∙◌}
+use mathlib.Core.Path.{◌≡◌, refl, sym, ap, ap₂, subst, ◌∙◌}
 use mathlib.Core.Bool.{Bool, true, false, cond}
-use mathlib.Core.List.{List}
+use mathlib.Core.List.{List, [], ◌∷◌}
 use mathlib.Core.Logic.{⊎_elim}
-use Prim.Native.Nat.{ℕ, ◌-◌, ◌≤◌, ◌<◌}
+use Prim.Native.Nat.{ℕ, zero, suc, ◌+◌, ◌-◌, ◌≤◌, ◌<◌}
 use native.Mathlib.Omega.{arith}
 use lib.Dec.{ltb, eqb}
 use lib.ListN.{length, get_or}
-use borrow.Author.Tests.{ltb-true, lt-ltb, le-ltb, eq-eqb, ne_eqb}
-use Rattle.table.specs.Table.{Table, arc_count, down, no_arc, no_distance}
+use borrow.Author.Tests.{ltb-true, lt-ltb, eq-eqb, ne_eqb}
+use Rattle.table.specs.Table.{Table, down, no_arc, no_distance}
+use Rattle.table.specs.Lent.{table_in}
+use Rattle.table.specs.declared.links.LinkTable.{LinkTable}
 use Rattle.table.specs.declared.Refusal.{Refusal}
 use Rattle.table.specs.Refusals.{refusal, no_refusal}
-use Rattle.auction.specs.Auction.{State, auction, iterations, was_reached, distance, kept_at, is_kept}
+use Rattle.auction.specs.Auction.{State, auction, iterations, was_reached, distance, kept_at, is_kept, unreached}
 use Rattle.auction.specs.HandOver.{answer, handed_over, route_refusal, entries, greatest, sum, horizon, reached_count, distances, prices, tree, marks, mark, arc_or_none}
+use Rattle.auction.specs.Plan.{routes_of}
 use Rattle.table.proofs.Basics.{same_or, true_or}
 use Rattle.table.proofs.Present.{present_tail, down_absent, up_present}
 use Rattle.auction.proofs.Sums.{greatest_bound}
+use Rattle.forward_star.proofs.Columns.{arcs_are, tail_held, head_held, length_held, heads_below}
+use Rattle.steps.specs.declared.state.Node.{Node}
 use Rattle.steps.specs.declared.state.Progress.{Progress}
-use Rattle.steps.specs.Seen.{seen, arc_of}
+use Rattle.steps.specs.Seen.{arc_of, run_of, held, prices_in, bounds_in, kepts_in, statuses_in, status_number}
+use Rattle.steps.specs.Memory.{node_at}
 use Rattle.steps.specs.Steps.{Ran}
 use Rattle.steps.proofs.Arrays.{seen_status, seen_distance, seen_kept, some_arc, no_kept}
-use Rattle.auction.specs.Plan.{routes_of}
-use Rattle.hand_over.specs.ReadOff.{Known, ArcEnds, ArcsHeld, NoneFarther, mark_entry}
+use Rattle.steps.proofs.Nodes.{as_many, entry}
+use Rattle.hand_over.specs.ReadOff.{Known, NoneFarther, mark_entry}
 use Rattle.hand_over.proofs.Entries.{entries_same}
 
--- one entry each, as the code makes it
-abbrev pub distance_entry : (other : ℕ) → (bound status : List ℕ) → (v : ℕ) → ℕ
-distance_entry other b s v = cond (ltb 0 (get_or s v 0)) (get_or b v 0) other
+-- one entry each, as the code makes it: of a node that was reached, or another
+abbrev pub chosen : {A : Type 0} → Node → (reached other : A) → A
+chosen n a b = cond (ltb unreached (status_number n.status)) a b
 
-abbrev pub reached_entry : (status : List ℕ) → (v : ℕ) → ℕ
-reached_entry s v = cond (ltb 0 (get_or s v 0)) 1 0
+abbrev pub distance_entry : (other : ℕ) → List Node → (v : ℕ) → ℕ
+distance_entry other ns v = chosen (node_at v ns) (node_at v ns).bound other
 
-abbrev pub arc_entry : (kept status : List ℕ) → (v : ℕ) → ℕ
-arc_entry k s v = cond (ltb 0 (get_or s v 0)) (get_or k v 0) no_arc
+abbrev pub reached_entry : List Node → (v : ℕ) → ℕ
+reached_entry ns v = chosen (node_at v ns) 1 0
 
-pub by_status : (a b c : ℕ) (P : ℕ → Type 0) → (a ≡ 0 → P c) → ((a ≡ 0 → ⊥) → P b) → P (cond (ltb 0 a) b c)
-by_status a b c P p q =
-    ⊎_elim (λ (z : a ≡ 0). rw (le-ltb 0 a (omega arith)) (p z)) (λ (z : a ≡ 0 → ⊥). rw (lt-ltb 0 a (omega arith)) (q z)) (same_or a 0)
+abbrev pub arc_entry : List Node → (v : ℕ) → ℕ
+arc_entry ns v = chosen (node_at v ns) (node_at v ns).kept no_arc
 
 -- as the definition has it
-module _ (p u b k s : List ℕ) (g : Progress) where
-  reached_is : (v : ℕ) → was_reached (seen p u b k s g) v ≡ ltb 0 (get_or s v 0)
-  unfolding was_reached
-  reached_is v = ap (ltb 0) (seen_status p u b k s g v)
+module _ (path : List ℕ) (ns : List Node) (g : Progress) where
+  abbrev x : State
+  x = held (run_of path ns g)
 
-  module _ (known : Known b s) where
-    distance_so : (other v : ℕ) → v < length s → distance_entry other b s v ≡ cond (was_reached (seen p u b k s g) v) (distance (seen p u b k s g) v) other
+  status_is : (v : ℕ) → get_or (statuses_in ns) v 0 ≡ status_number (node_at v ns).status
+  status_is v = entry (λ m. status_number m.status) ns v
+
+  reached_is : (v : ℕ) → was_reached x v ≡ ltb unreached (status_number (node_at v ns).status)
+  unfolding was_reached
+  reached_is v =
+      ap (ltb 0) (seen_status path (prices_in ns) (bounds_in ns) (kepts_in ns) (statuses_in ns) g v ∙ status_is v)
+
+  kept_is : (v : ℕ) → v < length ns → kept_at x v ≡ arc_of (node_at v ns).kept
+  kept_is v h =
+      seen_kept path (prices_in ns) (bounds_in ns) (kepts_in ns) (statuses_in ns) g v (omega (arith, as_many (λ m. m.kept) ns))
+      ∙ ap arc_of (entry (λ m. m.kept) ns v)
+
+  module _ (known : Known ns) where
+    distance_so : (other v : ℕ) → v < length ns → distance_entry other ns v ≡ cond (was_reached x v) (distance x v) other
     distance_so other v h =
+        let bound = entry (λ m. m.bound) ns v in
         rw (reached_is v)
         (⊎_elim
-        (λ (e : ltb 0 (get_or s v 0) ≡ true).
-        rw e (sym (seen_distance p u b k s g v (omega (arith, known.as_long)) (known.has_distance v (ltb-true 0 (get_or s v 0) e)))))
-        (λ (e : ltb 0 (get_or s v 0) ≡ false). rw e)
-        (true_or (ltb 0 (get_or s v 0))))
+        (λ (e : ltb unreached (status_number (node_at v ns).status) ≡ true).
+        let there = known v (omega (arith, status_is v, ltb-true 0 _ e)) in
+        rw e
+        (sym bound
+        ∙ sym (seen_distance path (prices_in ns) (bounds_in ns) (kepts_in ns) (statuses_in ns) g v (omega (arith, as_many (λ m. m.bound) ns)) there)))
+        (λ (e : ltb unreached (status_number (node_at v ns).status) ≡ false). rw e)
+        (true_or (ltb unreached (status_number (node_at v ns).status))))
 
-    pub distances_so : (t : Table) → t.n ≡ length s → entries (length s) 0 (distance_entry no_distance b s) ≡ distances t (seen p u b k s g)
+    pub distances_so : (t : Table) → t.n ≡ length ns → entries (length ns) 0 (distance_entry no_distance ns) ≡ distances t x
     unfolding distances
-    distances_so t e = rw e (entries_same (length s) 0 _ _ (λ v h. distance_so no_distance v (omega arith)))
+    distances_so t e = rw e (entries_same (length ns) 0 _ _ (λ v h. distance_so no_distance v (omega arith)))
 
-    pub horizon_so : (t : Table) → t.n ≡ length s → greatest (entries (length s) 0 (distance_entry 0 b s)) ≡ horizon t (seen p u b k s g)
+    pub horizon_so : (t : Table) → t.n ≡ length ns → greatest (entries (length ns) 0 (distance_entry 0 ns)) ≡ horizon t x
     unfolding horizon
-    horizon_so t e = rw e (ap greatest (entries_same (length s) 0 _ _ (λ v h. distance_so 0 v (omega arith))))
+    horizon_so t e = rw e (ap greatest (entries_same (length ns) 0 _ _ (λ v h. distance_so 0 v (omega arith))))
 
-    pub prices_so : (t : Table) (h : ℕ) → t.n ≡ length s → h ≡ horizon t (seen p u b k s g) →
-        entries (length s) 0 (λ v. h - distance_entry h b s v) ≡ prices t (seen p u b k s g)
+    pub prices_so : (t : Table) (h : ℕ) → t.n ≡ length ns → h ≡ horizon t x → entries (length ns) 0 (λ v. h - distance_entry h ns v) ≡ prices t x
     unfolding prices
     prices_so t h e eh =
         rw (← eh, e)
-        (entries_same (length s) 0 _ _
+        (entries_same (length ns) 0 _ _
         (λ v l.
         ap (λ m. h - m) (distance_so h v (omega arith))
-        ∙ ⊎_elim (λ (r : was_reached (seen p u b k s g) v ≡ true). rw r)
-        (λ (r : was_reached (seen p u b k s g) v ≡ false). let z : h - h ≡ 0 = omega arith in rw r z)
-        (true_or (was_reached (seen p u b k s g) v))))
+        ∙ ⊎_elim (λ (r : was_reached x v ≡ true). rw r)
+        (λ (r : was_reached x v ≡ false). let z : h - h ≡ 0 = omega arith in rw r z)
+        (true_or (was_reached x v))))
 
-  pub count_so : (t : Table) → t.n ≡ length s → sum (entries (length s) 0 (reached_entry s)) ≡ reached_count t (seen p u b k s g)
+  pub count_so : (t : Table) → t.n ≡ length ns → sum (entries (length ns) 0 (reached_entry ns)) ≡ reached_count t x
   unfolding reached_count
-  count_so t e = rw e (ap sum (entries_same (length s) 0 _ _ (λ v h. ap (λ (c : Bool). cond c 1 0) (sym (reached_is v)))))
+  count_so t e = rw e (ap sum (entries_same (length ns) 0 _ _ (λ v h. ap (λ (c : Bool). cond c 1 0) (sym (reached_is v)))))
 
   arc_back : (a : ℕ) → a ≡ arc_or_none (arc_of a)
   unfolding arc_or_none
   arc_back a = ⊎_elim (λ (z : a ≡ no_arc). rw (no_kept a z) z) (λ (z : a ≡ no_arc → ⊥). rw (some_arc a z)) (same_or a no_arc)
 
-  pub tree_so : (t : Table) → length k ≡ length s → t.n ≡ length s → entries (length s) 0 (arc_entry k s) ≡ tree t (seen p u b k s g)
+  pub tree_so : (t : Table) → t.n ≡ length ns → entries (length ns) 0 (arc_entry ns) ≡ tree t x
   unfolding tree
-  tree_so t lk e =
+  tree_so t e =
       rw e
-      (entries_same (length s) 0 _ _
+      (entries_same (length ns) 0 _ _
       (λ v h.
-      ap₂ (λ (c : Bool) (a : ℕ). cond c a no_arc) (sym (reached_is v))
-      (arc_back (get_or k v 0) ∙ ap arc_or_none (sym (seen_kept p u b k s g v (omega arith))))))
+      ap₂ (λ (c : Bool) (a : ℕ). cond c a no_arc) (sym (reached_is v)) (arc_back (node_at v ns).kept ∙ ap arc_or_none (sym (kept_is v (omega arith))))))
 
-  kept_so : (i v : ℕ) → v < length k → (i ≡ no_arc → ⊥) → eqb (get_or k v 0) i ≡ is_kept (seen p u b k s g) i (kept_at (seen p u b k s g) v)
+  kept_so : (i v : ℕ) → v < length ns → (i ≡ no_arc → ⊥) → eqb (get_or (kepts_in ns) v 0) i ≡ is_kept x i (kept_at x v)
   unfolding is_kept
   kept_so i v h d =
-      rw (seen_kept p u b k s g v h)
+      let k = (node_at v ns).kept in
+      rw (kept_is v h, entry (λ m. m.kept) ns v)
       (⊎_elim
-      (λ (z : get_or k v 0 ≡ no_arc). rw (no_kept (get_or k v 0) z) (ne_eqb (get_or k v 0) i (λ e. d (sym e ∙ z))))
-      (λ (z : get_or k v 0 ≡ no_arc → ⊥). rw (some_arc (get_or k v 0) z))
-      (same_or (get_or k v 0) no_arc))
+      (λ (z : k ≡ no_arc). rw (no_kept k z) (ne_eqb k i (λ e. d (sym e ∙ z))))
+      (λ (z : k ≡ no_arc → ⊥). rw (some_arc k z))
+      (same_or k no_arc))
 
-  module _ (t : Table) (ts hs ls : List ℕ) (ends : ArcEnds ts hs ls k s) (few : length hs < no_arc) (held : ArcsHeld t ts hs ls) where
-    -- an absent arc has mark 1, and a present one leaves its tail
-    mark_so : (i : ℕ) → i < length hs → mark_entry ts hs ls k s i ≡ mark t (seen p u b k s g) i
+  -- the marks of a table's arcs: an absent arc has mark 1, and a present one leaves its tail
+  module _ (l : LinkTable) (many : length ns ≡ l.n) where
+    abbrev t : Table
+    t = table_in l
+
+    reached_there : (v : ℕ) → ltb 0 (get_or (statuses_in ns) v 0) ≡ was_reached x v
+    reached_there v = ap (ltb 0) (status_is v) ∙ sym (reached_is v)
+
+    mark_so : (i : ℕ) → i < length l.columns.tails.now → mark_entry l ns i ≡ mark t x i
     unfolding mark
     mark_so i inside =
-        let listed : i < arc_count t = omega (arith, held.count) in
-        let long = held.arc_length i listed in
-        ⊎_elim (λ (z : get_or ls i 0 ≡ down). rw (eq-eqb (get_or ls i 0) down z, down_absent t i (long ∙ z)))
-        (λ (z : get_or ls i 0 ≡ down → ⊥).
+        let long = length_held l i inside in
+        let here_length = get_or l.columns.lengths.now i 0 in
+        ⊎_elim (λ (z : here_length ≡ down). rw (eq-eqb here_length down z, down_absent t i (long ∙ z)))
+        (λ (z : here_length ≡ down → ⊥).
         let here = up_present t i (λ e. z (sym long ∙ e)) in
-        let hd = held.head i listed in
-        let tl = present_tail t i here ∙ held.tail i listed in
-        rw (ne_eqb (get_or ls i 0) down z, here, hd, tl, reached_is (get_or hs i 0), reached_is (get_or ts i 0), kept_so i (get_or hs i 0) (omega (arith, ends.head_in i inside, ends.kept_count)) (λ q. omega arith)))
-        (same_or (get_or ls i 0) down)
+        let hd = head_held l i inside in
+        let tl = present_tail t i here ∙ tail_held l i inside in
+        rw (ne_eqb here_length down z, here, hd, tl, reached_there (get_or l.columns.heads.now i 0), reached_there (get_or l.columns.tails.now i 0), kept_so i (get_or l.columns.heads.now i 0) (omega (arith, heads_below l i inside, many)) (λ q. omega (arith, l.columns.few))))
+        (same_or here_length down)
 
-    pub marks_so : entries (length hs) 0 (mark_entry ts hs ls k s) ≡ marks t (seen p u b k s g)
+    pub marks_so : entries (length l.columns.tails.now) 0 (mark_entry l ns) ≡ marks t x
     unfolding marks
-    marks_so = rw held.count (entries_same (length hs) 0 _ _ (λ i h. mark_so i (omega arith)))
+    marks_so = rw (arcs_are l) (entries_same (length l.columns.tails.now) 0 _ _ (λ i h. mark_so i (omega arith)))
 
 -- no distance is above the horizon
-pub below_horizon : (b s : List ℕ) (h : ℕ) → h ≡ greatest (entries (length s) 0 (distance_entry 0 b s)) →
-    NoneFarther h b s
-below_horizon b s h e v l r =
-    let q = greatest_bound (length s) v (distance_entry 0 b s) l in
-    let z : distance_entry 0 b s v ≡ get_or b v 0 = rw (lt-ltb 0 (get_or s v 0) r) in
-    omega (arith, e, q, z)
+pub below_horizon : (ns : List Node) (h : ℕ) → h ≡ greatest (entries (length ns) 0 (distance_entry 0 ns)) → NoneFarther h ns
+below_horizon ns h e v l r =
+    let q = greatest_bound (length ns) v (distance_entry 0 ns) l in
+    let reached : 0 < status_number (node_at v ns).status = omega (arith, entry (λ m. status_number m.status) ns v) in
+    let z : distance_entry 0 ns v ≡ (node_at v ns).bound = rw (lt-ltb 0 _ reached) in
+    omega (arith, e, q, z, entry (λ m. m.bound) ns v)
+
+pub not_farther : (ns : List Node) (h : ℕ) → NoneFarther h ns → (v : ℕ) → v < length ns → distance_entry h ns v ≤ h
+not_farther ns h above v low =
+    let n = node_at v ns in
+    ⊎_elim
+    (λ (e : ltb unreached (status_number n.status) ≡ true).
+    let there = above v low (omega (arith, entry (λ m. status_number m.status) ns v, ltb-true 0 _ e)) in
+    rw e (omega (arith, there, entry (λ m. m.bound) ns v)))
+    (λ (e : ltb unreached (status_number n.status) ≡ false). rw e (omega arith))
+    (true_or (ltb unreached (status_number n.status)))
 
 pub at_most_one : (b : Bool) → cond b 1 0 ≤ 1
 at_most_one true = omega arith
 at_most_one false = omega arith
+
+-- A COLUMN whose entries are known, one by one, is theirs
+column_from : (out : List ℕ) (n a : ℕ) (f : ℕ → ℕ) → length out ≡ n → ((i : ℕ) → i < n → get_or out i 0 ≡ f (a + i)) → out ≡ entries n a f
+unfolding entries
+column_from [] zero a f e h = refl
+column_from [] (suc n) a f e h = absurd (omega arith)
+column_from (b ∷ out) zero a f e h = absurd (omega arith)
+column_from (b ∷ out) (suc n) a f e h =
+    let z : a + 0 ≡ a = omega arith in
+    let next : (i : ℕ) → a + suc i ≡ suc a + i = λ i. omega arith in
+    ap₂ (λ (m : ℕ) (l : List ℕ). m ∷ l) (h 0 (omega arith) ∙ ap f z)
+    (column_from out n (suc a) f (omega arith) (λ i l. h (suc i) (omega arith) ∙ ap f (next i)))
+
+pub column_so : (out : List ℕ) (n : ℕ) (f : ℕ → ℕ) → length out ≡ n → ((i : ℕ) → i < n → get_or out i 0 ≡ f i) → out ≡ entries n 0 f
+column_so out n f e h = column_from out n 0 f e (λ i l. let z : i ≡ 0 + i = omega arith in h i l ∙ ap f z)
 
 -- THE WHOLE ANSWER
 module _ (t : Table) (ws : List ℕ) (missing scanned : ℕ) (x : State) (ran : Ran t ws (auction t ws) missing scanned x)

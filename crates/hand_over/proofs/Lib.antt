@@ -1,4 +1,3 @@
--- Columns that are filled from the last entry to the first, marks, and the whole answer.
+-- Entries that are made one by one, and the hand-over's.
 pub mod Entries
-pub mod Marks
 pub mod Handing

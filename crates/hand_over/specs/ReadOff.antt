@@ -1,30 +1,21 @@
--- What the hand-over reads off the arrays where a run has ended, and what it relies on. Assumes nothing: these are definitions.
-use Rattle.std.specs.Prelude.{◌≡◌, cond, List, ℕ, ◌≤◌, ◌<◌, ltb, eqb, length, get_or}
-use Rattle.table.specs.Table.{Table, arc_count, arc_at, head_at, length_at, down, no_distance, most_nodes, most_arcs}
-use Rattle.auction.specs.Auction.{State, auction}
+-- What the hand-over reads off the nodes where a run has ended, and what it relies on. Assumes nothing: these are definitions.
+use Rattle.std.specs.Prelude.{◌≡◌, cond, List, ℕ, ◌-◌, ◌≤◌, ◌<◌, ltb, eqb, length, get_or}
+use Rattle.table.specs.declared.links.LinkTable.{LinkTable}
+use Rattle.table.specs.Lent.{table_in}
+use Rattle.table.specs.Table.{Table, down, no_distance, most_nodes, most_arcs}
+use Rattle.auction.specs.Auction.{State, auction, unreached}
 use Rattle.auction.specs.HandOver.{Answer, mark_number}
 use Rattle.auction.specs.Plan.{routes_of}
+use Rattle.steps.specs.declared.state.Node.{Node}
 use Rattle.steps.specs.declared.state.Progress.{Progress}
 use Rattle.steps.specs.declared.state.RunEnd.{RunEnd}
-use Rattle.steps.specs.Seen.{seen}
+use Rattle.steps.specs.Seen.{status_number, run_of, held, bounds_in, kepts_in, statuses_in}
+use Rattle.steps.specs.Memory.{node_at}
 use Rattle.steps.specs.Steps.{Ran}
 
--- the bounds and the statuses are those of a run that has ended
-pub record Known (bound status : List ℕ) : Type 0 where
-  -- the two arrays are as long as each other
-  pub as_long : length bound ≡ length status
-  -- every reached node has a distance
-  pub has_distance : (v : ℕ) → 0 < get_or status v 0 → get_or bound v 0 ≡ no_distance → ⊥
-
--- the arcs' ends and lengths can be looked up
-pub record ArcEnds (tails heads lengths kept status : List ℕ) : Type 0 where
-  -- an arc has a tail, a head and a length, a node a kept arc and a status
-  pub tail_count : length tails ≡ length heads
-  pub length_count : length lengths ≡ length heads
-  pub kept_count : length kept ≡ length status
-  -- the ends of every arc are nodes
-  pub head_in : (i : ℕ) → i < length heads → get_or heads i 0 < length status
-  pub tail_in : (i : ℕ) → i < length heads → get_or tails i 0 < length status
+-- every node that was reached has a distance, as where a run has ended
+abbrev pub Known : List Node → Type 0
+Known nodes = (v : ℕ) → 0 < get_or (statuses_in nodes) v 0 → get_or (bounds_in nodes) v 0 ≡ no_distance → ⊥
 
 -- the buffers fit n nodes and m arcs
 pub record Fitting (n m : ℕ) (distances prices tree marks : List ℕ) : Type 0 where
@@ -37,33 +28,29 @@ pub record Fitting (n m : ℕ) (distances prices tree marks : List ℕ) : Type 0
   pub tree_long : length tree ≡ n
   pub marks_long : length marks ≡ m
 
--- the columns hold a table's arcs
-pub record ArcsHeld (t : Table) (tails heads lengths : List ℕ) : Type 0 where
-  -- they are as long as the table
-  pub count : arc_count t ≡ length heads
-  -- and hold its arcs' heads, tails and lengths
-  pub head : (i : ℕ) → i < arc_count t → head_at t i ≡ get_or heads i 0
-  pub tail : (i : ℕ) → i < arc_count t → (arc_at t i).tail ≡ get_or tails i 0
-  pub arc_length : (i : ℕ) → i < arc_count t → length_at t i ≡ get_or lengths i 0
-
 -- no node that was reached is farther than the horizon
-abbrev pub NoneFarther : (horizon : ℕ) → (bound status : List ℕ) → Type 0
-NoneFarther h bound status = (v : ℕ) → v < length status → 0 < get_or status v 0 → get_or bound v 0 ≤ h
+abbrev pub NoneFarther : (horizon : ℕ) → List Node → Type 0
+NoneFarther h nodes = (v : ℕ) → v < length nodes → 0 < get_or (statuses_in nodes) v 0 → get_or (bounds_in nodes) v 0 ≤ h
 
--- READ OFF: for each table with as many nodes as there are statuses, whatever the path, the prices and the progress, this is what `f` gives
-abbrev pub ReadOff : {A : Type 0} → (f : Table → State → A) → (bound kept status : List ℕ) → A → Type 0
-ReadOff f bound kept status a =
-    (t : Table) (path price : List ℕ) (g : Progress) → t.n ≡ length status → a ≡ f t (seen path price bound kept status g)
+-- READ OFF: for each table with as many nodes, whatever the path and the progress, this is what `f` gives
+abbrev pub ReadOff : {A : Type 0} → (f : Table → State → A) → List Node → A → Type 0
+ReadOff f nodes a = (t : Table) (path : List ℕ) (g : Progress) → t.n ≡ length nodes → a ≡ f t (held (run_of path nodes g))
+
+-- a node's price; that of a node that was not reached is 0
+abbrev pub price_entry : (horizon : ℕ) → List Node → (v : ℕ) → ℕ
+price_entry h nodes v = h - cond (ltb unreached (status_number (node_at v nodes).status)) (node_at v nodes).bound h
 
 -- the mark of the arc at a position; an arc whose link is down has mark 1
-abbrev pub mark_entry : (tails heads lengths kept status : List ℕ) → (i : ℕ) → ℕ
-mark_entry tails heads lengths kept status i =
-    cond (eqb (get_or lengths i 0) down) 1
-    (mark_number (ltb 0 (get_or status (get_or heads i 0) 0)) (ltb 0 (get_or status (get_or tails i 0) 0)) (eqb (get_or kept (get_or heads i 0) 0) i))
+abbrev pub mark_entry : LinkTable → List Node → (i : ℕ) → ℕ
+mark_entry l nodes i =
+    cond (eqb (get_or l.columns.lengths.now i 0) down) 1
+    (mark_number (ltb 0 (get_or (statuses_in nodes) (get_or l.columns.heads.now i 0) 0)) (ltb 0 (get_or (statuses_in nodes) (get_or l.columns.tails.now i 0) 0))
+    (eqb (get_or (kepts_in nodes) (get_or l.columns.heads.now i 0) 0) i))
 
--- THE HAND-OVER: for each table and wanted list whose run has ended with these arrays, the answer is the definition's
-abbrev pub HandsOver : (end : RunEnd) → (wanted : ℕ) → (tails heads lengths bound kept status : List ℕ) → Answer → Type 0
-HandsOver end wanted tails heads lengths bound kept status answer =
-    (t : Table) (ws path price : List ℕ) → t.n ≡ length status → ArcsHeld t tails heads lengths → length ws ≡ wanted →
-    Ran t ws (auction t ws) end.missing end.scans (seen path price bound kept status end.progress) →
-    (auction t ws).routed ≡ eqb end.missing wanted → answer ≡ routes_of t ws
+-- THE HAND-OVER: where the run of the table has ended with these nodes, the answer is the definition's
+abbrev pub HandsOver : (end : RunEnd) → LinkTable → List Node → Answer → Type 0
+HandsOver end l nodes answer =
+    let t = table_in l in
+    let ws = l.wanted.now in
+    (path : List ℕ) → Ran t ws (auction t ws) end.missing end.scans (held (run_of path nodes end.progress)) →
+    (auction t ws).routed ≡ eqb end.missing (length ws) → answer ≡ routes_of t ws

@@ -7,7 +7,4 @@ use Rattle.hand_over.proofs.Handing.{reached_entry}
 use Rattle.hand_over.proofs.count_reached.Given as goal
 
 abbrev pub invariant-loop-v : goal.invariant-loop-v
-invariant-loop-v l = (l.count + l.v ≤ length l.status) × (l.count ≡ sum (entries (length l.status - l.v) l.v (reached_entry l.status)))
-
-abbrev pub decreases-loop-v : goal.decreases-loop-v
-decreases-loop-v l = l.v
+invariant-loop-v l = (l.count + l.v ≤ length l.nodes) × (l.count ≡ sum (entries (length l.nodes - l.v) l.v (reached_entry l.nodes)))

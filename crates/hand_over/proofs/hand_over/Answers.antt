@@ -1,27 +1,44 @@
 -- Each part of the answer is the definition's. Assumes nothing.
-use mathlib.Core.Path.{◌≡◌, refl, sym, subst}
-use Prim.Native.Nat.{ℕ}
-use Rattle.auction.specs.Auction.{state, iterations, auction}
+use mathlib.Core.Path.{◌≡◌, refl, sym, ◌∙◌}
+use borrow.Author.Rules.{rules}
+use Prim.Native.Nat.{ℕ, ◌<◌}
+use native.Mathlib.Omega.{arith}
+use lib.ListN.{length, get_or}
+use Rattle.table.specs.Table.{no_distance}
+use Rattle.table.specs.Lent.{table_in}
+use Rattle.table.specs.Refusals.{refusal}
+use Rattle.auction.specs.Auction.{state, iterations}
 use Rattle.steps.specs.Seen.{seen}
-use mathlib.Core.Bool.{cond}
-use lib.Dec.{eqb}
-use Rattle.table.specs.Refusals.{no_refusal, refusal}
+use Rattle.forward_star.proofs.Columns.{nodes_are}
+use Rattle.hand_over.specs.ReadOff.{price_entry, mark_entry}
 use Rattle.hand_over.specs.Answered.{answered}
-use Rattle.hand_over.proofs.Handing.{assembled}
+use Rattle.hand_over.proofs.Handing.{distance_entry, arc_entry, column_so, distances_so, prices_so, tree_so, marks_so, assembled}
 use Rattle.hand_over.proofs.hand_over.Goals as goal
 
 pub returns : goal.returns
-unfolding answered iterations seen state
-returns c = λ t ws path price nodes held many ran routed.
+unfolding answered iterations seen state refusal
+returns c = λ path ran routed.
     let a = c.args in
+    let ns = a.nodes.now in
+    let l = a.table.now in
     let g = a.end.progress in
-    assembled t ws a.end.missing a.end.scans _ ran
-    (subst (λ (k : ℕ). (auction t ws).routed ≡ eqb a.end.missing k) (sym many) routed) c.route_refusal-refusal.result _ _ _ _ _ _ _ _ _ _
-    (subst (λ (k : ℕ). c.route_refusal-refusal.result ≡ cond (eqb a.end.missing k) no_refusal (refusal 8 a.end.missing))
-    (sym many) c.route_refusal-refusal.ensures)
-    (c.count_reached-reached.ensures a.bound.now a.kept.now t path price g nodes)
-    (c.horizon_of-horizon.ensures.so a.kept.now t path price g nodes) refl refl refl refl
-    (c.fill_distances.ensures a.kept.now t path price g nodes)
-    (c.fill_prices.ensures a.kept.now (c.horizon_of-horizon.ensures.so a.kept.now) t path price g nodes)
-    (c.fill_tree.ensures a.bound.now t path price g nodes)
-    (c.fill_marks.ensures t path price a.bound.now g held)
+    let nodes = nodes_are l ∙ sym c.requires.nodes_len in
+    let horizon = c.horizon_of-horizon.result in
+    let fits = c.requires.fitting in
+    let d : (i : ℕ) → i < length ns → get_or c.fill.new.column i 0 ≡ distance_entry no_distance ns i =
+    λ i h. search (rules, c.fill.ensures i 0 (omega arith)) in
+    let p : (i : ℕ) → i < length ns → get_or c.fill-2.new.column i 0 ≡ price_entry horizon ns i =
+    λ i h. search (rules, c.fill-2.ensures i 0 (omega arith)) in
+    let k : (i : ℕ) → i < length ns → get_or c.fill-3.new.column i 0 ≡ arc_entry ns i =
+    λ i h. search (rules, c.fill-3.ensures i 0 (omega arith)) in
+    let m : (i : ℕ) → i < length l.columns.tails.now → get_or c.fill-4.new.column i 0 ≡ mark_entry l ns i =
+    λ i h. search (rules, c.fill-4.ensures i 0 (omega (arith, l.columns.heads_are))) in
+    assembled (table_in l) l.wanted.now a.end.missing a.end.scans _ ran routed (refusal c.told-number.result.0 c.told-number.result.1) _ _ _ _ _ _ _ _ _ _
+    (c.told-number.ensures ∙ c.route.ensures)
+    (c.count_reached.ensures (table_in l) path g nodes)
+    (c.horizon_of-horizon.ensures.so (table_in l) path g nodes) refl refl refl refl
+    (column_so _ _ _ (omega arith) d ∙ distances_so path ns g c.requires.known (table_in l) nodes)
+    (column_so _ _ _ (omega arith) p
+    ∙ prices_so path ns g c.requires.known (table_in l) horizon nodes (c.horizon_of-horizon.ensures.so (table_in l) path g nodes))
+    (column_so _ _ _ (omega arith) k ∙ tree_so path ns g (table_in l) nodes)
+    (column_so _ _ _ (omega (arith, l.columns.heads_are)) m ∙ marks_so path ns g l c.requires.nodes_len)

@@ -11,31 +11,25 @@ use Rattle.hand_over.proofs.horizon_of.Goals as goal
 use Rattle.hand_over.proofs.horizon_of.Goals.{After-loop-v}
 
 pub loop-v-init : goal.loop-v-init
-loop-v-init c =
-    let a = c.args in (search rules, greatest_none (length a.status.now) (distance_entry 0 a.bound.now a.status.now))
+loop-v-init c = (search rules, greatest_none (length c.args.nodes.now) (distance_entry 0 c.args.nodes.now))
 
 pub loop-v-preserved : goal.loop-v-preserved
 loop-v-preserved c =
-    let a = c.args in
+    let ns = c.args.nodes.now in
     let l = c.loop-v in
-    let f = distance_entry 0 a.bound.now a.status.now in (
+    let f = distance_entry 0 ns in (
       omega (arith, l.invariant.0),
-      c.larger-h.ensures ∙ ap (λ (m : ℕ). max m l.h) c.distance_or.ensures
-          ∙ greatest_more (length a.status.now) f l.v c.loop-v-test.true l.invariant.0 l.h l.invariant.1,
+      c.max-horizon.ensures ∙ ap (λ (m : ℕ). max m l.horizon) c.entry-distance.ensures
+          ∙ greatest_more (length ns) f l.v c.loop-v-test.true l.invariant.0 l.horizon l.invariant.1,
     )
 
 -- behind the loop: it is the greatest of all entries
-all : (c : After-loop-v) → c.loop-v.h ≡ greatest (entries (length c.args.status.now) 0 (distance_entry 0 c.args.bound.now c.args.status.now))
-all c =
-    let a = c.args in
-    c.loop-v.invariant.1
-    ∙ ap greatest (all_entries (length a.status.now) c.loop-v.v (distance_entry 0 a.bound.now a.status.now) c.loop-v-test.false)
+all : (c : After-loop-v) → c.loop-v.horizon ≡ greatest (entries (length c.args.nodes.now) 0 (distance_entry 0 c.args.nodes.now))
+all c = c.loop-v.invariant.1 ∙ ap greatest (all_entries (length c.args.nodes.now) c.loop-v.v (distance_entry 0 c.args.nodes.now) c.loop-v-test.false)
 
 pub returns-clause-so : goal.returns-clause-so
-returns-clause-so c =
-    let a = c.args in λ kept t path price g e.
-    all (goal.at.returns-clause-so c).After-loop-v ∙ horizon_so path price a.bound.now kept a.status.now g c.requires t e
+returns-clause-so c = λ t path g e.
+    all (goal.at.returns-clause-so c).After-loop-v ∙ horizon_so path c.args.nodes.now g c.requires t e
 
 pub returns-clause-above : goal.returns-clause-above
-returns-clause-above c =
-    below_horizon c.args.bound.now c.args.status.now _ (all (goal.at.returns-clause-above c).After-loop-v)
+returns-clause-above c = below_horizon c.args.nodes.now _ (all (goal.at.returns-clause-above c).After-loop-v)

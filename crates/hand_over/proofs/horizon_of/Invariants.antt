@@ -7,7 +7,4 @@ use Rattle.hand_over.proofs.Handing.{distance_entry}
 use Rattle.hand_over.proofs.horizon_of.Given as goal
 
 abbrev pub invariant-loop-v : goal.invariant-loop-v
-invariant-loop-v l = (l.v ≤ length l.status) × (l.h ≡ greatest (entries (length l.status - l.v) l.v (distance_entry 0 l.bound l.status)))
-
-abbrev pub decreases-loop-v : goal.decreases-loop-v
-decreases-loop-v l = l.v
+invariant-loop-v l = (l.v ≤ length l.nodes) × (l.horizon ≡ greatest (entries (length l.nodes - l.v) l.v (distance_entry 0 l.nodes)))
