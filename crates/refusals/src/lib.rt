@@ -1,147 +1,125 @@
 // The refusals 1 to 7 of a table, in the order in which they are tested.
 #![tactic(auto)]
 
-ghost use Rattle.std.specs.Prelude.{◌≡◌, not, ◌≤◌, length};
-ghost use Rattle.table.specs.Table.{arc, arcs_of, most_arcs};
-ghost use Rattle.table.specs.Refusals.{rooms_fit, arc_fault, arcs_refusal, wanted_refusal, table_refusal};
-ghost use Rattle.auction.specs.Plan.{rooms};
+ghost use Rattle.std.specs.Prelude.{◌≡◌, not, cond, leb, length, IfOk, MatchOption};
+ghost use Rattle.table.specs.Table.{arc, arcs_of};
+ghost use Rattle.table.specs.Refusals.{refusal, no_refusal, rooms_fit, arc_fault, arcs_refusal, wanted_refusal, table_refusal};
+ghost use Rattle.table.specs.Told.{number, told};
+ghost use Rattle.refusals.specs.Lent.{lent_rooms};
 
-use table::{MOST_WANTED, Refusal, bad_columns, bad_count, wide};
+use table::faults::{Fault, Refusal};
+use table::links::{Columns, LinkTable};
+use table::{MOST_WANTED, check_columns, check_count};
 
-// An index as a place.
-fn place(i: usize) -> u32
-    requires { i ≤ most_arcs }
-    ensures { result ≡ i }
-{
-    i as u32
+// The lengths of the four buffers of an answer.
+#[derive(Clone, Copy, PartialEq, Eq)]
+pub struct Rooms {
+    pub distances: usize,
+    pub prices: usize,
+    pub tree: usize,
+    pub marks: usize,
 }
 
-// 3: buffers of these lengths do not have an entry for each node and a mark for each arc.
-fn bad_buffers(
-    nodes: usize,
-    arcs: usize,
-    distances: usize,
-    prices: usize,
-    tree: usize,
-    marks: usize,
-) -> bool
-    ensures { result ≡ not (rooms_fit (rooms nodes arcs distances prices tree marks)) }
-{
-    if distances != nodes {
-        return true;
+impl Rooms {
+    // Those that a table needs: an entry for each node, and a mark for each arc.
+    pub fn needed(nodes: usize, arcs: usize) -> Rooms
+        ensures { (result.distances ≡ nodes) × (result.prices ≡ nodes) × (result.tree ≡ nodes) × (result.marks ≡ arcs) }
+    {
+        Rooms {
+            distances: nodes,
+            prices: nodes,
+            tree: nodes,
+            marks: arcs,
+        }
     }
-    if prices != nodes {
-        return true;
-    }
-    if tree != nodes {
-        return true;
-    }
-    marks != arcs
 }
 
-// 5: too many wanted nodes, or the first one not below n.
-fn wanted_refusal(n: usize, wanted: &[u16]) -> Refusal
-    ensures { result ≡ wanted_refusal n wanted.now }
+// 3: the buffers that are lent are as long as they have to be.
+fn check_rooms(nodes: usize, arcs: usize, lent: Rooms) -> Result<(), Refusal>
+    ensures { told result ≡ cond (not (rooms_fit (lent_rooms nodes arcs lent))) (refusal 3 0) no_refusal }
+{
+    if lent != Rooms::needed(nodes, arcs) {
+        return Err(Fault::Buffers.at(0));
+    }
+    Ok(())
+}
+
+// 4: the origin is a node.
+fn check_origin(n: usize, origin: u16) -> Result<(), Refusal>
+    ensures { told result ≡ cond (leb n origin) (refusal 4 0) no_refusal }
+{
+    if n <= usize::from(origin) {
+        return Err(Fault::Origin.at(0));
+    }
+    Ok(())
+}
+
+// 5: not too many wanted nodes, each of them below n.
+fn check_wanted(n: usize, wanted: &[u16]) -> Result<(), Refusal>
+    ensures { told result ≡ wanted_refusal n wanted.now }
 {
     if MOST_WANTED < wanted.len() {
-        return Refusal {
-            number: Refusal::WANTED,
-            place: place(MOST_WANTED),
-        };
+        return Err(Fault::Wanted.at(MOST_WANTED));
     }
-    let mut i = 0;
-    while i < wanted.len() {
-        if n <= wide(wanted[i]) {
-            return Refusal {
-                number: Refusal::WANTED,
-                place: place(i),
-            };
+    for (i, node) in wanted.iter().enumerate() {
+        if n <= usize::from(*node) {
+            return Err(Fault::Wanted.at(i));
         }
-        i = i + 1;
     }
-    Refusal::none()
+    Ok(())
 }
 
-// The number of an arc's refusal, its ends before its length: 6, 7 or none.
-fn arc_refusal(n: usize, tail: u16, head: u16, length: u32) -> u32
-    ensures { result ≡ arc_fault n (arc tail head length) }
+// What is wrong with an arc, its ends before its length.
+fn fault_of_arc(n: usize, tail: u16, head: u16, length: u32) -> Option<Fault>
+    ensures { MatchOption result (arc_fault n (arc tail head length) ≡ 0) (λ fault. number fault ≡ arc_fault n (arc tail head length)) }
 {
-    if n <= wide(tail) {
-        return Refusal::ARC_END;
-    }
-    if n <= wide(head) {
-        return Refusal::ARC_END;
+    if n <= usize::from(tail) || n <= usize::from(head) {
+        return Some(Fault::ArcEnd);
     }
     if length == 0 {
-        return Refusal::ARC_LENGTH;
+        return Some(Fault::ArcLength);
     }
-    Refusal::NONE
+    None
 }
 
-// 6 and 7: the refusal of the first arc that has one.
-fn arcs_refusal(n: usize, tails: &[u16], heads: &[u16], lengths: &[u32]) -> Refusal
-    requires { (length heads.now ≡ length tails.now) × ((length lengths.now ≡ length tails.now) × (length tails.now ≤ most_arcs)) }
-    ensures { result ≡ arcs_refusal n (arcs_of tails.now heads.now lengths.now) }
+// 6 and 7: the first arc with a fault.
+fn check_arcs(n: usize, columns: Columns) -> Result<(), Refusal>
+    ensures { told result ≡ arcs_refusal n (arcs_of columns.entry.tails.now columns.entry.heads.now columns.entry.lengths.now) }
 {
-    let mut position = 0;
-    while position < tails.len() {
-        let number = arc_refusal(n, tails[position], heads[position], lengths[position]);
-        if number != Refusal::NONE {
-            return Refusal {
-                number: number,
-                place: place(position),
-            };
+    for (i, tail) in columns.tails.iter().enumerate() {
+        if let Some(fault) = fault_of_arc(n, *tail, columns.heads[i], columns.lengths[i]) {
+            return Err(fault.at(i));
         }
-        position = position + 1;
     }
-    Refusal::none()
+    Ok(())
 }
 
-// 1 to 7 in order: the refusal of a table with buffers of these lengths, or none.
-pub fn table_refusal(
+// 1 to 7 in order: the table, with buffers of these lengths lent for the answer.
+pub fn check_table<'a>(
     n: u32,
     origin: u16,
-    tails: &[u16],
-    heads: &[u16],
-    lengths: &[u32],
-    wanted: &[u16],
-    distances: usize,
-    prices: usize,
-    tree: usize,
-    marks: usize,
-) -> Refusal
-    ensures { result ≡ table_refusal n origin tails.now heads.now lengths.now wanted.now
-        (rooms n (length tails.now) distances prices tree marks) }
+    tails: &'a [u16],
+    heads: &'a [u16],
+    lengths: &'a [u32],
+    wanted: &'a [u16],
+    lent: Rooms,
+) -> Result<LinkTable<'a>, Refusal>
+    ensures told { told result ≡ table_refusal n origin tails.now heads.now lengths.now wanted.now (lent_rooms n (length tails.now) lent) }
+    ensures nodes { IfOk result (λ t. (t.n ≡ n) × (t.origin ≡ origin) × (t.wanted.now ≡ wanted.now)) }
+    ensures columns { IfOk result (λ t.
+        (t.columns.tails.now ≡ tails.now) × (t.columns.heads.now ≡ heads.now) × (t.columns.lengths.now ≡ lengths.now)) }
 {
-    let nodes = n as usize;
-    let arcs = tails.len();
-    if bad_count(nodes) {
-        return Refusal {
-            number: Refusal::NODE_COUNT,
-            place: 0,
-        };
-    }
-    if bad_columns(arcs, heads.len(), lengths.len()) {
-        return Refusal {
-            number: Refusal::COLUMNS,
-            place: 0,
-        };
-    }
-    if bad_buffers(nodes, arcs, distances, prices, tree, marks) {
-        return Refusal {
-            number: Refusal::BUFFERS,
-            place: 0,
-        };
-    }
-    if nodes <= wide(origin) {
-        return Refusal {
-            number: Refusal::ORIGIN,
-            place: 0,
-        };
-    }
-    let refusal = wanted_refusal(nodes, wanted);
-    if refusal.number != Refusal::NONE {
-        return refusal;
-    }
-    arcs_refusal(nodes, tails, heads, lengths)
+    let n = n as usize;
+    check_count(n)?;
+    let columns = check_columns(tails, heads, lengths)?;
+    check_rooms(n, tails.len(), lent)?;
+    check_origin(n, origin)?;
+    check_wanted(n, wanted)?;
+    check_arcs(n, columns)?;
+    Ok(LinkTable {
+        n,
+        origin,
+        columns,
+        wanted,
+    })
 }

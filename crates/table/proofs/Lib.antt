@@ -1,3 +1,4 @@
 pub mod Basics
 pub mod Present
 pub mod Columns
+pub mod Telling
