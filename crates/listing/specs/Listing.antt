@@ -83,12 +83,6 @@ into room (some vs) = cond (ltb room (length vs)) (refused 13) (listed vs)
 unfoldable pub listing : (origin node : ℕ) → Tree → (room : ℕ) → Listing
 listing o v k room = cond (eqb (early_of o v k) 0) (into room (path o v k)) (refused (early_of o v k))
 
--- The answer alone. No refusal of a listing names a place.
-pub record Tested (l : Listing) (answer : Listed) : Type 0 where
-  pub number : answer.number ≡ l.number
-  pub place : answer.place ≡ 0
-  pub count : answer.count ≡ length l.nodes
-
 -- A listing as list_path gives it: its answer, and what the out buffer holds before and after the call. The nodes listed stand at the buffer's start and
 -- the rest is as it was; a refusal lists none, so the whole buffer is. No refusal of a listing names a place.
 pub record Lists (l : Listing) (answer : Listed) (output_before output_after : List ℕ) : Type 0 where

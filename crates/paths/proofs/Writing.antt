@@ -1,84 +1,82 @@
--- Writing the nodes of a path from the last to the first. Assumes nothing.
+-- Writing the nodes of a path on the way back, the last of them first. Assumes nothing.
 use mathlib.Core.Path.{◌≡◌, refl, sym, ap, ◌∙◌}
-use mathlib.Core.List.{List, [], ◌∷◌, ◌++◌}
+use mathlib.Core.List.{List, [], ◌∷◌, ◌++◌, reverse, reverse-cons}
 use mathlib.Core.Logic.{⊎_elim}
-use mathlib.Core.Option.{some}
-use Prim.Native.Nat.{ℕ, suc, ◌+◌, ◌-◌, ◌≤◌, ◌<◌}
+use mathlib.Core.Option as wide
+use Prim.Native.Nat.{ℕ, ◌+◌, ◌<◌}
 use native.Mathlib.Omega.{arith}
-use lib.ListN.{length, set, drop, length-set}
-use lib.Seq.{drop-cons, drop-set-lt, get_or-set_same}
-use Rattle.listing.specs.Listing.{Tree, node_count, node_before, back_to, path}
+use lib.ListN.{length, set, take}
+use Rattle.std.specs.Prelude.{Option, Some, IsSome}
+use Rattle.std.proofs.lemmas.Option.{same_Some}
+use Rattle.std.proofs.lemmas.List.{take_more_set, take_all}
+use Rattle.listing.specs.Listing.{Tree, node_count, node_before, back_to, path, nodes_of}
 use Rattle.listing.proofs.Entries.{leads}
 use Rattle.listing.proofs.Ways.{Goes_on, ends_or_goes, path_size}
+use Rattle.paths.specs.Trees.{size}
+use Rattle.paths.proofs.Counting.{before}
 
--- The path `vs` is written behind index `at` of the output, and v is the node to be written there.
-pub record Writing (o : ℕ) (k : Tree) (vs before : List ℕ) (v at : ℕ) (output : List ℕ) : Type 0 where
-  -- the nodes written, and that the way back from v gives the whole path
-  pub left : ℕ
-  pub passed : List ℕ
-  pub whole : back_to left o k v passed ≡ some vs
-  pub counted : length vs ≡ at + suc (length passed)
+-- a path of so many nodes
+pub sized : (p : wide.Option (List ℕ)) (n : ℕ) → size p ≡ Some n → (p ≡ wide.some (nodes_of p)) × (length (nodes_of p) ≡ n)
+unfolding nodes_of
+sized wide.none n e = cc
+sized (wide.some vs) n e = (refl, same_Some _ _ e)
+
+-- Where the path `vs` has more nodes than were passed, v is the next one.
+pub record Ahead (o : ℕ) (k : Tree) (vs passed : List ℕ) (next : Option ℕ) : Type 0 where
+  pub v : ℕ
+  pub is : next ≡ Some v
   pub low : v < node_count k
-  -- the output has room for the path; behind `at` it has the nodes written and then what it had before
-  pub room : length vs ≤ length before
-  pub same_length : length output ≡ length before
-  pub written : drop (suc at) output ≡ passed ++ drop (length vs) before
+  -- the way back from it gives the whole path
+  pub left : ℕ
+  pub whole : back_to left o k v passed ≡ wide.some vs
 
-module _ (o : ℕ) (k : Tree) (vs before : List ℕ) where
-  pub begins : (node : ℕ) → path o node k ≡ some vs → node < node_count k → length vs ≤ length before →
-      Writing o k vs before node (length vs - 1) before
+-- The last `at` nodes of the path `vs` are written, the last of them first.
+pub record Writing (o : ℕ) (k : Tree) (vs : List ℕ) (next : Option ℕ) (at : ℕ) (output : List ℕ) : Type 0 where
+  pub passed : List ℕ
+  pub counted : at ≡ length passed
+  pub written : take at output ≡ reverse passed
+  -- what is still to be written
+  pub ahead : at < length vs → Ahead o k vs passed next
+  pub all : at ≡ length vs → passed ≡ vs
+
+module _ (o : ℕ) (k : Tree) (vs output : List ℕ) where
+  pub begins : (node : ℕ) → path o node k ≡ wide.some vs → node < node_count k → Writing o k vs (Some node) 0 output
   unfolding path
-  begins node e low room =
+  begins node e low =
       let some_node = path_size (node_count k) o k node [] vs e in
-      let f : suc (length vs - 1) ≡ length vs = omega arith in
       record {
-        left = node_count k;
         passed = [];
-        whole = e;
-        counted = omega arith;
-        low = low;
-        room = room;
-        same_length = refl;
-        written = ap (λ (i : ℕ). drop i before) f;
+        counted = refl;
+        written = refl;
+        ahead = λ h. record { v = node; is = refl; low = low; left = node_count k; whole = e };
+        all = λ h. absurd (omega arith);
       }
 
-  module _ (v at : ℕ) (output : List ℕ) (w : Writing o k vs before v at output) where
-    pub inside : at < length output
-    inside = omega (arith, w.counted, w.room, w.same_length)
+  module _ (next : Option ℕ) (at : ℕ) (w : Writing o k vs next at output) where
+    pub some_next : at < length vs → IsSome next
+    some_next h = let a = w.ahead h in rw a.is refl
 
-    pub goes_on : 0 < at → Goes_on o k v w.passed vs
-    goes_on h =
-        ⊎_elim (λ (e : vs ≡ v ∷ w.passed). absurd (omega (arith, ap length e, w.counted))) (λ g. g)
-        (ends_or_goes w.left o k v w.passed vs w.whole)
+    pub low : at < length vs → (v : ℕ) → next ≡ Some v → v < node_count k
+    low h v e = let a = w.ahead h in let same = same_Some a.v v (sym a.is ∙ e) in omega (arith, a.low, same)
 
-    -- storing v
-    stored : drop at (set output at v) ≡ v ∷ w.passed ++ drop (length vs) before
-    stored =
-        let h : at < length (set output at v) = rw length-set inside in
-        drop-cons (set output at v) at 0 h
-        ∙ rw (get_or-set_same output at v 0 inside, drop-set-lt (suc at) output at v (omega arith), w.written)
-
-    pub next : 0 < at → Writing o k vs before (node_before k v) (at - 1) (set output at v)
-    next h =
-        let g = goes_on h in
-        let f : suc (at - 1) ≡ at = omega arith in
+    pub goes_on : at < length vs → at < length output → (v : ℕ) → next ≡ Some v → Writing o k vs (before k v) (at + 1) (set output at v)
+    goes_on h inside v e =
+        let a = w.ahead h in
+        let way : back_to a.left o k v w.passed ≡ wide.some vs = ap (λ u. back_to a.left o k u w.passed) (same_Some v a.v (sym e ∙ a.is)) ∙ a.whole in
         record {
-          left = g.left;
           passed = v ∷ w.passed;
-          whole = g.whole;
           counted = omega (arith, w.counted);
-          low = (leads k v g.leads_on).low;
-          room = w.room;
-          same_length = length-set output at v ∙ w.same_length;
-          written = ap (λ (i : ℕ). drop i (set output at v)) f ∙ stored;
+          written = take_more_set output at v inside ∙ ap (λ l. l ++ (v ∷ [])) w.written ∙ sym (reverse-cons v w.passed);
+          ahead = λ more.
+              ⊎_elim (λ (p : vs ≡ v ∷ w.passed). absurd (omega (arith, ap length p, w.counted)))
+              (λ (g : Goes_on o k v w.passed vs).
+              record { v = node_before k v; is = rw g.leads_on refl; low = (leads k v g.leads_on).low; left = g.left; whole = g.whole })
+              (ends_or_goes a.left o k v w.passed vs way);
+          all = λ end.
+              ⊎_elim (λ (p : vs ≡ v ∷ w.passed). sym p)
+              (λ (g : Goes_on o k v w.passed vs). absurd (omega (arith, path_size g.left o k (node_before k v) (v ∷ w.passed) vs g.whole, w.counted)))
+              (ends_or_goes a.left o k v w.passed vs way);
         }
 
-    pub done : at ≤ 0 → set output 0 v ≡ vs ++ drop (length vs) before
-    done h =
-        let e : at ≡ 0 = omega arith in
-        ⊎_elim
-        (λ (p : vs ≡ v ∷ w.passed).
-        ap (λ (i : ℕ). drop i (set output i v)) (sym e) ∙ stored ∙ ap (λ (l : List ℕ). l ++ drop (length vs) before) (sym p))
-        (λ (g : Goes_on o k v w.passed vs).
-        absurd (omega (arith, path_size g.left o k (node_before k v) (v ∷ w.passed) vs g.whole, w.counted)))
-        (ends_or_goes w.left o k v w.passed vs w.whole)
+    pub done : at ≡ length vs → at ≡ length output → output ≡ reverse vs
+    done all end = sym (take_all at output (omega arith)) ∙ w.written ∙ ap reverse (w.all all)

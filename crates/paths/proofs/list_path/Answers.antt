@@ -1,25 +1,10 @@
--- `paths::list_path` meets its contract: the tests give the answer, and the path is written where they are passed. Assumes nothing.
-use lib.ListN.{length}
-use Rattle.listing.specs.Listing.{tree_in}
-use Rattle.listing.proofs.Answers.{writable, written, untouched}
+-- The nodes, as they were listed, are turned round. Assumes nothing.
+use mathlib.Core.Path.{refl}
+use Rattle.paths.proofs.Back.{turned, none}
 use Rattle.paths.proofs.list_path.Goals as goal
 
-pub write_nodes-requires : goal.write_nodes-requires
-write_nodes-requires c =
-    let k = let a = c.args in tree_in a.tails.now a.heads.now a.tree.now in
-    let w = writable c.args.origin c.args.node k (length c.args.output.now) c.test_listing-listed.result c.test_listing-listed.ensures
-    c.if-listed-eq-NONE.true in
-    record { node_in_bounds = w.0; count_value = w.1.0; count_nonzero = w.1.1.0; count_in_bounds = w.1.1.1 }
+pub returns-in-Ok : goal.returns-in-Ok
+returns-in-Ok c = let a = c.from.ensures in turned _ _ _ _ _ _ c.in-Ok.ensures a.0 a.1 a.2 (rw c.reverse.ensures.after refl)
 
-pub returns-then-listed-eq-NONE : goal.returns-then-listed-eq-NONE
-returns-then-listed-eq-NONE c =
-    let k = let a = c.args in tree_in a.tails.now a.heads.now a.tree.now in
-    written c.args.origin c.args.node k (length c.args.output.now) c.test_listing-listed.result c.test_listing-listed.ensures
-    c.if-listed-eq-NONE.true _ _
-    c.write_nodes.ensures
-
-pub returns-else-listed-eq-NONE : goal.returns-else-listed-eq-NONE
-returns-else-listed-eq-NONE c =
-    let k = let a = c.args in tree_in a.tails.now a.heads.now a.tree.now in
-    untouched c.args.origin c.args.node k (length c.args.output.now) c.test_listing-listed.result c.test_listing-listed.ensures
-    c.if-listed-eq-NONE.false _
+pub returns-in-Err : goal.returns-in-Err
+returns-in-Err c = let a = c.from-in-Err.ensures in none _ _ _ _ _ c.in-Err.ensures a.0 a.1 a.2
