@@ -5,7 +5,7 @@ ghost use Rattle.std.specs.Prelude.{◌≡◌};
 ghost use Rattle.mark_tally.specs.Tally.{tally_of, Roomy, Counts};
 
 // How many arcs have both ends unreached, are dropped, are kept into an unreached node, and are the tree arc of a reached node: marks 0 to 3.
-#[derive(Drop)]
+#[derive(Clone, Copy, Default)]
 pub struct Tally {
     pub unreached: u64,
     pub dropped: u64,
@@ -13,54 +13,30 @@ pub struct Tally {
     pub tree: u64,
 }
 
-// One arc more, by its mark. There are no other marks than these four; another byte is not counted.
-fn with_mark(tally: Tally, mark: u8) -> Tally
-    requires { Roomy tally }
-    ensures { Counts mark tally result }
-{
-    match mark {
-        0 => Tally {
-            unreached: tally.unreached + 1,
-            dropped: tally.dropped,
-            kept: tally.kept,
-            tree: tally.tree,
-        },
-        1 => Tally {
-            unreached: tally.unreached,
-            dropped: tally.dropped + 1,
-            kept: tally.kept,
-            tree: tally.tree,
-        },
-        2 => Tally {
-            unreached: tally.unreached,
-            dropped: tally.dropped,
-            kept: tally.kept + 1,
-            tree: tally.tree,
-        },
-        3 => Tally {
-            unreached: tally.unreached,
-            dropped: tally.dropped,
-            kept: tally.kept,
-            tree: tally.tree + 1,
-        },
-        _ => tally,
+impl Tally {
+    // One arc more, by its mark. There are no other marks than these four; another byte is not counted.
+    #[tactic(auto, unfolding(crate::specs::Tally::tally_of, auction::specs::HandOver::how_many))]
+    fn count(&mut self, mark: u8)
+        requires { Roomy self.old }
+        ensures { Counts mark self.old self.new }
+    {
+        match mark {
+            0 => self.unreached += 1,
+            1 => self.dropped += 1,
+            2 => self.kept += 1,
+            3 => self.tree += 1,
+            _ => {}
+        }
     }
 }
 
-// The tally of all marks, in one pass from the last to the first.
+// The tally of all marks.
 pub fn tally_marks(marks: &[u8]) -> Tally
     ensures { result ≡ tally_of marks.now }
 {
-    let mut tally = Tally {
-        unreached: 0,
-        dropped: 0,
-        kept: 0,
-        tree: 0,
-    };
-    let mut i = marks.len();
-    while 0 < i {
-        i -= 1;
-        tally = with_mark(tally, marks[i]);
+    let mut tally = Tally::default();
+    for mark in marks {
+        tally.count(*mark);
     }
     tally
 }

@@ -1,11 +1,18 @@
--- `mark_tally::tally_marks` meets its contract: the tally is that of the marks from the index on. Assumes nothing.
+-- `mark_tally::tally_marks` meets its contract: the tally is that of the marks passed. Assumes nothing.
+use mathlib.Core.Path.{◌∙◌}
 use native.Mathlib.Omega.{arith}
-use Rattle.mark_tally.proofs.Counting.{none_left, roomy}
+use Rattle.std.proofs.Common.{rules}
+use Rattle.auction.specs.HandOver.{how_many}
+use Rattle.mark_tally.specs.Tally.{tally_of}
+use Rattle.mark_tally.proofs.Counting.{next_mark, roomy}
 use Rattle.mark_tally.proofs.tally_marks.Goals as goal
 
-pub loop-i-init : goal.loop-i-init
-loop-i-init c = (omega arith, none_left c.args.marks.now)
+pub loop-mark-init : goal.loop-mark-init
+unfolding tally_of how_many
+loop-mark-init c = search rules
 
-pub with_mark-tally-requires : goal.with_mark-tally-requires
-with_mark-tally-requires c = let l = c.loop-i in
-    roomy c.args.marks.now l.tally l.i l.invariant.1 (omega (arith, c.well_formed.0))
+pub count-requires : goal.count-requires
+count-requires c = let l = c.loop-mark in roomy c.args.marks.now l.mark-index l.tally l.invariant (omega (arith, c.well_formed.0))
+
+pub loop-mark-preserved : goal.loop-mark-preserved
+loop-mark-preserved c = let l = c.loop-mark in c.count.ensures _ l.invariant ∙ next_mark c.args.marks.now l.mark-index c.loop-mark-test.true
