@@ -1,6 +1,8 @@
 -- What it means that a buffer begins with a text, and that a text is put there. Assumes nothing: these are definitions.
 use Rattle.std.specs.Prelude.{◌≡◌, List, ◌++◌, ℕ, length, drop}
 use Rattle.table.specs.Slices.{Buffer, had, left}
+use Rattle.sheet.specs.Text.{spaced}
+use Rattle.sheet_lines.specs.declared.text.Line.{Line}
 
 -- a buffer begins with a text, of which `count` says how long it is; the rest is as it was before
 pub record Begins (with before after : List ℕ) (count : ℕ) : Type 0 where
@@ -11,11 +13,16 @@ pub record Begins (with before after : List ℕ) (count : ℕ) : Type 0 where
 abbrev pub PutsLine : (line : List ℕ) → (out : Buffer) → (count : ℕ) → Type 0
 PutsLine line out count = Begins line (had out) (left out) count
 
--- A TEXT IS MADE LONGER: whatever the buffer begins with up to `at`, after the call it begins with what `longer` makes of that, up to `end`.
-abbrev pub Extends : (longer : List ℕ → List ℕ) → (at : ℕ) → (out : Buffer) → (end : ℕ) → Type 0
-Extends longer at out end =
-    (with before : List ℕ) → Begins with before (had out) at → Begins (longer with) before (left out) end
+-- A LINE IS MADE LONGER, in the same buffer: whatever it is, it is then what `longer` makes of that.
+pub record Extends (longer : List ℕ → List ℕ) (old new : Line) : Type 0 where
+  pub same : new.out.ghost_name ≡ old.out.ghost_name
+  pub long : length new.out.now ≡ length old.out.now
+  pub begins : (with before : List ℕ) → Begins with before old.out.now old.end → Begins (longer with) before new.out.now new.end
 
--- by another text behind it
-abbrev pub PutsBehind : (text : List ℕ) → (at : ℕ) → (out : Buffer) → (end : ℕ) → Type 0
-PutsBehind text = Extends (λ with. with ++ text)
+-- by a text behind it
+abbrev pub Puts : (text : List ℕ) → (old new : Line) → Type 0
+Puts text = Extends (λ with. with ++ text)
+
+-- by numbers, each after a space
+abbrev pub PutsSpaced : (numbers : List ℕ) → (old new : Line) → Type 0
+PutsSpaced numbers = Extends (λ with. spaced with numbers)

@@ -1,43 +1,79 @@
-// Putting texts and numbers one after the other at the start of a buffer.
+// A line that is put together at the start of a buffer, from texts and numbers: no contract says which bytes std's fmt writes.
 ghost use Rattle.std.specs.Prelude.{◌≡◌, ◌++◌, ◌+◌, ◌≤◌, length};
+ghost use Rattle.table.specs.Table.{most_nodes};
 ghost use Rattle.sheet.specs.Text.{decimal};
-ghost use Rattle.sheet_lines.specs.Buffers.{Extends, PutsBehind};
-ghost use Rattle.sheet_lines.specs.Room.{most_digits};
+ghost use Rattle.sheet.specs.Sheet.{arc_text};
+ghost use Rattle.sheet_lines.specs.Buffers.{Extends, Puts, PutsSpaced};
+ghost use Rattle.sheet_lines.specs.Room.{most_digits, most_path};
+
+use table::NO_ARC;
 
 // The most digits a number has.
-pub const MOST_DIGITS: usize = 20;
+const MOST_DIGITS: usize = 20;
 
-// Puts a text at an offset of a buffer, behind what it begins with, and answers the offset behind the text.
-pub fn put(text: &[u8], at: usize, out: &mut [u8]) -> usize
-    requires { at + length text.now ≤ length out.old }
-    ensures begins { PutsBehind text.now at out result }
-    ensures long { (result ≡ at + length text.now) × (length out.new ≡ length out.old) }
-{
-    let mut i = 0;
-    while i < text.len() {
-        out[at + i] = text[i];
-        i += 1;
+// The buffer, and how many bytes of it the line has so far.
+#[derive(Drop)]
+pub struct Line<'a> {
+    pub out: &'a mut [u8],
+    pub end: usize,
+}
+
+impl<'a> Line<'a> {
+    // Puts a text behind what the line has.
+    pub fn text(&mut self, text: &[u8])
+        requires { self.old.end + length text.now ≤ length self.old.out.now }
+        ensures puts { Puts text.now self.old self.new }
+        ensures long { self.new.end ≡ self.old.end + length text.now }
+    {
+        let next = self.end + text.len();
+        self.out[self.end..next].copy_from_slice(text);
+        self.end = next;
     }
-    at + text.len()
-}
 
-// Puts a number in decimal, in the same way.
-pub fn put_number(n: u64, at: usize, out: &mut [u8]) -> usize
-    requires { at + most_digits ≤ length out.old }
-    ensures begins { PutsBehind (decimal n) at out result }
-    ensures long { (result ≤ at + most_digits) × (length out.new ≡ length out.old) }
-{
-    let mut digits = [0u8; MOST_DIGITS];
-    let k = io::decimal(n, &mut digits);
-    put(&digits[..k], at, out)
-}
+    // Puts a number in decimal.
+    pub fn number(&mut self, n: u64)
+        requires { self.old.end + most_digits ≤ length self.old.out.now }
+        ensures puts { Puts (decimal n) self.old self.new }
+        ensures long { self.new.end ≤ self.old.end + most_digits }
+    {
+        let mut digits = [0u8; MOST_DIGITS];
+        let k = io::decimal(n, &mut digits);
+        self.text(&digits[..k]);
+    }
 
-// Puts a text and then a number in decimal.
-pub fn put_field(name: &[u8], n: u64, at: usize, out: &mut [u8]) -> usize
-    requires { at + (length name.now + most_digits) ≤ length out.old }
-    ensures begins { Extends (λ with. with ++ name.now ++ decimal n) at out result }
-    ensures long { (result ≤ at + (length name.now + most_digits)) × (length out.new ≡ length out.old) }
-{
-    let next = put(name, at, out);
-    put_number(n, next, out)
+    // Puts a text and then a number in decimal.
+    pub fn field(&mut self, name: &[u8], n: u64)
+        requires { self.old.end + (length name.now + most_digits) ≤ length self.old.out.now }
+        ensures puts { Extends (λ with. with ++ name.now ++ decimal n) self.old self.new }
+        ensures long { self.new.end ≤ self.old.end + (length name.now + most_digits) }
+    {
+        self.text(name);
+        self.number(n);
+    }
+
+    // Puts an arc's position, or "-" where there is no arc.
+    #[tactic(auto, unfolding(sheet::specs::Sheet::arc_text))]
+    pub fn arc(&mut self, arc: u16)
+        requires { self.old.end + most_digits ≤ length self.old.out.now }
+        ensures puts { Puts (arc_text arc) self.old self.new }
+        ensures long { self.new.end ≤ self.old.end + most_digits }
+    {
+        if arc == NO_ARC {
+            self.text(b"-");
+        } else {
+            self.number(u64::from(arc));
+        }
+    }
+
+    // Puts the numbers of nodes, each after a space.
+    pub fn spaced(&mut self, nodes: &[u16])
+        requires nodes_len_bound { length nodes.now ≤ most_nodes }
+        requires most_path_in_bounds { self.old.end + most_path ≤ length self.old.out.now }
+        ensures puts { PutsSpaced nodes.now self.old self.new }
+        ensures long { self.new.end ≤ self.old.end + most_path }
+    {
+        for &node in nodes {
+            self.field(b" ", u64::from(node));
+        }
+    }
 }

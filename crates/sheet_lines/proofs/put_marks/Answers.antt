@@ -1,13 +1,16 @@
--- `sheet_lines::put_marks` meets its contract: the buffer begins with each text put so far. Assumes nothing.
+-- `sheet_lines::put_marks` meets its contract: the line has each text put so far, and the buffer what is left in it. Assumes nothing.
 use mathlib.Core.List.{[]}
+use Rattle.std.proofs.Common.{rules}
 use Rattle.sheet.specs.Sheet.{marks_line}
-use Rattle.sheet_lines.proofs.text.Begins.{begins_nothing}
+use Rattle.sheet_lines.proofs.text.Begins.{begins_nothing, left_in}
 use Rattle.sheet_lines.proofs.put_marks.Goals as goal
 
 pub returns : goal.returns
 unfolding marks_line
-returns c = let out = c.args.out.now in
-    c.put.ensures.begins _ out
-    (c.put_field-d.ensures.begins _ out
-    (c.put_field-c.ensures.begins _ out
-    (c.put_field-b.ensures.begins _ out (c.put_field-a.ensures.begins [] out (begins_nothing out)))))
+returns c =
+    left_in
+    (c.text.ensures.puts.begins _ _
+    (c.field-4.ensures.puts.begins _ _
+    (c.field-3.ensures.puts.begins _ _
+    (c.field-2.ensures.puts.begins _ _ (c.field.ensures.puts.begins [] _ (begins_nothing c.args.out.now))))))
+    (search rules)
