@@ -1,2 +1,2 @@
--- The promise. The laws of one Rust module stand beside its functions' proofs, named in the module's node file (lines.antt, pieces.antt).
+-- The promise. The laws of one Rust module are named in its node file (lines.antt, pieces.antt).
 pub mod Promised

@@ -4,8 +4,8 @@ use mathlib.Core.List.{List, [], ◌∷◌, ◌++◌}
 use Prim.Native.Nat.{ℕ}
 use Rattle.sheet.specs.Sheet.{Finished}
 use Rattle.sheet.specs.Printed.{joined}
-use Rattle.printer.specs.declared.lines.Cursor.{Cursor}
-use Rattle.printer.specs.declared.lines.Cursor.TheVariants.{Start}
+use Rattle.printer.specs.declared.plan.Cursor.{Cursor}
+use Rattle.printer.specs.declared.plan.Cursor.TheVariants.{Start}
 use Rattle.printer.specs.Lines.{rest}
 use Rattle.printer.specs.Pieces.{Pieces}
 use Rattle.printer.specs.Promises.{PiecesPrinted}

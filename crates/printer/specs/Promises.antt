@@ -2,7 +2,7 @@
 use Rattle.std.specs.Prelude.{◌≡◌, List, ℕ}
 use Rattle.sheet.specs.Sheet.{Finished, sheet}
 use Rattle.sheet.specs.Printed.{joined, printed}
-use Rattle.printer.specs.declared.lines.Cursor.TheVariants.{Start}
+use Rattle.printer.specs.declared.plan.Cursor.TheVariants.{Start}
 use Rattle.printer.specs.Pieces.{Pieces}
 
 -- THE PIECES ARE WHAT IS PRINTED. Where the sheet of a plan is what is printed of an input, as plan_input's contract says of what it leaves, the plan's pieces

@@ -1,20 +1,20 @@
 -- The loop that fills a piece, and the pieces one after the other. Assumes nothing.
-use mathlib.Core.Path.{◌≡◌, refl, sym, ap, subst, ◌∙◌}
+use mathlib.Core.Path.{◌≡◌, refl, sym, ap, ◌∙◌}
 use mathlib.Core.List.{List, [], ◌∷◌, ◌++◌, append_assoc}
 use mathlib.Core.Logic.{⊎_elim}
 use Prim.Native.Nat.{ℕ, suc, ◌+◌, ◌-◌, ◌≤◌, ◌<◌}
 use native.Mathlib.Omega.{arith}
+use Rattle.std.proofs.Common.{None, Some}
 use lib.ListN.{length, take, drop, length-append, length-drop}
 use lib.Seq.{take_at, length-take-le}
-use borrow.Rule.Slice.PartMut.{mid_of, post_of, put_mid, same_len_mid, put_same}
+use borrow.Rule.Slice.PartMut.{mid_of, post_of, put_mid, same_len_mid}
 use Rattle.table.proofs.Basics.{same_or}
 use Rattle.sheet.specs.Sheet.{Finished}
 use Rattle.sheet.specs.Printed.{joined}
 use Rattle.sheet_lines.specs.Buffers.{Begins}
-use Rattle.printer.specs.declared.lines.Cursor.{Cursor}
-use Rattle.printer.specs.declared.lines.Line.TheVariants.{Put, Last}
+use Rattle.printer.specs.declared.plan.Cursor.{Cursor}
+use Rattle.printer.specs.declared.plan.Piece.{Piece}
 use Rattle.printer.specs.Lines.{rest, Gives}
-use Rattle.printer.specs.Pieces.{Continues}
 
 -- A piece is being filled: it was begun at the cursor `from`, has `at` bytes, and goes on at the cursor `next`.
 pub record Filling (p : Finished) (from : Cursor) (before out : List ℕ) (at : ℕ) (next : Cursor) : Type 0 where
@@ -28,34 +28,27 @@ pub record Filling (p : Finished) (from : Cursor) (before out : List ℕ) (at : 
   pub nothing_yet : at ≡ 0 → next ≡ from
 
 -- A LINE THAT WAS PUT is the first of those that were to come, and the others are to come from the next cursor on.
-pub record Advance (p : Finished) (from next : Cursor) (count : ℕ) (before after : List ℕ) : Type 0 where
+pub record Advance (p : Finished) (from : Cursor) (piece : Piece) (before after : List ℕ) : Type 0 where
   pub line : List ℕ
-  pub begins : Begins line before after count
-  pub some : 0 < count
-  pub first : rest p from ≡ line ∷ rest p next
+  pub begins : Begins line before after piece.count
+  pub some : 0 < piece.count
+  pub first : rest p from ≡ line ∷ rest p piece.next
 
-given : (p : Finished) (lines : List (List ℕ)) (from next : Cursor) (count : ℕ) (b a : List ℕ) → rest p from ≡ lines →
-    Gives p lines (Put count next) b a → Advance p from next count b a
+given : (p : Finished) (lines : List (List ℕ)) (from : Cursor) (piece : Piece) (b a : List ℕ) → rest p from ≡ lines → Gives p lines (Some piece) b a →
+    Advance p from piece b a
 unfolding Gives
-given p [] from next count b a e g = let z : ◌≡◌ {A = ℕ} 0 1 = cc g.0 in absurd (omega arith)
-given p (l ∷ later) from next count b a e g =
-    let counts : count ≡ g.count = cc g.put in
-    let leads : rest p next ≡ later = cc (g.put, g.leads) in
-    record {
-      line = l;
-      begins = subst (λ (k : ℕ). Begins l b a k) (sym counts) g.begins;
-      some = omega (arith, counts, g.some);
-      first = e ∙ ap (λ (ls : List (List ℕ)). l ∷ ls) (sym leads);
-    }
+given p [] from piece b a e g = absurd g
+given p (l ∷ later) from piece b a e g =
+    record { line = l; begins = g.begins; some = g.some; first = e ∙ ap (λ (ls : List (List ℕ)). l ∷ ls) (sym g.leads) }
 
-none_given : (p : Finished) (lines : List (List ℕ)) (b a : List ℕ) → Gives p lines Last b a → (lines ≡ []) × (a ≡ b)
+pub none_given : (p : Finished) (lines : List (List ℕ)) (b a : List ℕ) → Gives p lines None b a → lines ≡ []
 unfolding Gives
-none_given p [] b a g = (refl, g.1)
-none_given p (l ∷ later) b a g = let z : ◌≡◌ {A = ℕ} 0 1 = cc g.put in absurd (omega arith)
+none_given p [] b a g = refl
+none_given p (l ∷ later) b a g = absurd g
 
-pub fewer_given : (p : Finished) (from next : Cursor) (count : ℕ) (b a : List ℕ) → Gives p (rest p from) (Put count next) b a →
-    length (rest p next) < length (rest p from)
-fewer_given p from next count b a g = omega (arith, ap length (given p (rest p from) from next count b a refl g).first)
+pub fewer_given : (p : Finished) (from : Cursor) (piece : Piece) (b a : List ℕ) → Gives p (rest p from) (Some piece) b a →
+    length (rest p piece.next) < length (rest p from)
+fewer_given p from piece b a g = omega (arith, ap length (given p (rest p from) from piece b a refl g).first)
 
 -- a line put behind what the buffer holds
 module _ (out part line : List ℕ) (at count : ℕ) (inside : at ≤ length out) (begins : Begins line (mid_of at (length out - at) out) part count) where
@@ -73,66 +66,37 @@ module _ (out part line : List ℕ) (at count : ℕ) (inside : at ≤ length out
       ∙ sym (append_assoc (take at out) line left) in
       ap (take (at + count)) as_parts ∙ take_at kept left (at + count) long
 
-module _ (p : Finished) (from : Cursor) (before : List ℕ) where
-  pub filling_starts : Filling p from before before 0 from
-  filling_starts =
+module _ (p : Finished) (from : Cursor) (before out : List ℕ) (at : ℕ) (next : Cursor) (f : Filling p from before out at next) where
+  pub filling_next : (part : List ℕ) (piece : Piece) → length part ≡ length (mid_of at (length out - at) out) →
+      Gives p (rest p next) (Some piece) (mid_of at (length out - at) out) part →
+      Filling p from before (put_mid at (length out - at) out part) (at + piece.count) piece.next
+  unfolding joined
+  filling_next part piece long g =
+      let a = given p (rest p next) next piece _ _ refl g in
+      let one_less : length (rest p next) ≡ suc (length (rest p piece.next)) = ap length a.first in
+      let long_after = same_len_mid at (length out - at) out part long in
       record {
-        same = refl;
-        inside = omega arith;
-        joins = refl;
-        fewer = λ (h : 0 < 0). absurd (omega arith);
-        nothing_yet = λ h. refl;
+        same = long_after ∙ f.same;
+        inside =
+            omega (
+              arith,
+              long_after,
+              a.begins.counted,
+              long,
+              f.inside,
+              ap length a.begins.holds,
+              length-append a.line (drop (length a.line) (mid_of at (length out - at) out)),
+              length-take-le (length out - at) (drop at out) (omega (arith, length-drop at out)),
+              length-drop at out,
+            );
+        joins =
+            f.joins
+            ∙ ap (λ (ls : List (List ℕ)). take at out ++ joined ls) a.first
+            ∙ sym (append_assoc (take at out) a.line (joined (rest p piece.next)))
+            ∙ ap (λ (l : List ℕ). l ++ joined (rest p piece.next)) (sym (held out part a.line at piece.count f.inside a.begins));
+        fewer =
+            λ h.
+            ⊎_elim (λ (z : at ≡ 0). omega (arith, one_less, ap (λ (c : Cursor). length (rest p c)) (f.nothing_yet z)))
+            (λ (d : at ≡ 0 → ⊥). omega (arith, one_less, f.fewer (omega arith))) (same_or at 0);
+        nothing_yet = λ h. absurd (omega (arith, a.some));
       }
-
-  module _ (out : List ℕ) (at : ℕ) (next : Cursor) (f : Filling p from before out at next) where
-    pub filling_next : (part : List ℕ) (count : ℕ) (later : Cursor) → length part ≡ length (mid_of at (length out - at) out) →
-        Gives p (rest p next) (Put count later) (mid_of at (length out - at) out) part → Filling p from before (put_mid at (length out - at) out part) (at + count) later
-    unfolding joined
-    filling_next part count later long g =
-        let a = given p (rest p next) next later count _ _ refl g in
-        let one_less : length (rest p next) ≡ suc (length (rest p later)) = ap length a.first in
-        let long_after = same_len_mid at (length out - at) out part long in
-        record {
-          same = long_after ∙ f.same;
-          inside =
-              omega (
-                arith,
-                long_after,
-                a.begins.counted,
-                long,
-                f.inside,
-                ap length a.begins.holds,
-                length-append a.line (drop (length a.line) (mid_of at (length out - at) out)),
-                length-take-le (length out - at) (drop at out) (omega (arith, length-drop at out)),
-                length-drop at out,
-              );
-          joins =
-              f.joins
-              ∙ ap (λ (ls : List (List ℕ)). take at out ++ joined ls) a.first
-              ∙ sym (append_assoc (take at out) a.line (joined (rest p later)))
-              ∙ ap (λ (l : List ℕ). l ++ joined (rest p later)) (sym (held out part a.line at count f.inside a.begins));
-          fewer =
-              λ h.
-              ⊎_elim (λ (z : at ≡ 0). omega (arith, one_less, ap (λ (c : Cursor). length (rest p c)) (f.nothing_yet z)))
-              (λ (d : at ≡ 0 → ⊥). omega (arith, one_less, f.fewer (omega arith))) (same_or at 0);
-          nothing_yet = λ h. absurd (omega (arith, a.some));
-        }
-
-    -- no room for another line: some line has been put
-    pub filled : 0 < at → Continues p from (record { count = at; next = next }) out
-    filled h = record { inside = f.inside; joins = f.joins; fewer = f.fewer; ended = λ e. absurd (omega arith) }
-
-    -- no line any more: nothing has been put
-    pub no_more : (part : List ℕ) → Gives p (rest p next) Last (mid_of at (length out - at) out) part →
-        Continues p from (record { count = at; next = next }) (put_mid at (length out - at) out part)
-    no_more part g =
-        let e = none_given p (rest p next) (mid_of at (length out - at) out) part g in
-        let same : put_mid at (length out - at) out part ≡ out =
-        ap (put_mid at (length out - at) out) e.1 ∙ put_same at (length out - at) out in
-        subst (λ (l : List ℕ). Continues p from (record { count = at; next = next }) l) (sym same)
-        (record {
-          inside = f.inside;
-          joins = f.joins;
-          fewer = f.fewer;
-          ended = λ z. ap (rest p) (sym (f.nothing_yet z)) ∙ e.0;
-        })
