@@ -1,12 +1,13 @@
 -- Storing a list into a buffer, one element or one piece at a time. Assumes nothing.
-use mathlib.Core.List.{List, [], ◌∷◌, ◌++◌}
+use mathlib.Core.List.{List, [], ◌∷◌, ◌++◌, append-nil, append_assoc}
 use mathlib.Core.Path.{◌≡◌, refl, sym, ◌∙◌}
-use Prim.Native.Nat.{ℕ, suc, ◌+◌}
+use Prim.Native.Nat.{ℕ, suc, ◌+◌, ◌≤◌}
 use native.Mathlib.Nat.{add-zero}
 use native.Mathlib.Numerals.{add-one}
 use native.Mathlib.Omega.{arith}
-use lib.ListN.{length, set, length-set}
-use lib.Seq.{sets, length-sets}
+use lib.ListN.{length, take, set, length-set, drop, length-drop, drop_of_length-le}
+use lib.Seq.{sets, length-sets, sets-eq, drop-drop, length-take-le}
+use borrow.Rule.Slice.PartMut.{mid_of, put_mid}
 
 -- two pieces stored one after the other
 pub sets_append : (xs ys l : List ℕ) (i : ℕ) → sets l i (xs ++ ys) ≡ sets (sets l i xs) (i + length xs) ys
@@ -32,3 +33,20 @@ pub column_piece : {first : List ℕ} {start : ℕ} {all buffer : List ℕ} {i :
     → Column first start all (sets buffer i piece) (i + length piece) left
 column_piece {first} {start} {all} {buffer} {i} piece left k =
     record { kept = length-sets buffer i piece ∙ k.kept; same = sym (sets_append piece left buffer i) ∙ k.same }
+
+-- a list stored over a whole part of the buffer
+part_stored : (vs l : List ℕ) (a k : ℕ) → a + k ≤ length l → length vs ≡ k → put_mid a k l (sets (mid_of a k l) 0 vs) ≡ sets l a vs
+part_stored vs l a k fits e =
+    let size : length (mid_of a k l) ≡ k = length-take-le k (drop a l) (rw length-drop (omega arith)) in
+    let none_left : drop (0 + length vs) (mid_of a k l) ≡ [] = drop_of_length-le (mid_of a k l) (omega arith) in
+    let whole : sets (mid_of a k l) 0 vs ≡ vs = sets-eq vs (mid_of a k l) 0 (omega arith) ∙ rw (none_left, append-nil) in
+    let rest : drop k (drop a l) ≡ drop (a + length vs) l = rw drop-drop (rw e refl) in
+    rw (whole, rest, sets-eq vs l a (omega arith), append_assoc)
+
+-- a part of the buffer that was stored into, as many elements as it has, put back in its place
+pub part_done : (l : List ℕ) (a k : ℕ) {vs part : List ℕ} {i : ℕ} → Column (mid_of a k l) 0 vs part i [] → a + k ≤ length l → length vs ≡ k → put_mid a k l part ≡ sets l a vs
+part_done l a k {vs} column fits size = rw column.same (part_stored vs l a k fits size)
+
+-- the same of a part at the buffer's start
+pub start_done : (l : List ℕ) (k : ℕ) {vs part : List ℕ} {i : ℕ} → Column (take k l) 0 vs part i [] → k ≤ length l → length vs ≡ k → part ++ drop k l ≡ sets l 0 vs
+start_done l k column fits size = part_done l 0 k column (omega arith) size

@@ -16,8 +16,8 @@ use Rattle.link_format.specs.Reading.{Reader, got, refused, number, field, optio
 use Rattle.link_format.proofs.Numbers.{number_more, number_small, below_drop, three_bytes}
 use Rattle.link_format.proofs.Outcomes.{refused_got, got_next, got_value}
 use Rattle.link_fields.specs.Fields.{Got, CutInside, FieldSays}
+use Rattle.std.specs.Prelude.{Option, Some, None}
 use Rattle.link_fields.specs.declared.fields.Field.{Field}
-use Rattle.link_fields.specs.declared.fields.Field.TheVariants.{Value, Cut}
 
 -- a column of a type's values is below the type's bound
 pub column_below : (w : Width) (xs : List ℕ) → ((i : ℕ) → Fits w (get_or xs i 0)) → Below (2 ^ bits w) xs
@@ -27,7 +27,7 @@ column_below w xs h = λ (i : ℕ). (h i).fits
 module _ (part : List ℕ) (from width : ℕ) (fits : from ≤ length part) where
   -- there is room for the field
   pub field_got : width ≤ length part - from → Below 256 part
-      → Got (field width) part from width (256 ^ width) (number width (drop from part)) (from + width)
+      → Got (field width) part from width (256 ^ width) (record { value = number width (drop from part); next = from + width })
   unfolding field
   field_got room small =
       record {
@@ -51,16 +51,15 @@ module _ (part : List ℕ) (from width : ℕ) (fits : from ≤ length part) wher
       }
 
 -- a larger bound
-pub field_wider : (r : Field) (m : Reader ℕ) (part : List ℕ) (from width small bound : ℕ) → small ≤ bound
+pub field_wider : (r : Option Field) (m : Reader ℕ) (part : List ℕ) (from width small bound : ℕ) → small ≤ bound
     → FieldSays r m part from width small → FieldSays r m part from width bound
-unfolding FieldSays
-field_wider (Value v next) m part from width small bound h g =
+field_wider (Some f) m part from width small bound h g =
     record { is = g.is; on = g.on; near = g.near; inside = g.inside; small = omega (arith, g.small) }
-field_wider Cut m part from width small bound h g = g
+field_wider None m part from width small bound h g = g
 
 -- an absent field
 pub absent_got : (part : List ℕ) (from width absent bound : ℕ) → from ≤ length part → absent < bound
-    → Got (optional false width absent) part from width bound absent from
+    → Got (optional false width absent) part from width bound (record { value = absent; next = from })
 unfolding optional give
 absent_got part from width absent bound fits small =
     record { is = λ (at : ℕ). refl; on = omega arith; near = omega arith; inside = fits; small = small }
@@ -108,40 +107,28 @@ passed_none part from width =
     record { low = omega arith; is = rw w }
 
 -- what a field that was got is: the number in its bytes, and the offset behind them
-pub field_value : {part : List ℕ} {from width bound v next : ℕ} → Got (field width) part from width bound v next
-    → (v ≡ number width (drop from part)) × (next ≡ from + width)
+pub field_value : {part : List ℕ} {from width bound : ℕ} {f : Field} → Got (field width) part from width bound f
+    → (f.value ≡ number width (drop from part)) × (f.next ≡ from + width)
 unfolding field
-field_value {part} {from} {width} {bound} {v} {next} g =
+field_value {part} {from} {width} {bound} {f} g =
     elim (dec_le width (length (drop from part))) [
       | yes h ↦
-          let e : got (number width (drop from part)) (0 + from + width) (drop width (drop from part)) ≡ got v (0 + next) (drop next part) =
+          let e : got (number width (drop from part)) (0 + from + width) (drop width (drop from part)) ≡ got f.value (0 + f.next) (drop f.next part) =
           rw (le-leb width (length (drop from part)) h) at (g.is 0) in
-          (sym (got_value e), let p : 0 + from + width ≡ 0 + next = got_next e in omega arith)
+          (sym (got_value e), let p : 0 + from + width ≡ 0 + f.next = got_next e in omega arith)
       | no h ↦
-          let e : refused 9 (0 + from + length (drop from part)) ≡ got v (0 + next) (drop next part) =
+          let e : refused 9 (0 + from + length (drop from part)) ≡ got f.value (0 + f.next) (drop f.next part) =
           rw (lt-leb width (length (drop from part)) (omega (arith, h))) at (g.is 0) in
           absurd (refused_got e)
     ]
 
--- a field's answer by its case
-pub as_got : {r : Field} {m : Reader ℕ} {part : List ℕ} {from width bound v next : ℕ} → r ≡ Value v next
-    → FieldSays r m part from width bound → Got m part from width bound v next
-unfolding FieldSays
-as_got e says = rw e at says
+-- the same where the part is the whole file
+pub got_here : {m : Reader ℕ} {file : List ℕ} {from width bound : ℕ} {f : Field} → Got m file from width bound f
+    → m from (drop from file) ≡ got f.value f.next (drop f.next file)
+got_here g = simp zero-add at (g.is 0)
 
-pub as_cut : (bound : ℕ) {r : Field} {m : Reader ℕ} {part : List ℕ} {from width : ℕ} → r ≡ Cut
-    → FieldSays r m part from width bound → CutInside m part from width
-unfolding FieldSays
-as_cut bound e says = rw e at says
-
--- an optional field's answer, where the code's names for its bit and for what its absence says are the format's
-pub renamed : (r : Field) {s s' : Bool} {a a' : ℕ} (part : List ℕ) (from width bound : ℕ) → s ≡ s' → a ≡ a'
-    → FieldSays r (optional s width a) part from width bound → FieldSays r (optional s' width a') part from width bound
-renamed r part from width bound p q says = rw (p, q) at says
-
--- a bound that every value of an optional field is below
-abbrev pub loose : (width absent : ℕ) → ℕ
-loose w a = 256 ^ w + a + 1
+pub cut_here : {m : Reader ℕ} {file : List ℕ} {from width : ℕ} → CutInside m file from width → m from (drop from file) ≡ refused 9 (length file)
+cut_here cut = simp zero-add at (cut.is 0)
 
 -- the bit map is the part's first byte
 pub first_byte : (part : List ℕ) (at : ℕ) → 0 < length part → field 1 at part ≡ got (get_or part 0 0) (at + 1) (drop 1 part)

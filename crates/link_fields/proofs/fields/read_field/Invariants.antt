@@ -2,8 +2,5 @@
 use Rattle.link_fields.proofs.fields.Parts.{Passed}
 use Rattle.link_fields.proofs.fields.read_field.Given as goal
 
-abbrev pub invariant-loop-left : goal.invariant-loop-left
-invariant-loop-left l = Passed l.part l.from l.width l.value l.left
-
-abbrev pub decreases-loop-left : goal.decreases-loop-left
-decreases-loop-left l = l.left
+abbrev pub invariant-loop-i : goal.invariant-loop-i
+invariant-loop-i l = Passed l.part l.from l.width l.value l.i

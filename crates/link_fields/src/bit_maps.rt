@@ -1,0 +1,57 @@
+// Bit maps: which of three fields stand in a header or in a record.
+ghost use Rattle.std.specs.Prelude.{◌≡◌, ◌<◌};
+ghost use Rattle.link_format.specs.Reading.{forbidden, forbidden_header};
+ghost use Rattle.link_fields.specs.Fields.{arc_before, byte_of, MapSays};
+
+use crate::arcs::Arc;
+
+// Which fields stand. A header's are its node count, its origin and its wanted list, a record's its tail, its head and its length.
+#[derive(Clone, Copy, PartialEq, Eq)]
+pub struct BitMap {
+    pub first: bool,
+    pub second: bool,
+    pub third: bool,
+}
+
+impl From<BitMap> for u8 {
+    ghost from_gives = { λ map byte. byte ≡ byte_of map };
+
+    fn from(map: BitMap) -> u8 {
+        u8::from(map.first) + 2 * u8::from(map.second) + 4 * u8::from(map.third)
+    }
+}
+
+impl BitMap {
+    // The bit map in a byte with no other bits.
+    fn in_byte(byte: u8) -> BitMap
+        requires { byte < 8 }
+        ensures { byte ≡ byte_of result }
+    {
+        BitMap {
+            first: byte % 2 == 1,
+            second: byte / 2 % 2 == 1,
+            third: byte / 4 % 2 == 1,
+        }
+    }
+
+    // A header's bit map, unless its node count is missing or another bit stands.
+    pub fn in_header(byte: u8) -> Option<BitMap>
+        ensures { MapSays result (forbidden_header byte) byte }
+    {
+        match byte {
+            1 | 3 | 5 | 7 => Some(BitMap::in_byte(byte)),
+            0..=255 => None,
+        }
+    }
+
+    // A record's bit map, unless a field of the first record is missing or another bit stands.
+    pub fn in_record(byte: u8, previous: Option<Arc>) -> Option<BitMap>
+        ensures { MapSays result (forbidden (arc_before previous) byte) byte }
+    {
+        match byte {
+            0..=6 if previous.is_none() => None,
+            0..=7 => Some(BitMap::in_byte(byte)),
+            8..=255 => None,
+        }
+    }
+}
