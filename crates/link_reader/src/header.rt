@@ -1,158 +1,139 @@
 // Reading the header: the node count, the origin and the wanted list.
-ghost use Rattle.std.specs.Prelude.{◌&&◌, ◌≡◌, ◌+◌, ◌*◌, ◌≤◌, length, drop};
+ghost use Rattle.std.specs.Prelude.{◌≡◌, ◌+◌, ◌*◌, ◌≤◌, length, drop};
 ghost use Rattle.std.proofs.lemmas.List.Edits.{sets};
 ghost use Rattle.table.specs.Table.{most_nodes, most_wanted};
 ghost use Rattle.link_format.specs.Format.{map_width, node_width, count_up};
-ghost use Rattle.link_format.specs.Reading.{forbidden_header};
-ghost use Rattle.link_reader.specs.Says.{nodes_in, wanted_of, NodesSays, WantedSays, HeaderGot, HeaderSays};
+ghost use Rattle.link_format.specs.Reading.{read_nodes, read_wanted, read_header};
+ghost use Rattle.link_reader.specs.Says.{Reads, nodes_in, wanted_of, NodesGot, WantedGot, HeaderGot};
 
-use link_fields::arcs;
-use link_fields::arcs::{COUNT, ORIGIN, WANTED};
-use link_fields::fields::{Field, MAP_WIDTH, NODE_WIDTH, read_field, read_optional, refuse};
-use table::{MOST_WANTED, Refusal};
+use link_fields::bit_maps::BitMap;
+use link_fields::fields::{MAP_WIDTH, NODE_WIDTH, read_field, read_optional};
+use table::MOST_WANTED;
+use table::faults::{Fault, Refusal};
 
-// What a header says; `listed`: the wanted nodes stand in the file, just before the first record, which is at `next`.
+// What a header says: the nodes, the origin, how many nodes are wanted, where these are listed if they are, and the offset of the first record.
 #[derive(Clone, Copy)]
 pub struct Header {
     pub n: usize,
     pub origin: u16,
     pub wanted: usize,
-    pub listed: bool,
+    pub listed_at: Option<usize>,
     pub next: usize,
 }
 
-// A header's answer.
-#[derive(Drop)]
-pub enum HeaderRead {
-    Read(Header),
-    Refused(Refusal),
+// What a wanted list says: how many nodes it has, where these are listed if they are, whether it is all nodes ascending, and the next offset.
+#[derive(Clone, Copy)]
+pub struct Wanted {
+    pub count: usize,
+    pub listed_at: Option<usize>,
+    pub all: bool,
+    pub next: usize,
 }
 
-// The wanted list's answer: how many nodes it has, the next offset and whether it is all nodes ascending.
-#[derive(Drop)]
-pub enum WantedRead {
-    Read(usize, usize, bool),
-    Refused(Refusal),
-}
-
-// The answer of a run of nodes: the next offset and whether they count up from 0; or the file ends inside it.
-#[derive(Drop)]
-pub enum NodesRead {
-    Read(usize, bool),
-    Cut,
-}
-
-// Whether both hold.
-fn both(a: bool, b: bool) -> bool
-    ensures { result ≡ (a && b) }
-{
-    if a { b } else { false }
+// A run of nodes: whether they count up from 0, and the next offset.
+#[derive(Clone, Copy)]
+pub struct Nodes {
+    pub ascending: bool,
+    pub next: usize,
 }
 
 // Every one of so many nodes is read, and compared with its index.
-fn check_nodes(file: &[u8], from: usize, count: usize) -> NodesRead
-    requires { (from ≤ length file.now) × (count ≤ most_wanted) }
-    ensures { NodesSays result file.now from count }
+fn check_nodes(file: &[u8], from: usize, count: usize) -> Result<Nodes, Refusal>
+    requires inside { from ≤ length file.now }
+    requires near { from ≤ map_width + node_width + node_width + node_width }
+    requires few { count ≤ most_wanted }
+    ensures { Reads result (NodesGot file.now from count) (read_nodes count from (drop from file.now)) }
 {
-    let mut at = from;
+    let mut next = from;
     let mut ascending = true;
-    let mut i = 0;
-    while i < count {
-        let Field::Value(node, next) = read_field(file, at, NODE_WIDTH) else {
-            return NodesRead::Cut;
+    for i in 0..count {
+        let Some(node) = read_field(file, next, NODE_WIDTH) else {
+            return Err(Fault::Cut.at(file.len()));
         };
-        ascending = both(ascending, node == i);
-        at = next;
-        i += 1;
+        ascending &= node.value == i;
+        next = node.next;
     }
-    NodesRead::Read(at, ascending)
+    Ok(Nodes { ascending, next })
 }
 
 // The wanted list of n nodes.
-fn read_wanted(file: &[u8], from: usize, listed: bool, n: usize) -> WantedRead
-    requires { (from ≤ length file.now) × ((from ≤ map_width + node_width + node_width) × (n ≤ most_nodes)) }
-    ensures { WantedSays result file.now from listed n }
+fn read_wanted(file: &[u8], from: usize, listed: bool, n: usize) -> Result<Wanted, Refusal>
+    requires inside { from ≤ length file.now }
+    requires near { from ≤ map_width + node_width + node_width }
+    requires few { n ≤ most_nodes }
+    ensures { Reads result (WantedGot file.now from listed n) (read_wanted listed n from (drop from file.now)) }
 {
     if !listed {
-        return WantedRead::Read(n, from, true);
+        return Ok(Wanted {
+            count: n,
+            listed_at: None,
+            all: true,
+            next: from,
+        });
     }
-    let Field::Value(count, nodes_at) = read_field(file, from, NODE_WIDTH) else {
-        return WantedRead::Refused(refuse(Refusal::CUT, file.len()));
+    let Some(count) = read_field(file, from, NODE_WIDTH) else {
+        return Err(Fault::Cut.at(file.len()));
     };
-    if MOST_WANTED < count {
-        return WantedRead::Refused(refuse(Refusal::WANTED, MOST_WANTED));
+    if MOST_WANTED < count.value {
+        return Err(Fault::Wanted.at(MOST_WANTED));
     }
-    let NodesRead::Read(next, ascending) = check_nodes(file, nodes_at, count) else {
-        return WantedRead::Refused(refuse(Refusal::CUT, file.len()));
-    };
-    WantedRead::Read(count, next, both(count == n, ascending))
-}
-
-// The bit maps that a header may not have: bits 3 to 7, or no node count.
-fn forbidden(bits: u8) -> bool
-    ensures { result ≡ forbidden_header bits }
-{
-    match bits {
-        0..=7 => !arcs::stands(COUNT, bits),
-        8..=255 => true,
-    }
+    let nodes = check_nodes(file, count.next, count.value)?;
+    Ok(Wanted {
+        count: count.value,
+        listed_at: Some(count.next),
+        all: count.value == n && nodes.ascending,
+        next: nodes.next,
+    })
 }
 
 // The header at the start of a file.
-pub fn read_header(file: &[u8]) -> HeaderRead
-    ensures { HeaderSays result file.now }
+pub fn read_header(file: &[u8]) -> Result<Header, Refusal>
+    ensures { Reads result (HeaderGot file.now) (read_header 0 file.now) }
 {
-    if file.len() == 0 {
-        return HeaderRead::Refused(refuse(Refusal::CUT, 0));
+    if file.is_empty() {
+        return Err(Fault::Cut.at(0));
     }
-    let bits = file[0];
-    if forbidden(bits) {
-        return HeaderRead::Refused(refuse(Refusal::BIT_MAP, 0));
-    }
-    let Field::Value(n, from) = read_field(file, MAP_WIDTH, NODE_WIDTH) else {
-        return HeaderRead::Refused(refuse(Refusal::CUT, file.len()));
+    let Some(map) = BitMap::in_header(file[0]) else {
+        return Err(Fault::BitMap.at(0));
     };
-    if table::bad_count(n) {
-        return HeaderRead::Refused(refuse(Refusal::NODE_COUNT, 0));
-    }
-    let has_origin = arcs::stands(ORIGIN, bits);
-    let Field::Value(origin, from) = read_optional(file, from, NODE_WIDTH, has_origin, 0) else {
-        return HeaderRead::Refused(refuse(Refusal::CUT, file.len()));
+    let Some(n) = read_field(file, MAP_WIDTH, NODE_WIDTH) else {
+        return Err(Fault::Cut.at(file.len()));
     };
-    let listed = arcs::stands(WANTED, bits);
-    match read_wanted(file, from, listed, n) {
-        WantedRead::Refused(refusal) => HeaderRead::Refused(refusal),
-        WantedRead::Read(wanted, next, all) => {
-            if bits != arcs::bits_of(true, origin != 0, !all) {
-                return HeaderRead::Refused(refuse(Refusal::NEEDLESS, 0));
-            }
-            let origin = origin as u16;
-            HeaderRead::Read(Header {
-                n,
-                origin,
-                wanted,
-                listed,
-                next,
-            })
-        }
+    table::check_count(n.value)?;
+    let Some(origin) = read_optional(file, n.next, NODE_WIDTH, map.second, 0) else {
+        return Err(Fault::Cut.at(file.len()));
+    };
+    let wanted = read_wanted(file, origin.next, map.third, n.value)?;
+    let canonical = BitMap {
+        first: true,
+        second: origin.value != 0,
+        third: !wanted.all,
+    };
+    if map != canonical {
+        return Err(Fault::Needless.at(0));
     }
+    Ok(Header {
+        n: n.value,
+        origin: origin.value as u16,
+        wanted: wanted.count,
+        listed_at: wanted.listed_at,
+        next: wanted.next,
+    })
 }
 
-// The wanted nodes of a header that was read, at the start of a buffer.
+// The wanted nodes that a header lists, at the start of a buffer.
 fn fill_nodes(file: &[u8], from: usize, count: usize, wanted: &mut [u16])
     requires count_in_bounds { from + node_width * count ≤ length file.now }
     requires count_le_most_wanted { (count ≤ most_wanted) × (most_wanted ≤ length wanted.old) }
     ensures { wanted.new ≡ sets wanted.old 0 (nodes_in count (drop from file.now)) }
 {
-    let mut at = from;
-    let mut i = 0;
-    while i < count {
-        let Field::Value(node, next) = read_field(file, at, NODE_WIDTH) else {
+    let mut next = from;
+    for wanted_node in wanted[..count].iter_mut() {
+        let Some(node) = read_field(file, next, NODE_WIDTH) else {
             return;
         };
-        wanted[i] = node as u16;
-        at = next;
-        i += 1;
+        *wanted_node = node.value as u16;
+        next = node.next;
     }
 }
 
@@ -161,10 +142,8 @@ fn fill_all(n: usize, wanted: &mut [u16])
     requires { (n ≤ most_nodes) × (most_wanted ≤ length wanted.old) }
     ensures { wanted.new ≡ sets wanted.old 0 (count_up 0 n) }
 {
-    let mut i = 0;
-    while i < n {
-        wanted[i] = i as u16;
-        i += 1;
+    for (i, node) in wanted[..n].iter_mut().enumerate() {
+        *node = i as u16;
     }
 }
 
@@ -173,11 +152,8 @@ pub fn fill_wanted(file: &[u8], header: Header, wanted: &mut [u16])
     requires { HeaderGot file.now header × (most_wanted ≤ length wanted.old) }
     ensures { wanted.new ≡ sets wanted.old 0 (wanted_of file.now header) }
 {
-    let count = header.wanted;
-    if header.listed {
-        let from = header.next - NODE_WIDTH * count;
-        fill_nodes(file, from, count, wanted);
-        return;
+    match header.listed_at {
+        Some(from) => fill_nodes(file, from, header.wanted, wanted),
+        None => fill_all(header.n, wanted),
     }
-    fill_all(header.n, wanted);
 }

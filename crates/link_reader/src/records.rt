@@ -2,101 +2,79 @@
 ghost use Rattle.std.specs.Prelude.{◌≡◌, ◌≤◌, ◌<◌, length};
 ghost use Rattle.std.proofs.lemmas.List.Edits.{sets};
 ghost use Rattle.link_format.specs.Format.{tails_of, heads_of, lengths_of, most_header, most_file};
+ghost use Rattle.link_format.specs.Reading.{read_record};
 ghost use Rattle.link_fields.specs.Fields.{arc_before};
-ghost use Rattle.link_reader.specs.Says.{RecordSays, count_of, records_from, arcs_from, Fillable};
+ghost use Rattle.link_reader.specs.Says.{Reads, RecordGot, Counted, records_from, arcs_from, Fillable};
 
 use link_fields::arcs;
-use link_fields::arcs::{Arc, Previous};
-use link_fields::fields::{Field, LENGTH_WIDTH, MAP_WIDTH, NODE_WIDTH, read_optional, refuse};
-use table::{MOST_ARCS, Refusal};
+use link_fields::arcs::Arc;
+use link_fields::bit_maps::BitMap;
+use link_fields::fields::{LENGTH_WIDTH, MAP_WIDTH, NODE_WIDTH, read_optional};
+use table::MOST_ARCS;
+use table::faults::{Fault, Refusal};
 
-// A record's answer: its arc with the next offset.
-#[derive(Drop)]
-pub enum RecordRead {
-    Record(Arc, usize),
-    Refused(Refusal),
+// A record that was read: its arc, and the offset of the file where the next one begins.
+#[derive(Clone, Copy)]
+pub struct Record {
+    pub arc: Arc,
+    pub next: usize,
 }
 
 // The record at the start of a part of the file, which begins at an offset of the file.
-pub fn read_record(part: &[u8], at: usize, previous: Previous) -> RecordRead
+pub fn read_record(part: &[u8], at: usize, previous: Option<Arc>) -> Result<Record, Refusal>
     requires { (0 < length part.now) × (at ≤ most_file) }
-    ensures { RecordSays result (arc_before previous) part.now at }
+    ensures { Reads result (RecordGot (arc_before previous) part.now at) (read_record (arc_before previous) at part.now) }
 {
-    let bits = part[0];
     let file_length = at + part.len();
-    if arcs::forbidden(previous, bits) {
-        return RecordRead::Refused(refuse(Refusal::BIT_MAP, at));
-    }
+    let Some(map) = BitMap::in_record(part[0], previous) else {
+        return Err(Fault::BitMap.at(at));
+    };
     let absent = arcs::implied(previous);
-    let has_tail = arcs::stands(arcs::TAIL, bits);
-    let Field::Value(tail, from) = read_optional(part, MAP_WIDTH, NODE_WIDTH, has_tail, absent.tail)
-    else {
-        return RecordRead::Refused(refuse(Refusal::CUT, file_length));
+    let Some(tail) = read_optional(part, MAP_WIDTH, NODE_WIDTH, map.first, absent.tail) else {
+        return Err(Fault::Cut.at(file_length));
     };
-    let has_head = arcs::stands(arcs::HEAD, bits);
-    let Field::Value(head, from) = read_optional(part, from, NODE_WIDTH, has_head, absent.head)
-    else {
-        return RecordRead::Refused(refuse(Refusal::CUT, file_length));
+    let Some(head) = read_optional(part, tail.next, NODE_WIDTH, map.second, absent.head) else {
+        return Err(Fault::Cut.at(file_length));
     };
-    let has_length = arcs::stands(arcs::LENGTH, bits);
-    let Field::Value(length, end) = read_optional(
-        part,
-        from,
-        LENGTH_WIDTH,
-        has_length,
-        absent.length,
-    ) else {
-        return RecordRead::Refused(refuse(Refusal::CUT, file_length));
+    let Some(length) = read_optional(part, head.next, LENGTH_WIDTH, map.third, absent.length) else {
+        return Err(Fault::Cut.at(file_length));
     };
-    if arcs::LAST_HEAD < head {
-        return RecordRead::Refused(refuse(Refusal::IMPLIED_HEAD, at));
-    }
-    let near = tail as u16;
-    let far = head as u16;
-    let length = length as u32;
+    let Ok(far) = u16::try_from(head.value) else {
+        return Err(Fault::ImpliedHead.at(at));
+    };
     let arc = Arc {
-        tail: near,
+        tail: tail.value as u16,
         head: far,
-        length,
+        length: length.value as u32,
     };
-    if bits != arcs::record_bits(previous, arc) {
-        return RecordRead::Refused(refuse(Refusal::NEEDLESS, at));
+    if map != arc.bit_map(previous) {
+        return Err(Fault::Needless.at(at));
     }
-    let next = at + end;
-    RecordRead::Record(arc, next)
-}
-
-// How many records there are, or the first refusal.
-#[derive(Drop)]
-pub enum Counted {
-    Arcs(usize),
-    Refused(Refusal),
+    Ok(Record {
+        arc,
+        next: at + length.next,
+    })
 }
 
 // The first pass: every record from an offset to the end of the file is read, and counted.
-pub fn count_records(file: &[u8], start: usize) -> Counted
+pub fn count_records(file: &[u8], start: usize) -> Result<usize, Refusal>
     requires { (start ≤ length file.now) × (start ≤ most_header) }
-    ensures { result ≡ count_of 0 (records_from file.now start) }
+    ensures { Reads result (Counted file.now start) (records_from file.now start) }
 {
     let mut at = start;
-    let mut count = 0;
-    let mut previous = Previous::Nothing;
-    while at < file.len() {
-        if count == MOST_ARCS {
-            return Counted::Refused(refuse(Refusal::COLUMNS, MOST_ARCS));
+    let mut previous = None;
+    for count in 0..MOST_ARCS {
+        if at == file.len() {
+            return Ok(count);
         }
-        match read_record(&file[at..], at, previous) {
-            RecordRead::Record(arc, next) => {
-                previous = Previous::Record(arc);
-                at = next;
-                count += 1;
-            }
-            RecordRead::Refused(refusal) => {
-                return Counted::Refused(refusal);
-            }
-        }
+        let record = read_record(&file[at..], at, previous)?;
+        previous = Some(record.arc);
+        at = record.next;
     }
-    Counted::Arcs(count)
+    if at < file.len() {
+        return Err(Fault::Columns.at(MOST_ARCS));
+    }
+    Ok(MOST_ARCS)
 }
 
 // The second pass: the records, all of them good, fill the columns from their starts. It reads them by `read_record` once more, which tests them once
@@ -114,17 +92,18 @@ pub fn fill_records(
     ensures lengths { lengths.new ≡ sets lengths.old 0 (lengths_of (arcs_from file.now start)) }
 {
     let mut at = start;
-    let mut i = 0;
-    let mut previous = Previous::Nothing;
-    while at < file.len() {
-        let RecordRead::Record(arc, next) = read_record(&file[at..], at, previous) else {
+    let mut previous = None;
+    for i in 0..MOST_ARCS {
+        if at == file.len() {
+            return;
+        }
+        let Ok(record) = read_record(&file[at..], at, previous) else {
             return;
         };
-        tails[i] = arc.tail;
-        heads[i] = arc.head;
-        lengths[i] = arc.length;
-        previous = Previous::Record(arc);
-        at = next;
-        i += 1;
+        tails[i] = record.arc.tail;
+        heads[i] = record.arc.head;
+        lengths[i] = record.arc.length;
+        previous = Some(record.arc);
+        at = record.next;
     }
 }

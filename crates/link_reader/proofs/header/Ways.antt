@@ -1,32 +1,32 @@
 -- The ways out of reading a header and its wanted list, one law for each `return` of the code, in the code's order. Assumes nothing.
 use mathlib.Core.Bool.{Bool, true, false, ◌&&◌}
 use mathlib.Core.List.{List, [], ◌∷◌}
-use mathlib.Core.Path.{◌≡◌, refl, sym}
-use Prim.Native.Nat.{ℕ, ◌+◌, ◌-◌, ◌*◌, ◌≤◌, ◌<◌}
-use native.Mathlib.Nat.{zero-add}
+use mathlib.Core.Path.{◌≡◌, refl, sym, ◌∙◌}
+use Prim.Native.Nat.{ℕ, ◌+◌, ◌*◌, ◌≤◌, ◌<◌}
 use native.Mathlib.Omega.{arith}
 use lib.Dec.{eqb}
-use lib.ListN.{length, drop, length-drop}
+use lib.ListN.{length, drop, get_or, length-drop}
 use lib.Seq.{drop-drop}
 use borrow.Author.Tests.{lt-ltb, le-ltb, eq-eqb, ne_eqb}
+use Rattle.std.specs.Prelude.{Some, None}
 use Rattle.table.specs.Refusals.{count_bad}
-use Rattle.table.specs.declared.Refusal.{Refusal}
 use Rattle.table.specs.Table.{most_nodes, most_wanted}
-use Rattle.link_format.specs.Format.{has, all_nodes, header_bits}
-use Rattle.link_format.specs.Reading.{forbidden_header, ◌>>◌, ◌>>=◌, got, refused, and_then, give, here, refuse_if, field, optional, read_wanted, read_header}
+use Rattle.link_format.specs.Format.{all_nodes, header_bits}
+use Rattle.link_format.specs.Reading.{forbidden_header, ◌>>◌, ◌>>=◌, refused, and_then, give, here, refuse_if, field, optional, read_nodes, read_wanted, read_header}
 use Rattle.link_format.proofs.AllNodes.{length_count_up, all_count_up}
-use Rattle.link_reader.specs.declared.header.Header.{Header}
-use Rattle.link_reader.specs.declared.header.HeaderRead.{HeaderRead}
-use Rattle.link_reader.specs.declared.header.HeaderRead.TheVariants as Headers
-use Rattle.link_reader.specs.declared.header.WantedRead.{WantedRead}
-use Rattle.link_reader.specs.declared.header.WantedRead.TheVariants.{Read, Refused}
-use Rattle.link_fields.specs.Fields.{Got, CutInside}
-use Rattle.link_reader.specs.Says.{HeaderSays, WantedSays, NodesGot, WantedGot, HeaderGot, wanted_in}
-use Rattle.link_reader.proofs.header.Nodes.{nodes_read, nodes_cut, length_nodes_in}
-use Rattle.table.proofs.Basics.{not_both}
+use Rattle.link_format.proofs.BitMaps.{MadeOf, made_of}
+use Rattle.link_fields.specs.Fields.{Got, CutInside, byte_of}
+use Rattle.link_fields.specs.declared.bit_maps.BitMap.{BitMap}
+use Rattle.link_fields.specs.declared.fields.Field.{Field}
+use Rattle.link_fields.proofs.fields.Parts.{first_byte, got_here, cut_here}
+use Rattle.link_reader.specs.declared.header.Nodes.{Nodes}
+use Rattle.link_reader.specs.declared.header.Wanted.{Wanted}
+use Rattle.link_reader.specs.Says.{NodesGot, WantedGot, HeaderGot, wanted_in}
+use Rattle.link_reader.proofs.header.NodeRuns.{nodes_read, length_nodes_in}
 
 -- no list: all nodes
-pub wanted_absent : (file : List ℕ) (from n : ℕ) → from ≤ length file → n ≤ most_nodes → WantedGot file from false n n from true
+pub wanted_absent : (file : List ℕ) (from n : ℕ) → from ≤ length file → n ≤ most_nodes
+    → WantedGot file from false n (record { count = n; listed_at = None; all = true; next = from })
 unfolding read_wanted give wanted_in
 wanted_absent file from n fits few =
     record {
@@ -36,102 +36,91 @@ wanted_absent file from n fits few =
       few = few;
       near = omega arith;
       inside = fits;
-      room = λ (e : false ≡ true). absurd (not_both _ e refl);
+      room = tt;
     }
 
 module _ (file : List ℕ) (from n : ℕ) where
-  pub wanted_cut_count : CutInside (field 2) file from 2 → read_wanted true n (0 + from) (drop from file) ≡ refused 9 (length file)
+  pub wanted_cut_count : CutInside (field 2) file from 2 → read_wanted true n from (drop from file) ≡ refused 9 (length file)
   unfolding read_wanted ◌>>=◌ and_then
-  wanted_cut_count cut = rw (cut.is 0, zero-add (length file))
+  wanted_cut_count cut = rw (cut_here cut)
 
-  module _ {b count at : ℕ} (counted : Got (field 2) file from 2 b count at) where
-    pub wanted_many : most_wanted < count → read_wanted true n (0 + from) (drop from file) ≡ refused 5 most_wanted
+  module _ {b : ℕ} {c : Field} (counted : Got (field 2) file from 2 b c) where
+    pub wanted_many : most_wanted < c.value → read_wanted true n from (drop from file) ≡ refused 5 most_wanted
     unfolding read_wanted ◌>>=◌ ◌>>◌ and_then refuse_if
-    wanted_many many = rw (counted.is 0, lt-ltb most_wanted count many)
+    wanted_many many = rw (got_here counted, lt-ltb most_wanted c.value many)
 
-    module _ (few : count ≤ most_wanted) where
-      pub wanted_cut : length file < at + 2 * count → read_wanted true n (0 + from) (drop from file) ≡ refused 9 (length file)
+    -- what follows the count
+    module _ (few : c.value ≤ most_wanted) where
+      pub nodes_refused : {k p : ℕ} → read_nodes c.value c.next (drop c.next file) ≡ refused k p → read_wanted true n from (drop from file) ≡ refused k p
       unfolding read_wanted ◌>>=◌ ◌>>◌ and_then refuse_if
-      wanted_cut short =
-          let cut : length (drop at file) < 2 * count = rw (length-drop at file) (omega (arith, counted.inside)) in
-          let end : 0 + at + length (drop at file) ≡ length file = rw (length-drop at file) (omega (arith, counted.inside)) in
-          rw (counted.is 0, le-ltb most_wanted count few, nodes_cut count (0 + at) (drop at file) cut, end)
+      nodes_refused e = rw (got_here counted, le-ltb most_wanted c.value few, e)
 
-      pub wanted_got : {next : ℕ} {up : Bool} → NodesGot file at count next up → WantedGot file from true n count next (eqb count n && up)
+      pub wanted_got : {nodes : Nodes} → NodesGot file c.next c.value nodes → {all : Bool} → all ≡ (eqb c.value n && nodes.ascending)
+          → WantedGot file from true n (record { count = c.value; listed_at = Some c.next; all = all; next = nodes.next })
       unfolding read_wanted ◌>>=◌ ◌>>◌ and_then refuse_if wanted_in all_nodes
-      wanted_got {next} {up} nodes =
-          let there : next - 2 * count ≡ at = omega (arith, nodes.on) in
-          let all : 2 * count ≤ length (drop at file) = rw (length-drop at file) (omega (arith, nodes.on, nodes.inside)) in
-          let on : 0 + at + 2 * count ≡ 0 + next = omega (arith, nodes.on) in
-          let far : at + 2 * count ≡ next = omega (arith, nodes.on) in
+      wanted_got {nodes} got_nodes {all} same =
+          let room : 2 * c.value ≤ length (drop c.next file) = rw (length-drop c.next file) (omega (arith, got_nodes.on, got_nodes.inside)) in
+          let on : c.next + 2 * c.value ≡ nodes.next = omega (arith, got_nodes.on) in
           record {
             is =
-                rw (counted.is 0, le-ltb most_wanted count few, nodes_read count (0 + at) (drop at file) all, drop-drop (2 * count) at file, there, on, far);
-            size = length_nodes_in count _;
-            same = rw (there, length_nodes_in count (drop at file), nodes.up);
+                rw (got_here counted, le-ltb most_wanted c.value few, nodes_read c.value c.next (drop c.next file) room, drop-drop (2 * c.value) c.next file, on);
+            size = length_nodes_in c.value _;
+            same = same ∙ rw (length_nodes_in c.value (drop c.next file), got_nodes.up);
             few = few;
-            near = omega (arith, nodes.on, counted.near);
-            inside = nodes.inside;
-            room = λ (e : true ≡ true). omega (arith, nodes.on);
+            near = omega (arith, got_nodes.on, counted.near);
+            inside = got_nodes.inside;
+            room = omega (arith, got_nodes.on, got_nodes.inside);
           }
-
--- the wanted list's answer by its case
-pub wanted_as_got : {r : WantedRead} {file : List ℕ} {from n count next : ℕ} {listed all : Bool} → r ≡ Read count next all
-    → WantedSays r file from listed n → WantedGot file from listed n count next all
-unfolding WantedSays
-wanted_as_got e says = rw e at says
-
-pub wanted_as_refused : {r : WantedRead} {f : Refusal} (file : List ℕ) (from n : ℕ) (listed : Bool) → r ≡ Refused f
-    → WantedSays r file from listed n → read_wanted listed n (0 + from) (drop from file) ≡ refused f.number f.place
-unfolding WantedSays
-wanted_as_refused file from n listed e says = rw e at says
 
 pub header_empty : (file : List ℕ) → length file ≡ 0 → read_header 0 file ≡ refused 9 0
 unfolding read_header ◌>>=◌ ◌>>◌ and_then here field
 header_empty [] h = refl
 header_empty (b ∷ bs) h = absurd (omega arith)
 
-module _ (file : List ℕ) (bits : ℕ) (one : field 1 0 file ≡ got bits 1 (drop 1 file)) where
-  pub header_forbidden : forbidden_header bits ≡ true → read_header 0 file ≡ refused 10 0
+module _ (file : List ℕ) (some : 0 < length file) where
+  pub header_forbidden : forbidden_header (get_or file 0 0) ≡ true → read_header 0 file ≡ refused 10 0
   unfolding read_header ◌>>=◌ ◌>>◌ and_then here refuse_if
-  header_forbidden bad = rw (one, bad)
+  header_forbidden bad = rw (first_byte file 0 some, bad)
 
-  module _ (good : forbidden_header bits ≡ false) where
+  module _ (map : BitMap) (mapped : (forbidden_header (get_or file 0 0) ≡ false) × (get_or file 0 0 ≡ byte_of map)) where
+    m : MadeOf map.first map.second map.third
+    m = made_of map.first map.second map.third
+
     pub cut_n : CutInside (field 2) file 1 2 → read_header 0 file ≡ refused 9 (length file)
     unfolding read_header ◌>>=◌ ◌>>◌ and_then here refuse_if
-    cut_n cut = rw (one, good, cut.is 0, zero-add (length file))
+    cut_n cut = rw (first_byte file 0 some, mapped.0, cut_here cut)
 
-    module _ {b n f : ℕ} (nodes : Got (field 2) file 1 2 b n f) where
-      pub bad_n : count_bad n ≡ true → read_header 0 file ≡ refused 1 0
+    module _ {b : ℕ} {n : Field} (nodes : Got (field 2) file 1 2 b n) where
+      pub bad_n : count_bad n.value ≡ true → read_header 0 file ≡ refused 1 0
       unfolding read_header ◌>>=◌ ◌>>◌ and_then here refuse_if
-      bad_n bad = rw (one, good, nodes.is 0, bad)
+      bad_n bad = rw (first_byte file 0 some, mapped.0, got_here nodes, bad)
 
-      module _ (fine : count_bad n ≡ false) where
-        pub cut_origin : CutInside (optional (has 2 bits) 2 0) file f 2 → read_header 0 file ≡ refused 9 (length file)
+      module _ (fine : count_bad n.value ≡ false) where
+        pub cut_origin : CutInside (optional map.second 2 0) file n.next 2 → read_header 0 file ≡ refused 9 (length file)
         unfolding read_header ◌>>=◌ ◌>>◌ and_then here refuse_if
-        cut_origin cut = rw (one, good, nodes.is 0, fine, cut.is 0, zero-add (length file))
+        cut_origin cut = rw (first_byte file 0 some, mapped.0, mapped.1, got_here nodes, fine, m.second_bit, cut_here cut)
 
-        module _ {b₂ o f₂ : ℕ} (origin : Got (optional (has 2 bits) 2 0) file f 2 b₂ o f₂) where
-          pub wanted_refused : {k p : ℕ} → read_wanted (has 4 bits) n (0 + f₂) (drop f₂ file) ≡ refused k p → read_header 0 file ≡ refused k p
+        module _ {b₂ : ℕ} {o : Field} (origin : Got (optional map.second 2 0) file n.next 2 b₂ o) where
+          pub wanted_refused : {k p : ℕ} → read_wanted map.third n.value o.next (drop o.next file) ≡ refused k p → read_header 0 file ≡ refused k p
           unfolding read_header ◌>>=◌ ◌>>◌ and_then here refuse_if
-          wanted_refused e = rw (one, good, nodes.is 0, fine, origin.is 0, e)
+          wanted_refused e = rw (first_byte file 0 some, mapped.0, mapped.1, got_here nodes, fine, m.second_bit, got_here origin, m.third_bit, e)
 
-          module _ {count next : ℕ} {all : Bool} (wanted : WantedGot file f₂ (has 4 bits) n count next all) where
-            ws : List ℕ
-            ws = wanted_in file (has 4 bits) n count next
+          module _ {w : Wanted} (wanted : WantedGot file o.next map.third n.value w) where
+            abbrev bits : ℕ
+            bits = header_bits n.value o.value (wanted_in file w.listed_at n.value w.count)
 
-            pub header_needless : (bits ≡ header_bits n o (wanted_in file (has 4 bits) n count next) → ⊥) → read_header 0 file ≡ refused 12 0
-            unfolding read_header ◌>>=◌ ◌>>◌ and_then here refuse_if ws
+            pub header_needless : (byte_of map ≡ header_bits n.value o.value (wanted_in file w.listed_at n.value w.count) → ⊥) → read_header 0 file ≡ refused 12 0
+            unfolding read_header ◌>>=◌ ◌>>◌ and_then here refuse_if
             header_needless other =
-                rw (one, good, nodes.is 0, fine, origin.is 0, wanted.is, ne_eqb bits (header_bits n o ws) other)
+                rw (first_byte file 0 some, mapped.0, mapped.1, got_here nodes, fine, m.second_bit, got_here origin, m.third_bit, wanted.is, ne_eqb (byte_of map) bits other)
 
-            pub header_got : n ≤ most_nodes → bits ≡ header_bits n o (wanted_in file (has 4 bits) n count next)
-                → HeaderGot file (record { n = n; origin = o; wanted = count; listed = has 4 bits; next = next })
-            unfolding read_header ◌>>=◌ ◌>>◌ and_then here refuse_if give ws
+            pub header_got : n.value ≤ most_nodes → byte_of map ≡ header_bits n.value o.value (wanted_in file w.listed_at n.value w.count)
+                → HeaderGot file (record { n = n.value; origin = o.value; wanted = w.count; listed_at = w.listed_at; next = w.next })
+            unfolding read_header ◌>>=◌ ◌>>◌ and_then here refuse_if give
             header_got low same =
                 record {
                   is =
-                      rw (one, good, nodes.is 0, fine, origin.is 0, wanted.is, eq-eqb bits (header_bits n o ws) same, zero-add next);
+                      rw (first_byte file 0 some, mapped.0, mapped.1, got_here nodes, fine, m.second_bit, got_here origin, m.third_bit, wanted.is, eq-eqb (byte_of map) bits same);
                   size = wanted.size;
                   nodes = low;
                   few = wanted.few;
@@ -139,13 +128,3 @@ module _ (file : List ℕ) (bits : ℕ) (one : field 1 0 file ≡ got bits 1 (dr
                   inside = wanted.inside;
                   room = wanted.room;
                 }
-
--- the header's answer by its case
-pub header_as_got : {r : HeaderRead} {h : Header} {file : List ℕ} → r ≡ Headers.Read h → HeaderSays r file → HeaderGot file h
-unfolding HeaderSays
-header_as_got e says = rw e at says
-
-pub header_as_refused : {r : HeaderRead} {f : Refusal} (file : List ℕ) → r ≡ Headers.Refused f → HeaderSays r file
-    → read_header 0 file ≡ refused f.number f.place
-unfolding HeaderSays
-header_as_refused file e says = rw e at says

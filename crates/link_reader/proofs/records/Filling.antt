@@ -7,7 +7,9 @@ use Prim.Native.Nat.{ℕ, ◌+◌, ◌≤◌, ◌<◌}
 use native.Mathlib.Decide.{dec_lt}
 use native.Mathlib.Omega.{arith}
 use lib.ListN.{length, drop, set}
-use Rattle.table.specs.Table.{Arc, most_arcs}
+use Rattle.table.specs.Table.{Arc, arc, most_arcs}
+use Rattle.link_fields.specs.Fields.{arc_of}
+use Rattle.link_reader.specs.declared.records.Record.{Record}
 use Rattle.link_format.specs.Format.{tails_of, heads_of, lengths_of}
 use Rattle.link_format.specs.Reading.{Outcome, got, refused, accepted, list_got, and_then, give, read_record}
 use Rattle.link_format.proofs.Records.{in_front}
@@ -33,28 +35,33 @@ pub refused_not : {A : Type 0} {o : Outcome A} {n p : ℕ} → o ≡ refused n p
 unfolding accepted
 refused_not e good = not_both _ (rw e at good) refl
 
-module _ (file : List ℕ) (at i : ℕ) (before : Option Arc) (more : at < length file) (good : accepted (remaining file at i before) ≡ true) where
-  -- an accepted file has no record 6,001, and no refused record
-  pub still_few : i ≤ most_arcs → i < most_arcs
-  still_few low =
-      elim (dec_lt i most_arcs) [ yes h ↦ h | no h ↦ absurd (refused_not (run_full file at i before more (omega arith)) good) ]
+module _ (file : List ℕ) (at i : ℕ) (before : Option Arc) (good : accepted (remaining file at i before) ≡ true) where
+  -- an accepted file has no record 6,001
+  pub all_passed : most_arcs ≤ i → i ≤ most_arcs → length file ≤ at
+  all_passed full low =
+      elim (dec_lt at (length file)) [ yes more ↦ absurd (refused_not (run_full file at i before more (omega arith)) good) | no past ↦ omega (arith, past) ]
 
-  pub no_refusal_here : i < most_arcs → (n p : ℕ) → read_record before at (drop at file) ≡ refused n p → ⊥
-  no_refusal_here few n p e = refused_not (run_refused file at i before more few e) good
+  module _ (more : at < length file) (few : i < most_arcs) where
+    -- and no refused record
+    pub never_refused : (n p : ℕ) → read_record before at (drop at file) ≡ refused n p → ⊥
+    never_refused n p e = refused_not (run_refused file at i before more few e) good
 
-  module _ (few : i < most_arcs) {a : Arc} {next : ℕ} (r : RecordGot before (drop at file) at a next) where
-    pub next_good : accepted (remaining file next (i + 1) (some a)) ≡ true
-    next_good = sym (accepted_then a (remaining file next (i + 1) (some a))) ∙ ap accepted (sym (run_more file at i before more few r)) ∙ good
+    module _ {r : Record} (g : RecordGot before (drop at file) at r) where
+      abbrev rest : Outcome (List Arc)
+      rest = remaining file r.next (i + 1) (some (arc_of r.arc))
 
-    next_list : list_got (remaining file at i before) ≡ a ∷ list_got (remaining file next (i + 1) (some a))
-    next_list = ap list_got (run_more file at i before more few r) ∙ got_then a (remaining file next (i + 1) (some a)) next_good
+      pub next_good : accepted (remaining file r.next (i + 1) (some (arc_of r.arc))) ≡ true
+      next_good = sym (accepted_then (arc_of r.arc) rest) ∙ ap accepted (sym (run_more file at i before more few g)) ∙ good
 
-    -- a column, of tails, heads or lengths
-    pub next_column : (of : List Arc → List ℕ) (x : ℕ) → ((rest : List Arc) → of (a ∷ rest) ≡ x ∷ of rest) → {first : List ℕ} {start : ℕ} {all buffer : List ℕ}
-        → Column first start all buffer i (of (list_got (remaining file at i before)))
-        → Column first start all (set buffer i x) (i + 1) (of (list_got (remaining file next (i + 1) (some a))))
-    next_column of x cons {first} {start} {all} {buffer} k =
-        column_next (subst (λ (l : List ℕ). Column first start all buffer i l) (ap of next_list ∙ cons (list_got (remaining file next (i + 1) (some a)))) k)
+      next_list : list_got (remaining file at i before) ≡ arc_of r.arc ∷ list_got rest
+      next_list = ap list_got (run_more file at i before more few g) ∙ got_then (arc_of r.arc) rest next_good
+
+      -- a column, of tails, heads or lengths
+      pub next_column : (of : List Arc → List ℕ) (x : ℕ) → ((others : List Arc) → of (arc_of r.arc ∷ others) ≡ x ∷ of others) → {first : List ℕ} {all buffer : List ℕ}
+          → Column first 0 all buffer i (of (list_got (remaining file at i before)))
+          → Column first 0 all (set buffer i x) (i + 1) (of (list_got (remaining file r.next (i + 1) (some (arc_of r.arc)))))
+      next_column of x cons {first} {all} {buffer} k =
+          column_next (subst (λ (l : List ℕ). Column first 0 all buffer i l) (ap of next_list ∙ cons (list_got rest)) k)
 
 -- Where the second pass stands.
 pub record Filling (file : List ℕ) (start : ℕ) (tails₀ heads₀ lengths₀ tails heads lengths : List ℕ) (at i : ℕ) (before : Option Arc) : Type 0 where
@@ -70,7 +77,7 @@ pub filling_begins : {file : List ℕ} {start : ℕ} {tails heads lengths : List
     → Filling file start tails heads lengths tails heads lengths start 0 none
 filling_begins f =
     record {
-      stands = record { inside = f.inside; few = omega arith; short = omega (arith, f.short) };
+      stands = record { inside = f.inside; short = omega (arith, f.short) };
       good = f.good;
       tails_left = column_begins _ 0 _;
       heads_left = column_begins _ 0 _;
@@ -79,17 +86,16 @@ filling_begins f =
 
 module _ {file : List ℕ} {start : ℕ} {tails₀ heads₀ lengths₀ tails heads lengths : List ℕ} {at i : ℕ} {before : Option Arc}
     (f : Filling file start tails₀ heads₀ lengths₀ tails heads lengths at i before) where
-  pub filling_next : at < length file → {a : Arc} {next : ℕ} → RecordGot before (drop at file) at a next
-      → Filling file start tails₀ heads₀ lengths₀ (set tails i a.tail) (set heads i a.head) (set lengths i a.arc_length) next (i + 1) (some a)
-  unfolding tails_of heads_of lengths_of
-  filling_next more {a} {next} r =
-      let few : i < most_arcs = still_few file at i before more f.good f.stands.few in
+  pub filling_next : at < length file → i < most_arcs → {r : Record} → RecordGot before (drop at file) at r
+      → Filling file start tails₀ heads₀ lengths₀ (set tails i r.arc.tail) (set heads i r.arc.head) (set lengths i r.arc.length) r.next (i + 1) (some (arc_of r.arc))
+  unfolding tails_of heads_of lengths_of arc
+  filling_next more few {r} g =
       record {
-        stands = standing_next f.stands before a next few r;
-        good = next_good file at i before more f.good few r;
-        tails_left = next_column file at i before more f.good few r tails_of a.tail (λ (rest : List Arc). refl) f.tails_left;
-        heads_left = next_column file at i before more f.good few r heads_of a.head (λ (rest : List Arc). refl) f.heads_left;
-        lengths_left = next_column file at i before more f.good few r lengths_of a.arc_length (λ (rest : List Arc). refl) f.lengths_left;
+        stands = standing_next f.stands before r g;
+        good = next_good file at i before f.good more few g;
+        tails_left = next_column file at i before f.good more few g tails_of r.arc.tail (λ (others : List Arc). refl) f.tails_left;
+        heads_left = next_column file at i before f.good more few g heads_of r.arc.head (λ (others : List Arc). refl) f.heads_left;
+        lengths_left = next_column file at i before f.good more few g lengths_of r.arc.length (λ (others : List Arc). refl) f.lengths_left;
       }
 
   -- nothing is left: each column has all of its arcs

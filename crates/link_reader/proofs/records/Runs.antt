@@ -1,22 +1,21 @@
 -- Running through the records of a file: what is left to read at an offset, before and after one record. Assumes nothing.
 use mathlib.Core.List.{List, []}
 use mathlib.Core.Option.{Option, some}
-use mathlib.Core.Path.{◌≡◌, refl, ◌∙◌}
+use mathlib.Core.Bool.{true}
+use mathlib.Core.Path.{◌≡◌, refl, sym, ap, ◌∙◌}
 use Prim.Native.Nat.{ℕ, suc, ◌+◌, ◌-◌, ◌*◌, ◌≤◌, ◌<◌}
-use native.Mathlib.Nat.{le_of_eq}
+use native.Mathlib.Nat.{le_of_eq, add-zero}
 use native.Mathlib.Omega.{arith}
 use lib.ListN.{length, take, drop, length-drop, drop_of_length-le}
 use lib.Seq.{take_all, drop-drop}
 use Rattle.table.specs.Table.{Arc, most_arcs}
-use Rattle.link_format.specs.Reading.{Outcome, got, refused, and_then, give, read_record, read_records}
+use Rattle.link_format.specs.Reading.{Outcome, got, refused, accepted, list_got, and_then, give, read_record, read_records}
+use Rattle.link_format.proofs.Outcomes.{got_value, refused_got}
 use Rattle.link_format.proofs.Records.{in_front, records_more, records_full, records_none}
 use Rattle.link_fields.specs.Fields.{arc_of}
-use Rattle.link_reader.specs.Says.{RecordGot, RecordSays, count_of}
-use Rattle.link_fields.specs.declared.arcs.Arc as Code
-use Rattle.link_reader.specs.declared.records.RecordRead.{RecordRead}
-use Rattle.link_reader.specs.declared.records.RecordRead.TheVariants.{Record, Refused}
+use Rattle.link_reader.specs.Says.{RecordGot}
+use Rattle.link_reader.specs.declared.records.Record.{Record}
 use Rattle.link_format.specs.Format.{most_record, most_header}
-use Rattle.table.specs.declared.Refusal.{Refusal}
 
 -- the part of a file from an offset on
 pub part_is : (file : List ℕ) (at : ℕ) → take (length file - at) (drop at file) ≡ drop at file
@@ -47,41 +46,50 @@ module _ (file : List ℕ) (at count : ℕ) (before : Option Arc) where
       unfolding and_then
       run_refused e = rw one_less (records_more (most_arcs - (count + 1)) before at (drop at file) left ∙ rw e)
 
-      pub run_more : {a : Arc} {next : ℕ} → RecordGot before (drop at file) at a next
-          → remaining file at count before ≡ in_front a (remaining file next (count + 1) (some a))
+      pub run_more : {r : Record} → RecordGot before (drop at file) at r
+          → remaining file at count before ≡ in_front (arc_of r.arc) (remaining file r.next (count + 1) (some (arc_of r.arc)))
       unfolding and_then
-      run_more {a} {next} r =
-          let there : at + (next - at) ≡ next = omega (arith, r.on) in
-          rw one_less (records_more (most_arcs - (count + 1)) before at (drop at file) left ∙ rw (r.is, drop-drop (next - at) at file, there))
+      run_more {r} g =
+          let there : at + (r.next - at) ≡ r.next = omega (arith, g.on) in
+          rw one_less (records_more (most_arcs - (count + 1)) before at (drop at file) left ∙ rw (g.is, drop-drop (r.next - at) at file, there))
 
--- the count of one record more
+-- what reading records gives, as their count after so many before them
+abbrev pub count_of : ℕ → Outcome (List Arc) → Outcome ℕ
+count_of k (got arcs next rest) = got (k + length arcs) next rest
+count_of k (refused n p) = refused n p
+
+counted : (o : Outcome (List Arc)) {k next : ℕ} {rest : List ℕ} → got k next rest ≡ count_of 0 o → (accepted o ≡ true) × (k ≡ length (list_got o))
+unfolding accepted list_got
+counted (got arcs next rest) {k} e = (refl, let all : k ≡ 0 + length arcs = got_value e in omega arith)
+counted (refused n p) e = absurd (refused_got (sym e))
+
+not_counted : (o : Outcome (List Arc)) {n p : ℕ} → refused n p ≡ count_of 0 o → o ≡ refused n p
+not_counted (got arcs next rest) e = absurd (refused_got e)
+not_counted (refused n p) e = cc
+
+-- all records were counted; one is refused; there is one too many
+module _ (file : List ℕ) (at count : ℕ) (before : Option Arc) (o : Outcome (List Arc)) (same : count_of count (remaining file at count before) ≡ count_of 0 o) where
+  pub all_counted : length file ≤ at → (accepted o ≡ true) × (count ≡ length (list_got o))
+  all_counted end = counted o (rw add-zero at (sym (ap (count_of count) (run_none file at count before end)) ∙ same))
+
+  pub one_refused : at < length file → count < most_arcs → {n p : ℕ} → read_record before at (drop at file) ≡ refused n p → o ≡ refused n p
+  one_refused more few e = not_counted o (sym (ap (count_of count) (run_refused file at count before more few e)) ∙ same)
+
+  pub one_too_many : at < length file → count ≡ most_arcs → o ≡ refused 2 most_arcs
+  one_too_many more full = not_counted o (sym (ap (count_of count) (run_full file at count before more full)) ∙ same)
+
 pub count_more : (k : ℕ) (a : Arc) (o : Outcome (List Arc)) → count_of k (in_front a o) ≡ count_of (k + 1) o
-unfolding and_then give count_of
+unfolding and_then give
 count_more k a (got more next rest) = let e : k + suc (length more) ≡ k + 1 + length more = omega arith in rw e
 count_more k a (refused n p) = refl
 
 -- Where both passes stand: inside the file, after so many records behind a header.
 pub record Standing (file : List ℕ) (at count : ℕ) : Type 0 where
   pub inside : at ≤ length file
-  pub few : count ≤ most_arcs
   -- no record is longer than the longest, so that the offset stays small
   pub short : at ≤ most_header + most_record * count
 
-pub standing_next : {file : List ℕ} {at count : ℕ} → Standing file at count → (before : Option Arc) (a : Arc) (next : ℕ) → count < most_arcs
-    → RecordGot before (drop at file) at a next → Standing file next (count + 1)
-standing_next {file} {at} {count} s before a next few r =
-    record {
-      inside = omega (arith, r.inside, length-drop at file, s.inside);
-      few = omega arith;
-      short = omega (arith, r.near, s.short);
-    }
-
--- a record's answer by its case, read at an offset of the file
-module _ (file : List ℕ) (at : ℕ) (before : Option Arc) (r : RecordRead) (says : RecordSays r before (take (length file - at) (drop at file)) at) where
-  pub answer_record : {a : Code.Arc} {next : ℕ} → r ≡ Record a next → RecordGot before (drop at file) at (arc_of a) next
-  unfolding RecordSays
-  answer_record e = rw (e, part_is file at) at says
-
-  pub answer_refused : {f : Refusal} → r ≡ Refused f → read_record before at (drop at file) ≡ refused f.number f.place
-  unfolding RecordSays
-  answer_refused e = rw (e, part_is file at) at says
+pub standing_next : {file : List ℕ} {at count : ℕ} → Standing file at count → (before : Option Arc) (r : Record)
+    → RecordGot before (drop at file) at r → Standing file r.next (count + 1)
+standing_next {file} {at} {count} s before r g =
+    record { inside = omega (arith, g.inside, length-drop at file, s.inside); short = omega (arith, g.near, s.short) }

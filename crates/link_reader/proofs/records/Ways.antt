@@ -2,64 +2,99 @@
 use mathlib.Core.Bool.{true, false}
 use mathlib.Core.List.{List}
 use mathlib.Core.Option.{Option}
-use mathlib.Core.Path.{◌≡◌}
+use mathlib.Core.Path.{◌≡◌, sym}
 use Prim.Native.Nat.{ℕ, ◌+◌, ◌≤◌, ◌<◌}
 use native.Mathlib.Nat.{add-sub_cancel_left}
 use native.Mathlib.Omega.{arith}
-use lib.ListN.{length, drop}
+use lib.ListN.{length, get_or}
 use borrow.Author.Tests.{lt-ltb, le-ltb, eq-eqb, ne_eqb}
 use Rattle.table.specs.Table.{Arc, arc}
-use Rattle.link_format.specs.Format.{last_head, has, record_bits}
-use Rattle.link_format.specs.Reading.{◌>>◌, ◌>>=◌, got, refused, and_then, give, here, refuse_if, field, optional, implied, forbidden, read_record}
-use Rattle.link_fields.specs.Fields.{Got, CutInside}
+use Rattle.link_format.specs.Format.{last_head, record_bits}
+use Rattle.link_format.specs.Reading.{◌>>◌, ◌>>=◌, refused, and_then, give, here, refuse_if, optional, implied, forbidden, read_record}
+use Rattle.link_format.proofs.BitMaps.{MadeOf, made_of}
+use Rattle.link_fields.specs.Fields.{Got, CutInside, AbsentSays, byte_of}
+use Rattle.link_fields.proofs.fields.Parts.{first_byte}
+use Rattle.link_fields.specs.declared.arcs.Absent.{Absent}
+use Rattle.link_fields.specs.declared.bit_maps.BitMap.{BitMap}
+use Rattle.link_fields.specs.declared.fields.Field.{Field}
 use Rattle.link_reader.specs.Says.{RecordGot}
 
-module _ (before : Option Arc) (part : List ℕ) (at : ℕ) (bits : ℕ) (one : field 1 at part ≡ got bits (at + 1) (drop 1 part)) where
-  pub refused_bits : forbidden before bits ≡ true → read_record before at part ≡ refused 10 at
+module _ (before : Option Arc) (part : List ℕ) (at : ℕ) (some : 0 < length part) where
+  pub refused_bits : forbidden before (get_or part 0 0) ≡ true → read_record before at part ≡ refused 10 at
   unfolding read_record ◌>>=◌ ◌>>◌ and_then here refuse_if
-  refused_bits bad = rw (one, bad)
+  refused_bits bad = rw (first_byte part at some, bad)
 
-  module _ (good : forbidden before bits ≡ false) where
-    pub cut_tail : CutInside (optional (has 1 bits) 2 (implied before).tail) part 1 2 → read_record before at part ≡ refused 9 (at + length part)
-    unfolding read_record ◌>>=◌ ◌>>◌ and_then here refuse_if
-    cut_tail cut = rw (one, good, cut.is at)
+  module _ (map : BitMap) (mapped : (forbidden before (get_or part 0 0) ≡ false) × (get_or part 0 0 ≡ byte_of map)) {absent : Absent} (says : AbsentSays before absent) where
+    m : MadeOf map.first map.second map.third
+    m = made_of map.first map.second map.third
 
-    module _ {b t f : ℕ} (tail : Got (optional (has 1 bits) 2 (implied before).tail) part 1 2 b t f) where
-      pub cut_head : CutInside (optional (has 2 bits) 2 (implied before).head) part f 2 → read_record before at part ≡ refused 9 (at + length part)
-      unfolding read_record ◌>>=◌ ◌>>◌ and_then here refuse_if
-      cut_head cut = rw (one, good, tail.is at, cut.is at)
+    i : implied before ≡ arc absent.tail absent.head absent.length
+    i = sym says.is
 
-      module _ {b₂ h f₂ : ℕ} (head : Got (optional (has 2 bits) 2 (implied before).head) part f 2 b₂ h f₂) where
-        pub cut_length : CutInside (optional (has 4 bits) 4 (implied before).arc_length) part f₂ 4 → read_record before at part ≡ refused 9 (at + length part)
-        unfolding read_record ◌>>=◌ ◌>>◌ and_then here refuse_if
-        cut_length cut = rw (one, good, tail.is at, head.is at, cut.is at)
+    pub cut_tail : CutInside (optional map.first 2 absent.tail) part 1 2 → read_record before at part ≡ refused 9 (at + length part)
+    unfolding read_record ◌>>=◌ ◌>>◌ and_then here refuse_if arc
+    cut_tail cut = rw (first_byte part at some, mapped.0, mapped.1, m.first_bit, i, cut.is at)
 
-        module _ {b₃ l f₃ : ℕ} (long : Got (optional (has 4 bits) 4 (implied before).arc_length) part f₂ 4 b₃ l f₃) where
-          pub refused_head : last_head < h → read_record before at part ≡ refused 11 at
-          unfolding read_record ◌>>=◌ ◌>>◌ and_then here refuse_if
-          refused_head high = rw (one, good, tail.is at, head.is at, long.is at, lt-ltb last_head h high)
+    module _ {b : ℕ} {t : Field} (tail : Got (optional map.first 2 absent.tail) part 1 2 b t) where
+      pub cut_head : CutInside (optional map.second 2 absent.head) part t.next 2 → read_record before at part ≡ refused 9 (at + length part)
+      unfolding read_record ◌>>=◌ ◌>>◌ and_then here refuse_if arc
+      cut_head cut = rw (first_byte part at some, mapped.0, mapped.1, m.first_bit, i, tail.is at, m.second_bit, cut.is at)
 
-          pub refused_needless : h ≤ last_head → (bits ≡ record_bits before (arc t h l) → ⊥) → read_record before at part ≡ refused 12 at
-          unfolding read_record ◌>>=◌ ◌>>◌ and_then here refuse_if
-          refused_needless low other =
-              rw (one, good, tail.is at, head.is at, long.is at, le-ltb last_head h low, ne_eqb bits (record_bits before (arc t h l)) other)
+      module _ {b₂ : ℕ} {h : Field} (head : Got (optional map.second 2 absent.head) part t.next 2 b₂ h) where
+        pub cut_length : CutInside (optional map.third 4 absent.length) part h.next 4 → read_record before at part ≡ refused 9 (at + length part)
+        unfolding read_record ◌>>=◌ ◌>>◌ and_then here refuse_if arc
+        cut_length cut = rw (first_byte part at some, mapped.0, mapped.1, m.first_bit, i, tail.is at, m.second_bit, head.is at, m.third_bit, cut.is at)
 
-          pub got_record : h ≤ last_head → bits ≡ record_bits before (arc t h l) → RecordGot before part at (arc t h l) (at + f₃)
-          unfolding read_record ◌>>=◌ ◌>>◌ and_then here refuse_if give
-          got_record low same =
-              record {
-                is =
-                    rw (
-                      one,
-                      good,
-                      tail.is at,
-                      head.is at,
-                      long.is at,
-                      le-ltb last_head h low,
-                      eq-eqb bits (record_bits before (arc t h l)) same,
-                      add-sub_cancel_left at f₃,
-                    );
-                on = omega (arith, tail.on, head.on, long.on);
-                near = omega (arith, tail.near, head.near, long.near);
-                inside = omega (arith, long.inside);
-              }
+        module _ {b₃ : ℕ} {l : Field} (long : Got (optional map.third 4 absent.length) part h.next 4 b₃ l) where
+          pub refused_head : last_head < h.value → read_record before at part ≡ refused 11 at
+          unfolding read_record ◌>>=◌ ◌>>◌ and_then here refuse_if arc
+          refused_head high =
+              rw (first_byte part at some, mapped.0, mapped.1, m.first_bit, i, tail.is at, m.second_bit, head.is at, m.third_bit, long.is at, lt-ltb last_head h.value high)
+
+          module _ (low : h.value ≤ last_head) where
+            abbrev a : Arc
+            a = arc t.value h.value l.value
+
+            pub refused_needless : (byte_of map ≡ record_bits before (arc t.value h.value l.value) → ⊥) → read_record before at part ≡ refused 12 at
+            unfolding read_record ◌>>=◌ ◌>>◌ and_then here refuse_if arc
+            refused_needless other =
+                rw (
+                  first_byte part at some,
+                  mapped.0,
+                  mapped.1,
+                  m.first_bit,
+                  i,
+                  tail.is at,
+                  m.second_bit,
+                  head.is at,
+                  m.third_bit,
+                  long.is at,
+                  le-ltb last_head h.value low,
+                  ne_eqb (byte_of map) (record_bits before a) other,
+                )
+
+            pub got_record : byte_of map ≡ record_bits before (arc t.value h.value l.value)
+                → RecordGot before part at (record { arc = record { tail = t.value; head = h.value; length = l.value }; next = at + l.next })
+            unfolding read_record ◌>>=◌ ◌>>◌ and_then here refuse_if give arc
+            got_record same =
+                record {
+                  is =
+                      rw (
+                        first_byte part at some,
+                        mapped.0,
+                        mapped.1,
+                        m.first_bit,
+                        i,
+                        tail.is at,
+                        m.second_bit,
+                        head.is at,
+                        m.third_bit,
+                        long.is at,
+                        le-ltb last_head h.value low,
+                        eq-eqb (byte_of map) (record_bits before a) same,
+                        add-sub_cancel_left at l.next,
+                      );
+                  on = omega (arith, tail.on, head.on, long.on);
+                  near = omega (arith, tail.near, head.near, long.near);
+                  inside = omega (arith, long.inside);
+                }

@@ -1,21 +1,18 @@
 -- `header::check_nodes` meets its contract: the loop's invariant is `Checking`. Assumes nothing.
-use native.Mathlib.Omega.{arith}
-use Rattle.link_reader.specs.Says.{NodesSays}
-use Rattle.link_fields.proofs.fields.Parts.{field_value, as_got, as_cut}
-use Rattle.link_reader.proofs.header.Nodes.{checking_next, checking_done}
+use Rattle.std.proofs.Common.{arith}
+use Rattle.link_fields.proofs.fields.Parts.{field_value}
+use Rattle.link_reader.proofs.Refused.{refused_as}
+use Rattle.link_reader.proofs.header.NodeRuns.{run_cut, checking_next, checking_done}
 use Rattle.link_reader.proofs.header.check_nodes.Goals as goal
 
 pub returns-in_default : goal.returns-in_default
-unfolding NodesSays
 returns-in_default c =
-    omega (arith, (as_cut 65536 c.in_default.is c.read_field.ensures).near, c.loop-i.invariant.along.here, c.loop-i-test.true)
+    refused_as _ c.at.ensures (run_cut _ _ _ c.requires.inside (omega (arith, c.in_default.ensures.near, c.loop-i.invariant.along.here)))
 
 pub loop-i-preserved : goal.loop-i-preserved
 loop-i-preserved c =
-    let g = as_got c.in-Value.is c.read_field.ensures in
-    let v = field_value g in
-    rw (c.both-ascending.ensures, v.0) (checking_next c.loop-i.invariant c.loop-i-test.true v.1 g.inside)
+    let node = field_value c.in-Some.ensures in
+    rw node.0 (checking_next c.loop-i.invariant c.loop-i-test.true node.1 c.in-Some.ensures.inside)
 
 pub returns : goal.returns
-unfolding NodesSays
-returns c = checking_done c.loop-i.invariant c.loop-i-test.false
+returns c = checking_done c.loop-i.invariant (omega arith)

@@ -1,26 +1,24 @@
--- `header::fill_nodes` meets its contract: the nodes are there, and the loop's invariant is `FillingNodes`. Assumes nothing.
-use native.Mathlib.Omega.{arith}
-use Rattle.link_reader.proofs.header.Nodes.{nodes_next, nodes_done}
-use Rattle.link_fields.proofs.fields.Parts.{field_value, as_got, as_cut}
+-- `header::fill_nodes` meets its contract: the nodes are there, and those that are left stand behind those that were put. Assumes nothing.
+use Rattle.std.proofs.Common.{arith, ◌≡◌, ◌-◌, ◌<◌}
+use lib.Seq.{length-take-le}
+use Rattle.link_reader.specs.Says.{nodes_in}
+use Rattle.link_fields.proofs.Columns.{column_next, start_done}
+use Rattle.link_fields.proofs.fields.Parts.{field_value}
+use Rattle.link_reader.proofs.header.NodeRuns.{along_next, nodes_left, length_nodes_in}
 use Rattle.link_reader.proofs.header.fill_nodes.Goals as goal
 
-pub returns-in_default : goal.returns-in_default
-returns-in_default c = absurd (omega (
-  arith,
-  (as_cut 65536 c.in_default.is c.read_field.ensures).near,
-  c.loop-i.invariant.along.here,
-  c.loop-i-test.true,
-  c.requires.count_in_bounds,
-))
-
-pub overflow_cast-wanted : goal.overflow_cast-wanted
-overflow_cast-wanted c = record { fits = (as_got c.in-Value.is c.read_field.ensures).small }
-
-pub loop-i-preserved : goal.loop-i-preserved
-loop-i-preserved c =
-    let g = as_got c.in-Value.is c.read_field.ensures in
-    let v = field_value g in
-    rw v.0 (nodes_next c.loop-i.invariant c.loop-i-test.true v.1 g.inside)
+pub loop-wanted_node-preserved : goal.loop-wanted_node-preserved
+loop-wanted_node-preserved c =
+    let loop = c.loop-wanted_node in
+    let more : loop.wanted_node-index < c.args.count = omega (arith, length-take-le c.args.count c.args.wanted.now (omega arith)) in
+    let node = field_value c.in-Some.ensures in
+    record {
+      along = along_next loop.invariant.along node.1 c.in-Some.ensures.inside;
+      column = rw (node.0, node.1) (column_next (rw (nodes_left _ _ _ _ more) at loop.invariant.column));
+    }
 
 pub returns : goal.returns
-returns c = nodes_done c.loop-i.invariant c.loop-i-test.false
+unfolding nodes_in
+returns c =
+    let none_left : c.args.count - c.loop-wanted_node.wanted_node-index ≡ 0 = omega (arith, length-take-le c.args.count c.args.wanted.now (omega arith)) in
+    start_done c.args.wanted.now c.args.count (rw none_left at c.loop-wanted_node.invariant.column) (omega arith) (length_nodes_in c.args.count _)

@@ -1,10 +1,12 @@
--- `header::fill_nodes` meets its contract: the nodes are there, and the loop's invariant is `FillingNodes`. Assumes nothing.
-use Prim.Native.Nat.{◌-◌}
-use Rattle.link_reader.proofs.header.Nodes.{FillingNodes}
+-- `header::fill_nodes` meets its contract: the nodes are there, and those that are left stand behind those that were put. Assumes nothing.
+use Rattle.std.proofs.Common.{◌-◌, drop}
+use Rattle.link_reader.specs.Says.{nodes_in}
+use Rattle.link_fields.proofs.Columns.{Column}
+use Rattle.link_reader.proofs.header.NodeRuns.{Along}
 use Rattle.link_reader.proofs.header.fill_nodes.Given as goal
 
-abbrev pub invariant-loop-i : goal.invariant-loop-i
-invariant-loop-i l = FillingNodes l.file l.from l.count l.initial.wanted l.wanted l.at l.i
-
-abbrev pub decreases-loop-i : goal.decreases-loop-i
-decreases-loop-i l = l.count - l.i
+abbrev pub invariant-loop-wanted_node : goal.invariant-loop-wanted_node
+invariant-loop-wanted_node l = record {
+  along : Along l.file l.from l.next l.wanted_node-index;
+  column : Column l.initial.wanted_node-items 0 (nodes_in l.count (drop l.from l.file)) l.wanted_node-items l.wanted_node-index (nodes_in (l.count - l.wanted_node-index) (drop l.next l.file));
+}

@@ -1,12 +1,12 @@
--- `header::fill_wanted` meets its contract: the nodes that stand just before the first record, or all nodes. Assumes nothing.
-use mathlib.Core.Path.{◌∙◌}
+-- `header::fill_wanted` meets its contract: the nodes that are listed, or all nodes. Assumes nothing.
+use Rattle.std.proofs.Common.{◌∙◌}
 use Rattle.link_reader.specs.Says.{wanted_in}
 use Rattle.link_reader.proofs.header.fill_wanted.Goals as goal
 
-pub returns-then-header : goal.returns-then-header
+pub returns-in-Some : goal.returns-in-Some
 unfolding wanted_in
-returns-then-header c = c.fill_nodes.ensures ∙ rw c.if-header.true
+returns-in-Some c = c.fill_nodes.ensures ∙ rw c.in-Some.is
 
-pub returns : goal.returns
+pub returns-in-None : goal.returns-in-None
 unfolding wanted_in
-returns c = c.fill_all.ensures ∙ rw c.if-header.false
+returns-in-None c = c.fill_all.ensures ∙ rw c.in-None.is

@@ -1,53 +1,32 @@
 -- `records::count_records` meets its contract: one law of `Runs` for each way on and out. Assumes nothing.
-use mathlib.Core.Path.{refl, sym, ap, ◌∙◌}
-use Prim.Native.Nat.{◌<◌}
-use native.Mathlib.Nat.{add-zero}
-use native.Mathlib.Omega.{arith}
-use Rattle.table.specs.Table.{most_arcs}
-use Rattle.link_fields.specs.Fields.{arc_before}
-use Rattle.link_reader.specs.Says.{count_of}
-use Rattle.link_reader.proofs.records.Runs.{standing_next, run_none, run_full, run_refused, run_more, count_more, answer_record, answer_refused}
-use Rattle.link_reader.specs.declared.records.Counted.TheVariants.{Arcs, Refused}
-use Rattle.table.specs.Refusals.{refusal}
+use Rattle.std.proofs.Common.{sym, ap, ◌∙◌, arith}
+use Rattle.link_reader.proofs.records.Runs.{part_is, standing_next, run_more, count_of, count_more, all_counted, one_refused, one_too_many}
+use Rattle.link_reader.proofs.Refused.{refused_as, passed_on}
 use Rattle.link_reader.proofs.records.count_records.Goals as goal
 
-pub loop-at-init : goal.loop-at-init
-unfolding arc_before
-loop-at-init c = record { stands = record { inside = c.requires.0; few = omega arith; short = omega arith }; same = refl }
+pub returns-then-at-file : goal.returns-then-at-file
+returns-then-at-file c = let all = all_counted _ _ _ _ _ c.loop-count.invariant.same (omega arith) in record { good = all.0; is = all.1 }
 
-pub returns-then-count-eq-MOST_ARCS : goal.returns-then-count-eq-MOST_ARCS
-unfolding count_of
-returns-then-count-eq-MOST_ARCS c =
-    ap Refused c.refuse.ensures
-    ∙ sym (ap (count_of c.loop-at.count) (run_full _ _ _ _ c.loop-at-test.true c.if-count-eq-MOST_ARCS.true))
-    ∙ c.loop-at.invariant.same
+pub returns-in_err-record : goal.returns-in_err-record
+returns-in_err-record c =
+    let stands = c.loop-count.invariant.stands in
+    passed_on _ _ _ c.from_residual.ensures.1
+    (one_refused _ _ _ _ _ c.loop-count.invariant.same (omega (arith, stands.inside)) c.loop-count-test.true (rw part_is at c.in_err-record.ensures))
 
-pub loop-at-smaller : goal.loop-at-smaller
-loop-at-smaller c =
-    let r = answer_record c.args.file.now c.loop-at.at (arc_before c.loop-at.previous) c.read_record.result c.read_record.ensures c.in-Record.is in
-    omega (arith, r.on, r.inside, c.loop-at-test.true)
-
-pub loop-at-preserved : goal.loop-at-preserved
-unfolding arc_before
-loop-at-preserved c =
-    let few : c.loop-at.count < most_arcs = omega (arith, c.loop-at.invariant.stands.few, c.if-count-eq-MOST_ARCS.false) in
-    let r = answer_record _ _ _ c.read_record.result c.read_record.ensures c.in-Record.is in
+pub loop-count-preserved : goal.loop-count-preserved
+loop-count-preserved c =
+    let stands = c.loop-count.invariant.stands in
+    let record_got = rw part_is at c.in_ok-record.ensures in
     record {
-      stands = standing_next c.loop-at.invariant.stands _ _ _ few r;
+      stands = standing_next stands _ _ record_got;
       same =
           sym (count_more _ _ _)
-          ∙ ap (count_of c.loop-at.count) (sym (run_more _ _ _ _ c.loop-at-test.true few r))
-          ∙ c.loop-at.invariant.same;
+          ∙ ap (count_of c.loop-count.count) (sym (run_more _ _ _ _ (omega (arith, stands.inside)) c.loop-count-test.true record_got))
+          ∙ c.loop-count.invariant.same;
     }
 
-pub returns-in-Refused : goal.returns-in-Refused
-unfolding count_of refusal
-returns-in-Refused c =
-    let few : c.loop-at.count < most_arcs = omega (arith, c.loop-at.invariant.stands.few, c.if-count-eq-MOST_ARCS.false) in
-    let r = answer_refused _ _ _ c.read_record.result c.read_record.ensures c.in-Refused.is in
-    sym (ap (count_of c.loop-at.count) (run_refused _ _ _ _ c.loop-at-test.true few r)) ∙ c.loop-at.invariant.same
+pub returns-then-at-file-2 : goal.returns-then-at-file-2
+returns-then-at-file-2 c = refused_as _ c.at.ensures (one_too_many _ _ _ _ _ c.loop-count.invariant.same c.if-at-file-2.true (omega arith))
 
 pub returns : goal.returns
-unfolding count_of
-returns c =
-    sym (ap (count_of c.loop-at.count) (run_none _ _ _ _ c.loop-at-test.false) ∙ ap Arcs (add-zero c.loop-at.count)) ∙ c.loop-at.invariant.same
+returns c = let all = all_counted _ _ _ _ _ c.loop-count.invariant.same (omega arith) in record { good = all.0; is = omega (arith, all.1) }

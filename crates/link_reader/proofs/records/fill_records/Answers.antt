@@ -1,23 +1,28 @@
 -- `records::fill_records` meets its contract: an accepted file has no refused record, and each record's arc goes to the columns' next
 -- element. Assumes nothing.
-use native.Mathlib.Omega.{arith}
-use Rattle.table.specs.Table.{arc}
-use Rattle.link_fields.specs.Fields.{arc_before, arc_of}
-use Rattle.link_reader.proofs.records.Filling.{filling_begins, filling_next, tails_done, heads_done, lengths_done, still_few, no_refusal_here}
-use Rattle.link_reader.proofs.records.Runs.{answer_record, answer_refused}
+use Rattle.std.proofs.Common.{arith}
+use Rattle.link_reader.proofs.records.Filling.{filling_begins, filling_next, tails_done, heads_done, lengths_done, all_passed, never_refused}
+use Rattle.link_reader.proofs.records.Runs.{part_is}
 use Rattle.link_reader.proofs.records.fill_records.Goals as goal
 use Rattle.link_reader.proofs.records.fill_records.Goals.{In_default}
 
 -- no record is refused
 never : (c : In_default) → ⊥
 never c =
-    let f = c.loop-at.invariant in
-    no_refusal_here _ _ _ _ c.loop-at-test.true f.good (still_few _ _ _ _ c.loop-at-test.true f.good f.stands.few) _ _
-    (answer_refused _ _ _ c.read_record.result c.read_record.ensures c.in_default.is)
+    let f = c.loop-i.invariant in
+    never_refused _ _ _ _ f.good (omega (arith, f.stands.inside)) c.loop-i-test.true _ _ (rw part_is at c.in_default.ensures)
 
-pub loop-at-init : goal.loop-at-init
-unfolding arc_before
-loop-at-init c = filling_begins c.requires
+pub loop-i-init : goal.loop-i-init
+loop-i-init c = filling_begins c.requires
+
+pub returns-then-at-file-clause-tails : goal.returns-then-at-file-clause-tails
+returns-then-at-file-clause-tails c = tails_done c.loop-i.invariant (omega arith)
+
+pub returns-then-at-file-clause-heads : goal.returns-then-at-file-clause-heads
+returns-then-at-file-clause-heads c = heads_done c.loop-i.invariant (omega arith)
+
+pub returns-then-at-file-clause-lengths : goal.returns-then-at-file-clause-lengths
+returns-then-at-file-clause-lengths c = lengths_done c.loop-i.invariant (omega arith)
 
 pub returns-in_default-clause-tails : goal.returns-in_default-clause-tails
 returns-in_default-clause-tails c = absurd (never c)
@@ -28,38 +33,16 @@ returns-in_default-clause-heads c = absurd (never c)
 pub returns-in_default-clause-lengths : goal.returns-in_default-clause-lengths
 returns-in_default-clause-lengths c = absurd (never c)
 
--- there is a record more, and room for it
-pub bounds-tails-i : goal.bounds-tails-i
-bounds-tails-i c =
-    let f = c.loop-at.invariant in
-    omega (arith, still_few _ _ _ _ c.loop-at-test.true f.good f.stands.few, f.tails_left.kept, c.requires.tails_room)
-
-pub bounds-heads-i : goal.bounds-heads-i
-bounds-heads-i c =
-    let f = c.loop-at.invariant in
-    omega (arith, still_few _ _ _ _ c.loop-at-test.true f.good f.stands.few, f.heads_left.kept, c.requires.heads_room)
-
-pub bounds-lengths-i : goal.bounds-lengths-i
-bounds-lengths-i c =
-    let f = c.loop-at.invariant in
-    omega (arith, still_few _ _ _ _ c.loop-at-test.true f.good f.stands.few, f.lengths_left.kept, c.requires.lengths_room)
-
-pub loop-at-smaller : goal.loop-at-smaller
-loop-at-smaller c =
-    let r = answer_record c.args.file.now c.loop-at.at (arc_before c.loop-at.previous) c.read_record.result c.read_record.ensures c.in-Record.is in
-    omega (arith, r.on, r.inside, c.loop-at-test.true)
-
-pub loop-at-preserved : goal.loop-at-preserved
-unfolding arc_before arc_of arc
-loop-at-preserved c =
-    filling_next c.loop-at.invariant c.loop-at-test.true
-    (answer_record _ _ _ c.read_record.result c.read_record.ensures c.in-Record.is)
+pub loop-i-preserved : goal.loop-i-preserved
+loop-i-preserved c =
+    let f = c.loop-i.invariant in
+    filling_next f (omega (arith, f.stands.inside)) c.loop-i-test.true (rw part_is at c.in-Ok.ensures)
 
 pub returns-clause-tails : goal.returns-clause-tails
-returns-clause-tails c = tails_done c.loop-at.invariant c.loop-at-test.false
+returns-clause-tails c = tails_done c.loop-i.invariant (all_passed _ _ _ _ c.loop-i.invariant.good c.loop-i-test.false c.loop-i.auto.i-end)
 
 pub returns-clause-heads : goal.returns-clause-heads
-returns-clause-heads c = heads_done c.loop-at.invariant c.loop-at-test.false
+returns-clause-heads c = heads_done c.loop-i.invariant (all_passed _ _ _ _ c.loop-i.invariant.good c.loop-i-test.false c.loop-i.auto.i-end)
 
 pub returns-clause-lengths : goal.returns-clause-lengths
-returns-clause-lengths c = lengths_done c.loop-at.invariant c.loop-at-test.false
+returns-clause-lengths c = lengths_done c.loop-i.invariant (all_passed _ _ _ _ c.loop-i.invariant.good c.loop-i-test.false c.loop-i.auto.i-end)

@@ -1,0 +1,2 @@
+-- Laws that several functions share.
+pub mod Refused
