@@ -1,6 +1,7 @@
 -- From the run within a limit to its answer, and what the code tests. Assumes nothing.
 use mathlib.Core.Path.{◌≡◌, refl, sym, ap, subst, ◌∙◌}
-use mathlib.Core.Bool.{cond}
+use mathlib.Core.Bool.{Bool, true, false, cond}
+use mir.Val.{bool_byte}
 use mathlib.Core.List.{List, [], ◌∷◌}
 use Prim.Native.Nat.{ℕ}
 use lib.Dec.{eqb}
@@ -16,6 +17,11 @@ use Rattle.limit_answer.specs.Answer.{within, limit_refusal, limit_of}
 use Rattle.auction.proofs.Made.{fitting, without_rooms}
 use Rattle.solver.specs.Runs.{RanWithin}
 use Rattle.planner.proofs.Planning.{all_found}
+
+-- a truth value as a number
+pub one_if : (b : Bool) → bool_byte b ≡ cond b 1 0
+one_if true = refl
+one_if false = refl
 
 -- AFTER THE RUN
 pub limit_so : (t : Table) (ws : List ℕ) (v limit m c found i : ℕ) (x : State) → ws ≡ v ∷ [] → RanWithin t ws limit m c x → found ≡ cond (eqb m (length ws)) 1 0 →

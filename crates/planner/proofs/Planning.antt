@@ -1,5 +1,5 @@
 -- From the run to the hand-over, and from the refusals to the run. Assumes nothing.
-use mathlib.Core.Path.{◌≡◌, refl, sym, ap, subst, ◌∙◌}
+use mathlib.Core.Path.{◌≡◌, sym, ap, subst, ◌∙◌}
 use mathlib.Core.Bool.{true, false}
 use mathlib.Core.List.{List}
 use mathlib.Core.Logic.{⊎_elim}
@@ -9,7 +9,7 @@ use lib.Dec.{eqb}
 use lib.ListN.{length, get_or, take}
 use lib.Seq.{length-take-le}
 use borrow.Author.Tests.{lt-ltb, eq-eqb, ne_eqb}
-use Rattle.table.specs.Table.{Table, table, table_of, is_table, most_nodes, longest, Below, most_wanted}
+use Rattle.table.specs.Table.{Table, table_of, is_table, most_nodes, longest, Below, most_wanted}
 use Rattle.table.specs.declared.Refusal.{Refusal}
 use Rattle.table.specs.Refusals.{refusal}
 use Rattle.auction.specs.Auction.{State, Ended, fresh, was_reached, all_reached, auction}
@@ -21,16 +21,18 @@ use Rattle.auction.proofs.Good.{good, parts}
 use Rattle.auction.proofs.Promised.{ends_by_itself}
 use Rattle.auction.proofs.Limit.{unlimited}
 use Rattle.auction.proofs.Made.{rooms_so, unrefused}
-use Rattle.steps.specs.declared.state.Progress.{Progress}
+use Rattle.table.specs.declared.links.LinkTable.{LinkTable}
+use Rattle.table.specs.Lent.{table_in}
+use Rattle.forward_star.proofs.Columns.{good_table, nodes_are, origin_is, few_nodes}
 use Rattle.steps.specs.declared.state.RunState.{RunState}
-use Rattle.steps.specs.Seen.{seen, held, first_of, Sized}
+use Rattle.steps.specs.Seen.{held, first_of, status_number, prices_in, bounds_in, kepts_in, statuses_in}
 use Rattle.steps.specs.Steps.{Ran}
 use Rattle.steps.proofs.Arrays.{seen_bound, seen_status, no_bound}
 use Rattle.solver.specs.Runs.{RanWithin}
 use Rattle.solver.proofs.run.Wanted.{some_missing, none_missing}
-use Rattle.table.proofs.Columns.{count_so, end_so, head_so, length_so, nodes_so, origin_so}
+use Rattle.steps.proofs.Nodes.{as_many}
 use Rattle.auction.specs.Plan.{plan_refusal, plan, routes_of, refused_plan}
-use Rattle.hand_over.specs.ReadOff.{Known, ArcEnds, Fitting, ArcsHeld}
+use Rattle.hand_over.specs.ReadOff.{Known, Fitting}
 
 -- AFTER THE RUN: whether a wanted node is missing
 pub all_found : {t : Table} {ws : List ℕ} {e : Ended} {m c : ℕ} {x : State} → Ran t ws e m c x → all_reached ws x ≡ eqb m (length ws)
@@ -56,96 +58,48 @@ module _ {t : Table} {ws : List ℕ} (ok : is_table t ws ≡ true) where
       (λ (r : (auction t ws).routed ≡ false). r ∙ sym (end.missing r) ∙ found)
       (true_or (auction t ws).routed)
 
--- and the arrays can be handed over
-module _ (t : Table) (ws : List ℕ) (e : Ended) (m c : ℕ) (p u b k s : List ℕ) (g : Progress) (ran : Ran t ws e m c (seen p u b k s g)) where
-  reached_so : (v : ℕ) → 0 < get_or s v 0 → was_reached (seen p u b k s g) v ≡ true
+-- and the nodes can be handed over
+module _ (t : Table) (ws : List ℕ) (e : Ended) (m c : ℕ) (r : RunState) (ran : Ran t ws e m c (held r)) where
+  reached_so : (v : ℕ) → 0 < get_or (statuses_in r.nodes) v 0 → was_reached (held r) v ≡ true
   unfolding was_reached
-  reached_so v h = rw (seen_status p u b k s g v) (lt-ltb 0 (get_or s v 0) h)
+  reached_so v h =
+      rw (seen_status r.path (prices_in r.nodes) (bounds_in r.nodes) (kepts_in r.nodes) (statuses_in r.nodes) r.progress v)
+      (lt-ltb 0 (get_or (statuses_in r.nodes) v 0) h)
 
-  pub known_so : length b ≡ length s → Known b s
-  known_so l =
-      record {
-        as_long = l;
-        has_distance = λ v h e.
-            ran.bounded v (reached_so v h) (seen_bound p u b k s g v (omega (arith, inside s v h)) ∙ no_bound (get_or b v 0) e);
-      }
+  pub known_so : Known r.nodes
+  known_so v h e =
+      let here = inside (statuses_in r.nodes) v (omega arith) in
+      let low : v < length (bounds_in r.nodes) =
+      omega (arith, here, as_many (λ n. status_number n.status) r.nodes, as_many (λ n. n.bound) r.nodes) in
+      ran.bounded v (reached_so v h)
+      (seen_bound r.path (prices_in r.nodes) (bounds_in r.nodes) (kepts_in r.nodes) (statuses_in r.nodes) r.progress v low ∙ no_bound _ e)
 
-module _ (n o : ℕ) (ts hs ls ws : List ℕ) (eh : length hs ≡ length ts) (el : length ls ≡ length ts)
-    (ok : is_table (table_of n o ts hs ls) ws ≡ true) where
-  pub place_low : (m : ℕ) → m ≤ length ws → m ≤ most_wanted
-  place_low m h = omega (arith, (parts (table_of n o ts hs ls) ws ok).few_wanted)
+pub place_low : (l : LinkTable) (m : ℕ) → m ≤ length l.wanted.now → m ≤ most_wanted
+place_low l m h = omega (arith, (parts (table_in l) l.wanted.now l.good).few_wanted)
 
-  pub ends_so : (k s : List ℕ) → length k ≡ length s → n ≡ length s → ArcEnds ts hs ls k s
-  ends_so k s lk e =
-      let t = table_of n o ts hs ls in
-      let count = count_so n o ts hs ls eh el in
-      let nodes = nodes_so n o ts hs ls eh el in
-      record {
-        tail_count = sym eh;
-        length_count = el ∙ sym eh;
-        kept_count = lk;
-        head_in = λ i h. omega (arith, (good t ws ok).head_in i (omega (arith, count)), head_so n o ts hs ls eh el i (omega arith), nodes);
-        tail_in = λ i h. omega (arith, (good t ws ok).end_in i (omega (arith, count)), end_so n o ts hs ls eh el i (omega arith), nodes);
-      }
-
-  pub arcs_held : ArcsHeld (table_of n o ts hs ls) ts hs ls
-  arcs_held =
-      let count = count_so n o ts hs ls eh el in
-      record {
-        count = omega (arith, count);
-        head = λ i h. head_so n o ts hs ls eh el i (omega (arith, count));
-        tail = λ i h. end_so n o ts hs ls eh el i (omega (arith, count));
-        arc_length = λ i h. length_so n o ts hs ls eh el i (omega (arith, count));
-      }
-
-  pub origin_low : o < n
-  origin_low = omega (arith, (good _ ws ok).origin_in, nodes_so n o ts hs ls eh el, origin_so n o ts hs ls eh el)
-
-  pub nodes_low : n ≤ most_nodes
-  nodes_low = omega (arith, (good _ ws ok).few_nodes, nodes_so n o ts hs ls eh el)
+pub origin_low : (l : LinkTable) → l.origin < l.n
+origin_low l = omega (arith, (good_table l).origin_in, nodes_are l, origin_is l)
 
 -- a part of an array that is long enough
-pub part_fits : (l : List ℕ) (n : ℕ) → length l ≡ most_nodes → n ≤ most_nodes → n ≤ length l
-part_fits l n e h = omega arith
-
-part_long : (l : List ℕ) (n : ℕ) → length l ≡ most_nodes → n ≤ most_nodes → length (take n l) ≡ n
+pub part_long : {A : Type 0} (l : List A) (n : ℕ) → length l ≡ most_nodes → n ≤ most_nodes → length (take n l) ≡ n
 part_long l n e h = length-take-le n l (omega arith)
 
-pub parts_long : (x : RunState) (n : ℕ) → (length x.path ≡ most_nodes) × Sized most_nodes x.price x.bound x.kept x.status → n ≤ most_nodes →
-    let y = first_of n x in (length y.path ≡ n) × Sized n y.price y.bound y.kept y.status
-parts_long x n long h =
-    let sized = long.1 in (
-      part_long x.path n long.0 h,
-      record {
-        prices = part_long x.price n sized.prices h;
-        bounds = part_long x.bound n sized.bounds h;
-        kepts = part_long x.kept n sized.kepts h;
-        statuses = part_long x.status n sized.statuses h;
-      },
-    )
+-- THE FRESH STATE, as far as it is lent
+pub lent_fresh : (l : LinkTable) (r : RunState) →
+    ((t : Table) → t.origin ≡ l.origin → t.origin < t.n → t.n ≤ most_nodes → held (first_of t.n r) ≡ fresh t) → held (first_of l.n r) ≡ fresh (table_in l)
+lent_fresh l r is_fresh =
+    let n = nodes_are l in
+    let o = origin_is l in
+    subst (λ (m : ℕ). held (first_of m r) ≡ fresh (table_in l)) n
+    (is_fresh (table_in l) o (omega (arith, origin_low l)) (omega (arith, few_nodes l)))
 
--- THE FRESH STATE, as far as it is lent: there are as many nodes as its parts have entries
-module _ (n o : ℕ) (ts hs ls ws : List ℕ) (eh : length hs ≡ length ts) (el : length ls ≡ length ts)
-    (ok : is_table (table_of n o ts hs ls) ws ≡ true) (x : RunState) where
-  pub lent_fresh : ((t : Table) → t.origin ≡ o → t.origin < t.n → t.n ≤ most_nodes → held (first_of t.n x) ≡ fresh t) →
-      (length x.path ≡ most_nodes) × Sized most_nodes x.price x.bound x.kept x.status →
-      let y = first_of n x in
-      let m = length y.status in
-      let t = table_of m o ts hs ls in
-      (is_table t ws ≡ true) × (((length y.path ≡ m) × Sized m y.price y.bound y.kept y.status) × (held y ≡ fresh t))
-  unfolding table_of table
-  lent_fresh is_fresh long =
-      let y = first_of n x in
-      let few = nodes_low n o ts hs ls ws eh el ok in
-      let lent_long = parts_long x n long few in
-      subst
-      (λ (m : ℕ).
-      let t = table_of m o ts hs ls in
-      (is_table t ws ≡ true) × (((length y.path ≡ m) × Sized m y.price y.bound y.kept y.status) × (held y ≡ fresh t)))
-      (sym lent_long.1.statuses) (
-        ok,
-        (lent_long, is_fresh (table_of n o ts hs ls) refl (origin_low n o ts hs ls ws eh el ok) few),
-      )
+-- THE TABLE that is not refused is that of the arguments
+pub record Given (l : LinkTable) (n o : ℕ) (ts hs ls ws : List ℕ) : Type 0 where
+  pub nodes : (l.n ≡ n) × (l.origin ≡ o) × (l.wanted.now ≡ ws)
+  pub columns : (l.columns.tails.now ≡ ts) × (l.columns.heads.now ≡ hs) × (l.columns.lengths.now ≡ ls)
+
+pub table_so : {l : LinkTable} {n o : ℕ} {ts hs ls ws : List ℕ} → Given l n o ts hs ls ws → table_in l ≡ table_of n o ts hs ls
+table_so g = rw (g.nodes.0, g.nodes.1, g.columns.0, g.columns.1, g.columns.2)
 
 -- THE REFUSALS
 module _ (n o : ℕ) (ts hs ls ws ds ps tr ms : List ℕ) where
@@ -159,29 +113,17 @@ module _ (n o : ℕ) (ts hs ls ws ds ps tr ms : List ℕ) where
   unfolding plan refusal
   planned f a e z r = rw (← e, eq-eqb f.number 0 z) r
 
-  -- where none applies
-  pub record Fine : Type 0 where
-    pub heads_count : length hs ≡ length ts
-    pub lengths_count : length ls ≡ length ts
-    pub table_good : is_table (table_of n o ts hs ls) ws ≡ true
-    pub fitting : Fitting n (length hs) ds ps tr ms
-
-  pub fine : Below (2 ^ 32) ls → (plan_refusal n o ts hs ls ws ds ps tr ms).number ≡ 0 → Fine
+  -- where none applies the buffers fit
+  pub fine : Below (2 ^ 32) ls → (plan_refusal n o ts hs ls ws ds ps tr ms).number ≡ 0 → Fitting n (length hs) ds ps tr ms
   unfolding plan_refusal
   fine low e =
       let u = unrefused n o ts hs ls ws _ low e in
       let fit = rooms_so n (length ts) (length ds) (length ps) (length tr) (length ms) u.rooms_good in
       record {
-        heads_count = sym u.heads_count;
-        lengths_count = sym (u.heads_count ∙ u.lengths_count);
-        table_good = u.table_good;
-        fitting =
-            record {
-              few_nodes = u.few_nodes;
-              few_arcs = omega (arith, u.few_arcs, u.heads_count);
-              distances_long = fit.0;
-              prices_long = fit.1;
-              tree_long = fit.2;
-              marks_long = fit.3 ∙ u.heads_count;
-            };
+        few_nodes = u.few_nodes;
+        few_arcs = omega (arith, u.few_arcs, u.heads_count);
+        distances_long = fit.0;
+        prices_long = fit.1;
+        tree_long = fit.2;
+        marks_long = fit.3 ∙ u.heads_count;
       }

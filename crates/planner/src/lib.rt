@@ -2,10 +2,8 @@
 // run within a limit, which hands over an answer alone.
 #![tactic(auto)]
 
-ghost use Rattle.std.specs.Prelude.{◌≡◌, true, cond, [], ◌∷◌, ℕ, eqb, length};
-ghost use Rattle.table.specs.Table.{table_of, is_table};
-ghost use Rattle.auction.specs.Auction.{fresh};
-ghost use Rattle.steps.specs.Seen.{seen, Sized};
+ghost use Rattle.std.specs.Prelude.{◌≡◌, cond, [], ◌∷◌, ℕ, ◌==◌, length};
+ghost use Rattle.table.specs.Lent.{table_in};
 ghost use Rattle.auction.specs.Plan.{routes_of};
 ghost use Rattle.limit_answer.specs.Answer.{limit_of, AnswersLimit};
 ghost use Rattle.hand_over.specs.Answered.{answered};
@@ -14,100 +12,31 @@ ghost use Rattle.planner.specs.Plan.{Plans, PlansToCollector};
 
 use hand_over::{Planned, hand_over};
 use limit_answer::Within;
-use refusals::table_refusal;
+use refusals::{Rooms, check_table};
 use solver::run::{NO_LIMIT, run};
-use steps::state::{Progress, RunState};
-use table::Refusal;
-
-// The run from the fresh state that is lent, and what it hands over.
-fn run_lent(
-    progress: Progress,
-    origin: u16,
-    tails: &[u16],
-    heads: &[u16],
-    lengths: &[u32],
-    wanted: &[u16],
-    path: &mut [u16],
-    price: &mut [u64],
-    bound: &mut [u64],
-    kept: &mut [u16],
-    status: &mut [u8],
-    distances: &mut [u64],
-    prices: &mut [u64],
-    tree: &mut [u16],
-    marks: &mut [u8],
-) -> Planned
-    requires heads_len { (length heads.now ≡ length tails.now) × (length lengths.now ≡ length tails.now) }
-    requires wanted_value { is_table (table_of (length status.old) origin tails.now heads.now lengths.now) wanted.now ≡ true }
-    requires path_len { (length path.old ≡ length status.old) × Sized (length status.old) price.old bound.old kept.old status.old }
-    requires progress_value { seen path.old price.old bound.old kept.old status.old progress
-        ≡ fresh (table_of (length status.old) origin tails.now heads.now lengths.now) }
-    requires fitting { Fitting (length status.old) (length heads.now) distances.old prices.old tree.old marks.old }
-    ensures { answered result distances.new prices.new tree.new marks.new
-        ≡ routes_of (table_of (length status.old) origin tails.now heads.now lengths.now) wanted.now }
-{
-    let end = run(
-        progress, origin, NO_LIMIT, tails, heads, lengths, wanted, path, price, bound, kept, status,
-    );
-    hand_over(
-        end,
-        wanted.len(),
-        tails,
-        heads,
-        lengths,
-        bound,
-        kept,
-        status,
-        distances,
-        prices,
-        tree,
-        marks,
-    )
-}
+use steps::state::RunState;
+use table::links::LinkTable;
 
 // The plan of a table that is not refused.
 fn plan_table(
-    n: usize,
-    origin: u16,
-    tails: &[u16],
-    heads: &[u16],
-    lengths: &[u32],
-    wanted: &[u16],
+    table: &LinkTable,
     distances: &mut [u64],
     prices: &mut [u64],
     tree: &mut [u16],
     marks: &mut [u8],
 ) -> Planned
-    requires heads_len { (length heads.now ≡ length tails.now) × (length lengths.now ≡ length tails.now) }
-    requires wanted_value { is_table (table_of n origin tails.now heads.now lengths.now) wanted.now ≡ true }
-    requires fitting { Fitting n (length heads.now) distances.old prices.old tree.old marks.old }
-    ensures { answered result distances.new prices.new tree.new marks.new
-        ≡ routes_of (table_of n origin tails.now heads.now lengths.now) wanted.now }
+    requires { Fitting table.now.n (length table.now.columns.heads.now) distances.old prices.old tree.old marks.old }
+    ensures { answered result distances.new prices.new tree.new marks.new ≡ routes_of (table_in table.now) table.now.wanted.now }
 {
-    let state = RunState::fresh(origin);
-    let mut path = state.path;
-    let mut price = state.price;
-    let mut bound = state.bound;
-    let mut kept = state.kept;
-    let mut status = state.status;
-    let progress = state.progress;
-    run_lent(
+    let n = table.n;
+    let fresh = RunState::fresh(table.origin);
+    let RunState {
+        mut path,
+        mut nodes,
         progress,
-        origin,
-        tails,
-        heads,
-        lengths,
-        wanted,
-        &mut path[..n],
-        &mut price[..n],
-        &mut bound[..n],
-        &mut kept[..n],
-        &mut status[..n],
-        distances,
-        prices,
-        tree,
-        marks,
-    )
+    } = fresh;
+    let end = run(progress, NO_LIMIT, table, &mut path[..n], &mut nodes[..n]);
+    hand_over(end, table, &nodes[..n], distances, prices, tree, marks)
 }
 
 // Plans the routes of a link table from its origin to the wanted nodes: the answer, and a distance, a price and a tree arc for each
@@ -126,34 +55,16 @@ pub fn plan_routes(
 ) -> Planned
     ensures { Plans n origin tails heads lengths wanted distances prices tree marks result }
 {
-    let refusal = table_refusal(
-        n,
-        origin,
-        tails,
-        heads,
-        lengths,
-        wanted,
-        distances.len(),
-        prices.len(),
-        tree.len(),
-        marks.len(),
-    );
-    if refusal.number != Refusal::NONE {
-        return Planned {
-            number: refusal.number,
-            place: refusal.place,
-            reached: 0,
-            horizon: 0,
-            iterations: 0,
-            contractions: 0,
-            extensions: 0,
-            deletions: 0,
-            scans: 0,
-        };
+    let lent = Rooms {
+        distances: distances.len(),
+        prices: prices.len(),
+        tree: tree.len(),
+        marks: marks.len(),
+    };
+    match check_table(n, origin, tails, heads, lengths, wanted, lent) {
+        Ok(table) => plan_table(&table, distances, prices, tree, marks),
+        Err(refusal) => Planned::from(refusal),
     }
-    plan_table(
-        n as usize, origin, tails, heads, lengths, wanted, distances, prices, tree, marks,
-    )
 }
 
 // Plans the routes of a link table from the senders to a collector: the routes from the collector to the senders in the table with each arc's tail and head
@@ -177,56 +88,23 @@ pub fn plan_to_collector(
     )
 }
 
-// 1 where no wanted node is missing, else 0.
-fn one_if_found(missing: usize, wanted: usize) -> u32
-    ensures { result ≡ cond (eqb missing wanted) 1 0 }
-{
-    if missing == wanted {
-        return 1;
-    }
-    0
-}
-
 // The run within a limit of a table that is not refused, for one wanted node.
-fn limit_table(
-    n: usize,
-    origin: u16,
-    limit: u64,
-    tails: &[u16],
-    heads: &[u16],
-    lengths: &[u32],
-    wanted: &[u16],
-) -> Within
-    requires heads_len { (length heads.now ≡ length tails.now) × (length lengths.now ≡ length tails.now) }
-    requires wanted_value { is_table (table_of n origin tails.now heads.now lengths.now) wanted.now ≡ true }
-    ensures { (v : ℕ) → wanted.now ≡ v ∷ [] → result ≡ limit_of (table_of n origin tails.now heads.now lengths.now) v limit }
+fn limit_table(table: &LinkTable, limit: u64) -> Within
+    ensures { (v : ℕ) → table.now.wanted.now ≡ v ∷ [] → result ≡ limit_of (table_in table.now) v limit }
 {
-    let state = RunState::fresh(origin);
-    let mut path = state.path;
-    let mut price = state.price;
-    let mut bound = state.bound;
-    let mut kept = state.kept;
-    let mut status = state.status;
-    let progress = state.progress;
-    let end = run(
+    let n = table.n;
+    let fresh = RunState::fresh(table.origin);
+    let RunState {
+        mut path,
+        mut nodes,
         progress,
-        origin,
-        limit,
-        tails,
-        heads,
-        lengths,
-        wanted,
-        &mut path[..n],
-        &mut price[..n],
-        &mut bound[..n],
-        &mut kept[..n],
-        &mut status[..n],
-    );
+    } = fresh;
+    let end = run(progress, limit, table, &mut path[..n], &mut nodes[..n]);
     let counts = end.progress;
     Within {
-        number: Refusal::NONE,
+        number: 0,
         place: 0,
-        within: one_if_found(end.missing, wanted.len()),
+        within: u32::from(end.missing == table.wanted.len()),
         iterations: counts.contractions + counts.extensions + counts.deletions,
     }
 }
@@ -244,19 +122,10 @@ pub fn within_limit(
 ) -> Within
     ensures { AnswersLimit n origin node limit tails heads lengths result }
 {
-    let nodes = n as usize;
-    let arcs = tails.len();
-    let wanted: [u16; 1] = [node; 1];
-    let refusal = table_refusal(
-        n, origin, tails, heads, lengths, &wanted, nodes, nodes, nodes, arcs,
-    );
-    if refusal.number == Refusal::NONE {
-        return limit_table(nodes, origin, limit, tails, heads, lengths, &wanted);
-    }
-    Within {
-        number: refusal.number,
-        place: refusal.place,
-        within: 0,
-        iterations: 0,
+    // no buffers are lent, so that their lengths fit
+    let fitting = Rooms::needed(n as usize, tails.len());
+    match check_table(n, origin, tails, heads, lengths, &[node], fitting) {
+        Ok(table) => limit_table(&table, limit),
+        Err(refusal) => Within::from(refusal),
     }
 }

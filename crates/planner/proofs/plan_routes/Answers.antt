@@ -1,45 +1,41 @@
 -- The table is refused, or it is planned. Assumes nothing.
-use mathlib.Core.Path.{ap, sym, ◌∙◌}
+use mathlib.Core.Path.{refl, ap, sym, ◌∙◌}
 use Rattle.table.specs.Table.{Below}
 use Rattle.table.specs.declared.Refusal.{Refusal}
-use Rattle.table.specs.Refusals.{refusal}
+use Rattle.table.specs.Refusals.{refusal, no_refusal}
+use Rattle.table.proofs.Telling.{numbered}
 use Rattle.auction.specs.Plan.{plan_refusal}
 use Rattle.hand_over.specs.Answered.{answered}
-use Rattle.planner.proofs.Planning.{Fine, fine, refused, planned}
+use Rattle.planner.proofs.Planning.{Given, table_so, fine, refused, planned}
 use Rattle.planner.proofs.plan_routes.Goals as goal
-use Rattle.planner.proofs.plan_routes.Goals.{Else-refusal-ne-NONE}
-
-pub returns-then-refusal-ne-NONE : goal.returns-then-refusal-ne-NONE
-unfolding answered plan_refusal
-returns-then-refusal-ne-NONE c =
-    let a = c.args in
-    refused a.n a.origin a.tails.now a.heads.now a.lengths.now a.wanted.now a.distances.now a.prices.now a.tree.now a.marks.now
-    c.table_refusal-refusal.result c.table_refusal-refusal.ensures c.if-refusal-ne-NONE.true
+use Rattle.planner.proofs.plan_routes.Goals.{In-Ok}
 
 -- where the table is not refused
-accepted : (c : Else-refusal-ne-NONE) →
+module _ (c : In-Ok) where
+  given : let a = c.args in Given c.in-Ok.table a.n a.origin a.tails.now a.heads.now a.lengths.now a.wanted.now
+  given = record { nodes = c.in-Ok.ensures.nodes; columns = c.in-Ok.ensures.columns }
+
+pub plan_table-requires : goal.plan_table-requires
+unfolding plan_refusal Below no_refusal refusal
+plan_table-requires c =
     let a = c.args in
-    Fine a.n a.origin a.tails.now a.heads.now a.lengths.now a.wanted.now a.distances.now a.prices.now a.tree.now a.marks.now
-unfolding plan_refusal Below refusal
-accepted c =
+    let g = given (goal.at.plan_table-requires c).In-Ok in
+    let fits = fine a.n a.origin a.tails.now a.heads.now a.lengths.now a.wanted.now a.distances.now a.prices.now a.tree.now a.marks.now
+    (λ i. (c.type_inv.lengths i).fits) (sym (ap (λ (f : Refusal). f.number) c.in-Ok.ensures.told)) in
+    rw (g.nodes.0, g.columns.1) fits
+
+pub returns-in-Ok : goal.returns-in-Ok
+unfolding plan_refusal no_refusal refusal
+returns-in-Ok c =
     let a = c.args in
-    let none = sym (ap (λ (f : Refusal). f.number) c.table_refusal-refusal.ensures) ∙ c.if-refusal-ne-NONE.false in
-    fine a.n a.origin a.tails.now a.heads.now a.lengths.now a.wanted.now a.distances.now a.prices.now a.tree.now a.marks.now
-    (λ i. (c.type_inv.lengths i).fits) none
-
-pub plan_table-requires-clause-heads_len : goal.plan_table-requires-clause-heads_len
-plan_table-requires-clause-heads_len c =
-    let f = accepted (goal.at.plan_table-requires-clause-heads_len c).Else-refusal-ne-NONE in (f.heads_count, f.lengths_count)
-
-pub plan_table-requires-clause-wanted_value : goal.plan_table-requires-clause-wanted_value
-plan_table-requires-clause-wanted_value c = (accepted (goal.at.plan_table-requires-clause-wanted_value c).Else-refusal-ne-NONE).table_good
-
-pub plan_table-requires-clause-fitting : goal.plan_table-requires-clause-fitting
-plan_table-requires-clause-fitting c = (accepted (goal.at.plan_table-requires-clause-fitting c).Else-refusal-ne-NONE).fitting
-
-pub returns : goal.returns
-unfolding plan_refusal
-returns c =
-    let a = c.args in
+    let g = given (goal.at.returns-in-Ok c).In-Ok in
     planned a.n a.origin a.tails.now a.heads.now a.lengths.now a.wanted.now a.distances.now a.prices.now a.tree.now a.marks.now
-    c.table_refusal-refusal.result _ c.table_refusal-refusal.ensures c.if-refusal-ne-NONE.false c.plan_table.ensures
+    no_refusal _ c.in-Ok.ensures.told refl (c.plan_table.ensures ∙ rw (table_so g, g.nodes.2))
+
+pub returns-in-Err : goal.returns-in-Err
+unfolding answered plan_refusal refusal
+returns-in-Err c =
+    let a = c.args in
+    rw c.from.ensures
+    (refused a.n a.origin a.tails.now a.heads.now a.lengths.now a.wanted.now a.distances.now a.prices.now a.tree.now a.marks.now
+    _ c.in-Err.ensures.told (numbered c.in-Err.refusal.fault))
