@@ -1,70 +1,97 @@
--- Whether the standing list is kept, and what is answered then. Assumes nothing.
+-- Whether the standing list is kept beside a fresh one that has a total. Assumes nothing.
 use mathlib.Core.Path.{◌≡◌, refl, sym, ap, ◌∙◌}
-use mathlib.Core.Bool.{Bool, false, cond}
+use mathlib.Core.Bool.{Bool, true, false, not}
 use mathlib.Core.List.{List}
 use mathlib.Core.Logic.{⊎_elim}
 use mathlib.Core.Option.{Option, none, some}
 use Prim.Native.Nat.{ℕ, ◌-◌, ◌<◌}
 use native.Mathlib.Omega.{arith}
-use lib.Dec.{leb, eqb}
+use lib.Dec.{eqb}
 use lib.ListN.{length, get_or}
-use borrow.Author.Tests.{eq-eqb, ne_eqb, lt-leb}
+use borrow.Author.Tests.{eq-eqb, ne_eqb, eqb-true, not-false}
+use denote.Ref.{Bor}
+use Rattle.std.specs.Prelude as code
+use Rattle.std.specs.Option.{option_eq, option_copied}
+use Rattle.std.specs.List.{slice_get}
+use Rattle.std.proofs.lemmas.Option.{none-some, same_Some, slice_get-get_or, slice_get_within}
 use Rattle.table.specs.Table.{Table}
-use Rattle.table.specs.Refusals.{refusal, no_refusal}
-use Rattle.table.proofs.Basics.{same_or, and_false, some_none}
-use Rattle.keeping.specs.Keeping.{lent_total, first_node, last_node, same_ends, no_greater, stays, fresh_refusal, kept, choice}
-use Rattle.keeper.specs.Totals.{above_totals, total_of, chosen}
-use Rattle.keeper.proofs.Totalling.{no_total, some_total, lent_none}
+use Rattle.table.proofs.Basics.{same_or, and_false, some_none, not_both}
+use Rattle.keeping.specs.Keeping.{lent_total, first_node, last_node, same_ends, no_greater, stays}
+use Rattle.keeper.specs.Totals.{held}
+use Rattle.keeper.proofs.Totalling.{lent_none}
 
--- a list with a total has a node
-pub some_node : (t : Table) (vs : List ℕ) (d : ℕ) → lent_total t vs ≡ some d → 0 < length vs
-some_node t vs d e =
-    ⊎_elim (λ (z : length vs ≡ 0). absurd (some_none e (lent_none t vs z))) (λ (z : length vs ≡ 0 → ⊥). omega (arith, z)) (same_or (length vs) 0)
+-- what the code's comparison of two nodes says, each read off a list, where it has one there
+abbrev equal : code.Option (Bor ℕ) → code.Option (Bor ℕ) → Bool
+equal = option_eq (λ x y. eqb x.now y.now)
 
--- WHETHER IT STAYS
+same_now : (a b : code.Option (Bor ℕ)) → not (equal a b) ≡ false → option_copied a ≡ option_copied b
+same_now code.None code.None e = refl
+same_now code.None (code.Some y) e = absurd (not_both true refl e)
+same_now (code.Some x) code.None e = absurd (not_both true refl e)
+same_now (code.Some x) (code.Some y) e = ap code.Some (eqb-true x.now y.now (not-false (eqb x.now y.now) e))
+
+other_now : (a b : code.Option (Bor ℕ)) → not (equal a b) ≡ true → option_copied a ≡ option_copied b → ⊥
+other_now code.None code.None e s = not_both false e refl
+other_now code.None (code.Some y) e s = none-some y.now s
+other_now (code.Some x) code.None e s = none-some x.now (sym s)
+other_now (code.Some x) (code.Some y) e s = not_both (not (eqb x.now y.now)) e (ap not (eq-eqb x.now y.now (same_Some x.now y.now s)))
+
+module _ (a b : code.Option (Bor ℕ)) {p q : code.Option ℕ} (read_a : option_copied a ≡ p) (read_b : option_copied b ≡ q) where
+  pub same_read : not (equal a b) ≡ false → p ≡ q
+  same_read e = sym read_a ∙ same_now a b e ∙ read_b
+
+  pub other_read : not (equal a b) ≡ true → p ≡ q → ⊥
+  other_read e s = other_now a b e (read_a ∙ s ∙ sym read_b)
+
+-- BESIDE A FRESH LIST with this total
 no_greater_none : (a : Option ℕ) → no_greater none a ≡ false
 unfolding no_greater
 no_greater_none a = refl
 
-module _ (t : Table) (standing fresh : List ℕ) where
-  pub no_standing : length standing ≡ 0 → false ≡ stays t standing fresh
+module _ (t : Table) (standing fresh : List ℕ) (most : ℕ) (total : some most ≡ lent_total t fresh) where
+  some_node : 0 < length fresh
+  some_node =
+      ⊎_elim (λ (z : length fresh ≡ 0). absurd (some_none refl (total ∙ sym (lent_none t fresh z)))) (λ (z : length fresh ≡ 0 → ⊥). omega (arith, z))
+      (same_or (length fresh) 0)
+
+  none_standing : length standing ≡ 0 → false ≡ stays t standing fresh
   unfolding stays
-  no_standing e =
-      sym (and_false (same_ends standing fresh) _ (ap (λ (o : Option ℕ). no_greater o (lent_total t fresh)) (lent_none t standing e) ∙ no_greater_none (lent_total t fresh)))
+  none_standing e =
+      sym (and_false (same_ends standing fresh) _ (ap (λ (o : Option ℕ). no_greater o (lent_total t fresh)) (sym (lent_none t standing e)) ∙ no_greater_none (lent_total t fresh)))
 
-  pub other_first : (get_or standing 0 0 ≡ get_or fresh 0 0 → ⊥) → false ≡ stays t standing fresh
+  pub other_first : (slice_get standing 0 ≡ slice_get fresh 0 → ⊥) → false ≡ stays t standing fresh
   unfolding stays same_ends first_node
-  other_first d = rw (ne_eqb (get_or standing 0 0) (get_or fresh 0 0) d)
+  other_first d =
+      ⊎_elim none_standing
+      (λ (z : length standing ≡ 0 → ⊥).
+      let others : get_or standing 0 0 ≡ get_or fresh 0 0 → ⊥ = λ e. d (slice_get-get_or standing 0 0 (omega (arith, z)) ∙ ap code.Some e ∙ sym (slice_get-get_or fresh 0 0 some_node)) in
+      rw (ne_eqb (get_or standing 0 0) (get_or fresh 0 0) others))
+      (same_or (length standing) 0)
 
-  pub other_last : (get_or standing (length standing - 1) 0 ≡ get_or fresh (length fresh - 1) 0 → ⊥) → false ≡ stays t standing fresh
+  pub other_last : (slice_get standing (length standing - 1) ≡ slice_get fresh (length fresh - 1) → ⊥) → false ≡ stays t standing fresh
   unfolding stays same_ends last_node
   other_last d =
-      rw (ne_eqb (get_or standing (length standing - 1) 0) (get_or fresh (length fresh - 1) 0) d, and_false (eqb (first_node standing) (first_node fresh)) false refl)
+      ⊎_elim none_standing
+      (λ (z : length standing ≡ 0 → ⊥).
+      let others : get_or standing (length standing - 1) 0 ≡ get_or fresh (length fresh - 1) 0 → ⊥ =
+      λ e. d (slice_get-get_or standing (length standing - 1) 0 (omega (arith, z)) ∙ ap code.Some e ∙ sym (slice_get-get_or fresh (length fresh - 1) 0 (omega (arith, some_node)))) in
+      rw (ne_eqb (get_or standing (length standing - 1) 0) (get_or fresh (length fresh - 1) 0) others, and_false (eqb (first_node standing) (first_node fresh)) false refl))
+      (same_or (length standing) 0)
 
-  pub by_total : (d most : ℕ) → get_or standing 0 0 ≡ get_or fresh 0 0 → get_or standing (length standing - 1) 0 ≡ get_or fresh (length fresh - 1) 0 →
-      total_of d ≡ lent_total t standing → total_of most ≡ lent_total t fresh → most < above_totals → leb d most ≡ stays t standing fresh
-  unfolding stays same_ends first_node last_node no_greater
-  by_total d most first last ed em low =
-      rw (
-        eq-eqb (get_or standing 0 0) (get_or fresh 0 0) first,
-        eq-eqb (get_or standing (length standing - 1) 0) (get_or fresh (length fresh - 1) 0) last,
-        ← ed,
-        ← em,
-        some_total most (λ z. omega (arith, z, low)),
-      )
-      (⊎_elim (λ (z : d ≡ above_totals). rw (no_total d z) (lt-leb d most (omega (arith, z, low)))) (λ (z : d ≡ above_totals → ⊥). rw (some_total d z))
-      (same_or d above_totals))
+  module _ (first : slice_get standing 0 ≡ slice_get fresh 0) (last : slice_get standing (length standing - 1) ≡ slice_get fresh (length fresh - 1)) where
+    stands : 0 < length standing
+    stands = slice_get_within standing 0 (get_or fresh 0 0) (first ∙ slice_get-get_or fresh 0 0 some_node)
 
--- WHAT IS ANSWERED
-module _ (t : Table) (standing fresh : List ℕ) (most : ℕ) (e : total_of most ≡ lent_total t fresh) where
-  pub refused : most ≡ above_totals → kept 15 0 0 0 ≡ chosen t standing fresh
-  unfolding chosen fresh_refusal refusal
-  refused z = rw (← e, no_total most z)
+    read : {i j : ℕ} → i < length standing → j < length fresh → slice_get standing i ≡ slice_get fresh j → get_or standing i 0 ≡ get_or fresh j 0
+    read {i} {j} h l e = same_Some _ _ (sym (slice_get-get_or standing i 0 h) ∙ e ∙ slice_get-get_or fresh j 0 l)
 
-  module _ (d : most ≡ above_totals → ⊥) where
-    pub fresh_total : lent_total t fresh ≡ some most
-    fresh_total = sym e ∙ some_total most d
-
-    pub gives : (b : Bool) → stays t standing fresh ≡ b → cond b (kept 0 0 1 (length standing)) (kept 0 0 0 (length fresh)) ≡ chosen t standing fresh
-    unfolding chosen fresh_refusal no_refusal refusal choice
-    gives b e' = rw (fresh_total, e')
+    pub by_total : (o : code.Option ℕ) → held o ≡ lent_total t standing → no_greater (held o) (some most) ≡ stays t standing fresh
+    unfolding stays same_ends first_node last_node
+    by_total o e =
+        rw (
+          eq-eqb (get_or standing 0 0) (get_or fresh 0 0) (read stands some_node first),
+          eq-eqb (get_or standing (length standing - 1) 0) (get_or fresh (length fresh - 1) 0)
+              (read (omega (arith, stands)) (omega (arith, some_node)) last),
+          ← e,
+          ← total,
+        )

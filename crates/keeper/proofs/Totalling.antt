@@ -1,16 +1,19 @@
 -- The total of a list, step by step: what has been added and the total of what is left are together the list's. Assumes nothing.
 use mathlib.Core.Path.{◌≡◌, refl, sym, ap, ◌∙◌}
+use mathlib.Core.Bool.{Bool, true, false, cond}
 use mathlib.Core.List.{List, [], ◌∷◌}
 use mathlib.Core.Option.{Option, none, some}
-use Prim.Native.Nat.{ℕ, suc, ◌+◌, ◌*◌, ◌≤◌, ◌<◌}
+use Prim.Native.Nat.{ℕ, suc, ◌+◌, ◌*◌, ◌-◌, ◌≤◌, ◌<◌}
 use native.Mathlib.Omega.{arith}
-use lib.ListN.{length, get_or, drop, drop_of_length-le}
-use lib.Seq.{drop-cons}
-use borrow.Author.Tests.{eq-eqb, ne_eqb, lt-ltb, le-ltb}
+use lib.Dec.{ltb}
+use lib.ListN.{length, get_or, take, drop}
+use borrow.Author.Tests.{lt-ltb, le-ltb}
+use Rattle.std.specs.Prelude as code
+use Rattle.std.specs.List.{slice_get}
+use Rattle.std.proofs.lemmas.Option.{get_or_from_slice_get}
 use Rattle.table.specs.Table.{Table, most_nodes, longest}
-use Rattle.forward_star.specs.Lists.{star, Outgoing}
 use Rattle.keeping.specs.Keeping.{step_length, plus, total, lent_total}
-use Rattle.keeper.specs.Totals.{above_totals, total_of}
+use Rattle.keeper.specs.Totals.{step_from}
 
 -- SUMS
 sum_zero : (a : Option ℕ) → plus (some 0) a ≡ a
@@ -23,50 +26,20 @@ unfolding plus
 sum_same a b none = refl
 sum_same a b (some c) = ap some (omega arith)
 
--- a number that stands for a total, or for none
-pub no_total : (d : ℕ) → d ≡ above_totals → total_of d ≡ none
-unfolding total_of
-no_total d e = rw (eq-eqb d above_totals e)
+sum_end : (b : Bool) (a : ℕ) → plus (some a) (cond b (some 0) none) ≡ cond b (some a) none
+unfolding plus
+sum_end true a = ap some (omega arith)
+sum_end false a = refl
 
-pub some_total : (d : ℕ) → (d ≡ above_totals → ⊥) → total_of d ≡ some d
-unfolding total_of
-some_total d e = rw (ne_eqb d above_totals e)
-
--- THE TOTAL from a node on
-module _ (t : Table) (vs : List ℕ) (i : ℕ) where
-  two_left : suc i < length vs → drop i vs ≡ get_or vs i 0 ∷ get_or vs (suc i) 0 ∷ drop (suc (suc i)) vs
-  two_left h = drop-cons vs i 0 (omega arith) ∙ ap (λ (l : List ℕ). get_or vs i 0 ∷ l) (drop-cons vs (suc i) 0 h)
-
-  one_left : suc i ≡ length vs → drop i vs ≡ get_or vs i 0 ∷ []
-  one_left h = drop-cons vs i 0 (omega arith) ∙ ap (λ (l : List ℕ). get_or vs i 0 ∷ l) (drop_of_length-le vs {i = suc i} (omega arith))
-
-  -- another node follows
-  pub too_high : suc i < length vs → t.n ≤ get_or vs i 0 → total t (drop i vs) ≡ none
-  unfolding total
-  too_high h high = rw (two_left h, le-ltb (get_or vs i 0) t.n high)
-
-  pub no_step_there : suc i < length vs → get_or vs i 0 < t.n → step_length t (get_or vs i 0) (get_or vs (suc i) 0) ≡ none → total t (drop i vs) ≡ none
-  unfolding total plus
-  no_step_there h low e = rw (two_left h, lt-ltb (get_or vs i 0) t.n low, e)
-
-  pub one_step : suc i < length vs → get_or vs i 0 < t.n → (s : ℕ) → step_length t (get_or vs i 0) (get_or vs (suc i) 0) ≡ some s →
-      total t (drop i vs) ≡ plus (some s) (total t (drop (suc i) vs))
-  unfolding total
-  one_step h low s e =
-      rw (two_left h, lt-ltb (get_or vs i 0) t.n low, e) (ap (λ (l : List ℕ). plus (some s) (total t l)) (sym (drop-cons vs (suc i) 0 h)))
-
-  -- it is the last node
-  pub last_high : suc i ≡ length vs → t.n ≤ get_or vs i 0 → total t (drop i vs) ≡ none
-  unfolding total
-  last_high h high = rw (one_left h, le-ltb (get_or vs i 0) t.n high)
-
-  pub last_low : suc i ≡ length vs → get_or vs i 0 < t.n → total t (drop i vs) ≡ some 0
-  unfolding total
-  last_low h low = rw (one_left h, lt-ltb (get_or vs i 0) t.n low)
+-- a step and what follows it
+step_first : (b : Bool) (s r : Option ℕ) → cond b (plus s r) none ≡ plus (cond b s none) r
+unfolding plus
+step_first true s r = refl
+step_first false s r = refl
 
 -- A LIST THAT IS LENT has no total where it is empty or too long
 module _ (t : Table) (list : List ℕ) where
-  pub lent_none : length list ≡ 0 → lent_total t list ≡ none
+  pub lent_none : length list ≡ 0 → none ≡ lent_total t list
   unfolding lent_total total
   lent_none e = rw (le-ltb most_nodes (length list) (omega arith), none_there list e)
     where
@@ -74,46 +47,79 @@ module _ (t : Table) (list : List ℕ) where
       none_there [] e = refl
       none_there (v ∷ vs) e = absurd (omega arith)
 
-  pub lent_many : most_nodes < length list → lent_total t list ≡ none
+  pub lent_many : most_nodes < length list → none ≡ lent_total t list
   unfolding lent_total
   lent_many h = rw (lt-ltb most_nodes (length list) h)
 
--- THE STEPS TO NODE i ARE ADDED
-pub record Adding (heads lengths first next list : List ℕ) (added i : ℕ) : Type 0 where
-  -- there is such a node
-  pub low : i < length list
+  pub lent_few : length list ≤ most_nodes → total t list ≡ lent_total t list
+  unfolding lent_total
+  lent_few h = rw (le-ltb most_nodes (length list) h)
+
+-- THE STEPS BEFORE `rest` ARE ADDED
+pub record Adding (t : Table) (list rest : List ℕ) (added : ℕ) : Type 0 where
+  -- there is a node left, and the last one is the list's
+  pub some_node : 0 < length rest
+  pub same_end : get_or rest (length rest - 1) 0 ≡ get_or list (length list - 1) 0
   -- what is added is no more than so many steps can be
-  pub few : added ≤ i * longest
+  pub few : added + length rest * longest ≤ length list * longest
   -- with the total of what is left it is the list's
-  pub rest : (t : Table) → Outgoing t (star heads lengths first next) → plus (some added) (total t (drop i list)) ≡ total t list
+  pub left : plus (some added) (total t rest) ≡ total t list
 
-module _ (hs ls first next list : List ℕ) where
-  pub begins : 0 < length list → Adding hs ls first next list 0 0
-  begins h = record { low = h; few = omega arith; rest = λ t here. sum_zero (total t list) }
+pub begins : (t : Table) (list : List ℕ) → 0 < length list → Adding t list list 0
+begins t list h = record { some_node = h; same_end = refl; few = omega arith; left = sum_zero (total t list) }
 
-  module _ {added i : ℕ} (inv : Adding hs ls first next list added i) where
-    -- what is left has no total
-    pub stops : (t : Table) → Outgoing t (star hs ls first next) → total t (drop i list) ≡ none → total t list ≡ none
-    unfolding plus
-    stops t here e = sym (inv.rest t here) ∙ ap (plus (some added)) e
+-- the two nodes of the next step, as they are read
+pub window : (rest pair : List ℕ) (size : ℕ) → size ≡ 2 → size ≤ length rest → pair ≡ take size rest →
+    (2 ≤ length rest) × (get_or pair 0 0 ≡ get_or rest 0 0) × (get_or pair 1 0 ≡ get_or rest 1 0)
+window [] pair size two h e = absurd (omega arith)
+window (u ∷ []) pair size two h e = absurd (omega arith)
+window (u ∷ v ∷ vs) pair size two h e =
+    let read : pair ≡ u ∷ v ∷ [] = rw two at e in
+    (omega arith, ap (λ l. get_or l 0 0) read, ap (λ l. get_or l 1 0) read)
 
-    pub goes_on : suc i < length list → (s : ℕ) → s ≤ longest → get_or list i 0 < length first →
-        ((t : Table) → Outgoing t (star hs ls first next) → step_length t (get_or list i 0) (get_or list (suc i) 0) ≡ some s) →
-        Adding hs ls first next list (added + s) (suc i)
-    goes_on h s low node step =
-        record {
-          low = h;
-          few = omega (arith, inv.few);
-          rest = λ t here.
-              sym (sum_same added s (total t (drop (suc i) list)))
-              ∙ ap (plus (some added)) (sym (one_step t list i h (omega (arith, here.linked.first_count)) s (step t here)))
-              ∙ inv.rest t here;
-        }
+module _ (t : Table) (list : List ℕ) where
+  -- one more step
+  pub stops : (rest : List ℕ) (added : ℕ) → Adding t list rest added → 2 ≤ length rest → none ≡ step_from t (get_or rest 0 0) (get_or rest 1 0) →
+      none ≡ total t list
+  unfolding total plus
+  stops [] added w h e = absurd (omega arith)
+  stops (u ∷ []) added w h e = absurd (omega arith)
+  stops (u ∷ v ∷ vs) added w h e =
+      ap (λ s. plus (some added) (plus s (total t (v ∷ vs)))) e
+      ∙ ap (plus (some added)) (sym (step_first (ltb u t.n) (step_length t u v) (total t (v ∷ vs)))) ∙ w.left
 
-    pub ends : suc i ≡ length list → get_or list i 0 < length first → (t : Table) → Outgoing t (star hs ls first next) → total t list ≡ some added
-    unfolding plus
-    ends h node t here =
-        let plain : added + 0 ≡ added = omega arith in
-        sym (inv.rest t here)
-        ∙ ap (plus (some added)) (last_low t list i h (omega (arith, here.linked.first_count)))
-        ∙ ap some plain
+  pub goes_on : (rest : List ℕ) (added : ℕ) → Adding t list rest added → 2 ≤ length rest → (s : ℕ) → s ≤ longest →
+      some s ≡ step_from t (get_or rest 0 0) (get_or rest 1 0) → Adding t list (drop 1 rest) (added + s)
+  unfolding total
+  goes_on [] added w h s low e = absurd (omega arith)
+  goes_on (u ∷ []) added w h s low e = absurd (omega arith)
+  goes_on (u ∷ v ∷ vs) added w h s low e =
+      let one_more : suc (suc (length vs)) - 1 ≡ suc (suc (length vs) - 1) = omega arith in
+      record {
+        some_node = omega arith;
+        same_end = sym (ap (λ i. get_or (u ∷ v ∷ vs) i 0) one_more) ∙ w.same_end;
+        few = omega (arith, w.few);
+        left =
+            sym (sum_same added s (total t (v ∷ vs)))
+            ∙ ap (λ s. plus (some added) (plus s (total t (v ∷ vs)))) e
+            ∙ ap (plus (some added)) (sym (step_first (ltb u t.n) (step_length t u v) (total t (v ∷ vs))))
+            ∙ w.left;
+      }
+
+  -- the last node, x
+  module _ (rest : List ℕ) (added : ℕ) (w : Adding t list rest added) (at_end : length rest < 2) (x : ℕ)
+      (last : code.Some x ≡ slice_get list (length list - 1)) where
+    by_last : (l : List ℕ) → l ≡ rest → cond (ltb x t.n) (some added) none ≡ total t list
+    unfolding total
+    by_last [] e = absurd (omega (arith, ap length e, w.some_node))
+    by_last (v ∷ []) e =
+        let same : v ≡ x = ap (λ l. get_or l (length l - 1) 0) e ∙ w.same_end ∙ get_or_from_slice_get list (length list - 1) x 0 (sym last) in
+        sym (sum_end (ltb x t.n) added) ∙ ap (λ u. plus (some added) (cond (ltb u t.n) (some 0) none)) (sym same)
+        ∙ ap (λ l. plus (some added) (total t l)) e ∙ w.left
+    by_last (u ∷ v ∷ vs) e = absurd (omega (arith, ap length e, at_end))
+
+    pub ends : x < t.n → some added ≡ total t list
+    ends h = rw (lt-ltb x t.n h) at (by_last rest refl)
+
+    pub ends_outside : t.n ≤ x → none ≡ total t list
+    ends_outside h = rw (le-ltb x t.n h) at (by_last rest refl)

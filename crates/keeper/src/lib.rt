@@ -2,168 +2,115 @@
 // input.
 #![tactic(auto)]
 
-ghost use Rattle.std.specs.Prelude.{◌≡◌, true, ◌&&◌, cond, [], ℕ, ◌≤◌, ◌<◌, ltb, eqb, length};
-ghost use Rattle.table.specs.Table.{Table, is_table, most_nodes};
-ghost use Rattle.forward_star.specs.Lists.{star, lent_star, Outgoing, SomeTable};
-ghost use Rattle.keeping.specs.Keeping.{step_length, lent_total, stays, table_in, keeps, Part, Says};
-ghost use Rattle.keeper.specs.Totals.{above_totals, step_of, total_of, chosen};
+ghost use Rattle.std.specs.Prelude.{◌≡◌, IfOk};
+ghost use Rattle.std.proofs.Math.Option.{some};
+ghost use Rattle.table.specs.Lent.{table_in};
+ghost use Rattle.table.specs.Refusals.{refusal};
+ghost use Rattle.table.specs.Told.{told};
+ghost use Rattle.keeping.specs.Keeping.{lesser, lent_total, stays, keep, keeps, Part};
+ghost use Rattle.keeper.specs.Totals.{held, step_from, answer, chosen};
 
 use forward_star::link_arcs;
+use forward_star::star::Star;
 use keeping::Kept;
-use refusals::table_refusal;
-use table::{DOWN, MOST_ARCS, MOST_NODES, NO_ARC, Refusal, wide};
+use refusals::{Rooms, check_table};
+use table::faults::{Fault, Refusal};
+use table::links::LinkTable;
+use table::{MOST_ARCS, MOST_NODES, NO_ARC};
 
-// The total of a list that is no walk. No walk of MOST_NODES nodes is so long.
-const NO_TOTAL: u64 = 18446744073709551615;
-
-// The lesser of the length met so far and an arc's, where the arc leads to the node.
-fn lesser(shortest: u32, to: u16, head: u16, length: u32) -> u32
-    ensures { result ≡ cond (eqb head to && ltb length shortest) length shortest }
+// The lesser of the length met so far, if any, and an arc's.
+fn lesser(shortest: Option<u32>, length: u32) -> Option<u32>
+    ensures { held result ≡ lesser (held shortest) (some length) }
 {
-    if head == to && length < shortest {
-        return length;
-    }
-    shortest
+    Some(shortest.map_or(length, |least| least.min(length)))
 }
 
-// The length of the shortest arc from one node to another, DOWN where there is none. Only the arcs out of the first node are looked at.
-fn step_length(
-    from: usize,
-    to: u16,
-    heads: &[u16],
-    lengths: &[u32],
-    first: &[u16],
-    next: &[u16],
-) -> u32
-    requires some_table { SomeTable (star heads.now lengths.now first.now next.now) }
-    requires from_in_bounds { (from < length first.now) × (length first.now ≤ most_nodes) }
-    ensures { (t : Table) → Outgoing t (lent_star heads lengths first next) → step_of result ≡ step_length t from to }
+// The length of the shortest arc from one node to another, where there is one; none from what is no node. Only the arcs out of the first are looked at.
+fn step_length(star: &Star, from: u16, to: u16) -> Option<u32>
+    ensures { held result ≡ step_from (table_in star.now.table) from to }
 {
-    let mut shortest = DOWN;
-    let mut p = first[from];
+    let columns = star.table.columns;
+    let mut shortest = None;
+    let mut p = *star.first.get(usize::from(from))?;
     while p != NO_ARC {
-        let i = wide(p);
-        shortest = lesser(shortest, to, heads[i], lengths[i]);
-        p = next[i];
+        let i = usize::from(p);
+        if columns.heads[i] == to {
+            shortest = lesser(shortest, columns.lengths[i]);
+        }
+        p = star.next[i];
     }
     shortest
 }
 
-// The total of a list, NO_TOTAL where it is no walk of 1 to MOST_NODES nodes.
-fn total_of(list: &[u16], heads: &[u16], lengths: &[u32], first: &[u16], next: &[u16]) -> u64
-    requires some_table { SomeTable (star heads.now lengths.now first.now next.now) }
-    requires first_len_bound { length first.now ≤ most_nodes }
-    ensures { (t : Table) → Outgoing t (lent_star heads lengths first next) → total_of result ≡ lent_total t list.now }
+// The total of a list, where it is a walk of 1 to MOST_NODES nodes.
+fn total(star: &Star, list: &[u16]) -> Option<u64>
+    ensures { held result ≡ lent_total (table_in star.now.table) list.now }
 {
-    let count = list.len();
-    if count == 0 || MOST_NODES < count {
-        return NO_TOTAL;
+    let last = *list.last()?;
+    if MOST_NODES < list.len() {
+        return None;
     }
-    let last = count - 1;
-    let mut total: u64 = 0;
-    let mut i = 0;
-    while i < last {
-        let from = wide(list[i]);
-        if first.len() <= from {
-            return NO_TOTAL;
-        }
-        let step = step_length(from, list[i + 1], heads, lengths, first, next);
-        if step == DOWN {
-            return NO_TOTAL;
-        }
-        total = total + step as u64;
-        i = i + 1;
+    let mut total = 0;
+    for step in list.windows(2) {
+        total += u64::from(step_length(star, step[0], step[1])?);
     }
-    if first.len() <= wide(list[last]) {
-        return NO_TOTAL;
+    if usize::from(last) < star.first.len() {
+        Some(total)
+    } else {
+        None
     }
-    total
 }
 
 // Whether the standing list is kept beside a fresh list of this total.
-fn stays(
-    most: u64,
-    standing: &[u16],
-    fresh: &[u16],
-    heads: &[u16],
-    lengths: &[u32],
-    first: &[u16],
-    next: &[u16],
-) -> bool
-    requires some_table { SomeTable (star heads.now lengths.now first.now next.now) }
-    requires first_len_bound { (length first.now ≤ most_nodes) × ((0 < length fresh.now) × (most < above_totals)) }
-    ensures { (t : Table) → Outgoing t (lent_star heads lengths first next) → total_of most ≡ lent_total t fresh.now →
-        result ≡ stays t standing.now fresh.now }
+fn stays(star: &Star, standing: &[u16], fresh: &[u16], most: u64) -> bool
+    requires { held (Some most) ≡ lent_total (table_in star.now.table) fresh.now }
+    ensures { result ≡ stays (table_in star.now.table) standing.now fresh.now }
 {
-    let count = standing.len();
-    if count == 0 {
+    if standing.first() != fresh.first() || standing.last() != fresh.last() {
         return false;
     }
-    if standing[0] != fresh[0] {
-        return false;
-    }
-    if standing[count - 1] != fresh[fresh.len() - 1] {
-        return false;
-    }
-    total_of(standing, heads, lengths, first, next) <= most
+    total(star, standing).is_some_and(|total| total <= most)
 }
 
-// The standing list or the fresh one, by the lists of outgoing arcs.
-fn choose(
-    standing: &[u16],
-    fresh: &[u16],
-    heads: &[u16],
-    lengths: &[u32],
-    first: &[u16],
-    next: &[u16],
-) -> Kept
-    requires some_table { SomeTable (star heads.now lengths.now first.now next.now) }
-    requires first_len_bound { length first.now ≤ most_nodes }
-    ensures { (t : Table) → Outgoing t (lent_star heads lengths first next) → result ≡ chosen t standing.now fresh.now }
+// Whether the standing list is kept, or the fresh one's refusal.
+fn choose(star: &Star, standing: &[u16], fresh: &[u16]) -> Result<bool, Refusal>
+    ensures { answer result standing.now fresh.now ≡ chosen (table_in star.now.table) standing.now fresh.now }
 {
-    let most = total_of(fresh, heads, lengths, first, next);
-    if most == NO_TOTAL {
-        return Kept {
-            number: Refusal::NO_WALK,
-            place: 0,
-            standing: 0,
-            count: 0,
-        };
-    }
-    if stays(most, standing, fresh, heads, lengths, first, next) {
-        return Kept {
-            number: Refusal::NONE,
-            place: 0,
-            standing: 1,
-            count: standing.len() as u32,
-        };
-    }
-    Kept {
-        number: Refusal::NONE,
-        place: 0,
-        standing: 0,
-        count: fresh.len() as u32,
-    }
+    let most = total(star, fresh).ok_or(Fault::NoWalk.at(0))?;
+    Ok(stays(star, standing, fresh, most))
 }
 
-// The same of a table that is not refused: its arcs are linked once, and each step looks at the arcs out of its first node.
-fn compare(
-    n: usize,
+// The same by a table: its arcs are linked once, and each step looks at the arcs out of its first node.
+fn compare(table: LinkTable, standing: &[u16], fresh: &[u16]) -> Result<bool, Refusal>
+    ensures { answer result standing.now fresh.now ≡ chosen (table_in table.entry) standing.now fresh.now }
+{
+    let n = table.n;
+    let m = table.columns.tails.len();
+    let mut first = [NO_ARC; MOST_NODES];
+    let mut next = [NO_ARC; MOST_ARCS];
+    link_arcs(&table, &mut first[..n], &mut next[..m]);
+    let star = Star {
+        table,
+        first: &first[..n],
+        next: &next[..m],
+    };
+    choose(&star, standing, fresh)
+}
+
+// Whether the standing list is kept, or the refusal: 1, 2, 6 and 7, then 15. Node 0 stands for an origin, nothing is wanted, and the buffers' lengths fit.
+fn keeps_standing(
+    n: u32,
     tails: &[u16],
     heads: &[u16],
     lengths: &[u32],
     standing: &[u16],
     fresh: &[u16],
-) -> Kept
-    requires heads_len { (length heads.now ≡ length tails.now) × (length lengths.now ≡ length tails.now) }
-    requires lengths_value { is_table (table_in n tails.now heads.now lengths.now) [] ≡ true }
-    ensures { result ≡ chosen (table_in n tails.now heads.now lengths.now) standing.now fresh.now }
+) -> Result<bool, Refusal>
+    ensures { answer result standing.now fresh.now ≡ keep n tails.now heads.now lengths.now standing.now fresh.now }
 {
-    let m = tails.len();
-    let mut first: [u16; MOST_NODES] = [NO_ARC; MOST_NODES];
-    let mut next: [u16; MOST_ARCS] = [NO_ARC; MOST_ARCS];
-    link_arcs(tails, lengths, &mut first[..n], &mut next[..m]);
-    choose(standing, fresh, heads, lengths, &first[..n], &next[..m])
+    let lent = Rooms::needed(n as usize, tails.len());
+    let table = check_table(n, 0, tails, heads, lengths, &[], lent)?;
+    compare(table, standing, fresh)
 }
 
 // Decides which of two lists of nodes is kept: the standing one where it is still a walk between the fresh one's first and last node and its total is no
@@ -178,33 +125,24 @@ pub fn decide(
 ) -> Kept
     ensures { result ≡ keeps n tails heads lengths standing fresh }
 {
-    // 1, 2, 6 and 7 alone: node 0 stands for an origin, nothing is wanted, and the lengths fit.
-    let nodes = n as usize;
-    let refusal = table_refusal(
-        n,
-        0,
-        tails,
-        heads,
-        lengths,
-        &fresh[..0],
-        nodes,
-        nodes,
-        nodes,
-        tails.len(),
-    );
-    if refusal.number != Refusal::NONE {
-        return Kept {
-            number: refusal.number,
-            place: refusal.place,
+    match keeps_standing(n, tails, heads, lengths, standing, fresh) {
+        Ok(true) => Kept {
+            number: 0,
+            place: 0,
+            standing: 1,
+            count: standing.len() as u32,
+        },
+        Ok(false) => Kept {
+            number: 0,
+            place: 0,
             standing: 0,
-            count: 0,
-        };
+            count: fresh.len() as u32,
+        },
+        Err(refusal) => Kept::from(refusal),
     }
-    compare(nodes, tails, heads, lengths, standing, fresh)
 }
 
-// Gives the standing list or the fresh one, as `decide` says: a part of one of the two lists that are lent, and never a copy. A refusal's number and place
-// are left in the cells lent for them, and the part is then an empty one of the fresh list.
+// Gives the standing list or the fresh one, as `decide` says: one of the two lists that are lent, and never a copy; or the refusal.
 pub fn keep_path<'a>(
     n: u32,
     tails: &[u16],
@@ -212,18 +150,13 @@ pub fn keep_path<'a>(
     lengths: &[u32],
     standing: &'a [u16],
     fresh: &'a [u16],
-    number: &mut u32,
-    place: &mut u32,
-) -> &'a [u16]
-    ensures part { Part (keeps n tails heads lengths standing fresh) standing.entry fresh.entry result }
-    ensures says { Says (keeps n tails heads lengths standing fresh) number.new place.new }
+) -> Result<&'a [u16], Refusal>
+    ensures part { IfOk result (λ part. Part (keeps n tails heads lengths standing fresh) standing.entry fresh.entry part) }
+    ensures told { told result ≡ (let k = keeps n tails heads lengths standing fresh in refusal k.number k.place) }
 {
-    let kept = decide(n, tails, heads, lengths, standing, fresh);
-    *number = kept.number;
-    *place = kept.place;
-    let count = kept.count as usize;
-    if kept.standing == 1 {
-        return &standing[..count];
+    if keeps_standing(n, tails, heads, lengths, standing, fresh)? {
+        Ok(standing)
+    } else {
+        Ok(fresh)
     }
-    &fresh[..count]
 }

@@ -109,7 +109,3 @@ keeps n ts hs ls standing fresh = keep n (was ts) (was hs) (was ls) (was standin
 pub record Part (k : Kept) (standing fresh part : Bor (List ℕ)) : Type 0 where
   pub nodes : part.now ≡ given k standing.now fresh.now
   pub begins : part.ref_ptr ≡ cond (is_standing k) standing.ref_ptr fresh.ref_ptr
-
--- a refusal's number and place, left in two cells
-abbrev pub Says : Kept → (number place : ℕ) → Type 0
-Says k a p = (a ≡ k.number) × (p ≡ k.place)

@@ -1,52 +1,23 @@
--- The table is refused, or the lists are compared. Assumes nothing.
-use mathlib.Core.Path.{◌≡◌, refl, sym, ap, ◌∙◌}
-use mathlib.Core.List.{[]}
-use lib.ListN.{length}
-use Rattle.table.specs.Table.{Below}
-use Rattle.table.specs.declared.Refusal.{Refusal}
-use Rattle.table.specs.Refusals.{table_refusal}
-use Rattle.auction.proofs.Made.{unrefused, fitting, without_rooms}
-use Rattle.keeping.specs.Keeping.{table_in, kept}
-use Rattle.keeping.proofs.Answers.{refused_so, chosen_so}
-use Rattle.keeper.specs.Totals.{chosen}
+-- One of the lists is given, whole, or the refusal is told. Assumes nothing.
+use mathlib.Core.Path.{◌∙◌}
+use native.Mathlib.Omega.{arith}
+use Rattle.keeping.specs.Keeping.{kept}
+use Rattle.keeper.proofs.Answering.{few, made_so}
 use Rattle.keeper.proofs.decide.Goals as goal
-use Rattle.keeper.proofs.decide.Goals.{After-table_refusal-refusal}
 
--- where the table has been tested: the arguments, and the table's refusal; no buffers are lent, so the code tests lengths that fit
-module _ (c : After-table_refusal-refusal) where
-  abbrev f : Refusal
-  f = c.table_refusal-refusal.result
+pub overflow_cast-result : goal.overflow_cast-result
+overflow_cast-result c = let h = few _ _ _ _ _ _ _ c.in-Ok-true.ensures in omega (arith, rw c.in-Ok-true.field-0-test at h)
 
-  tested : let a = c.args in f ≡ table_refusal a.n 0 a.tails.now a.heads.now a.lengths.now [] []
-  tested =
-      let a = c.args in
-      c.table_refusal-refusal.ensures
-      ∙ without_rooms a.n 0 a.tails.now a.heads.now a.lengths.now [] _ (fitting a.n (length a.tails.now) refl refl refl refl)
+pub overflow_cast-result-in-Ok-false : goal.overflow_cast-result-in-Ok-false
+overflow_cast-result-in-Ok-false c = let h = few _ _ _ _ _ _ _ c.in-Ok-false.ensures in omega (arith, rw c.in-Ok-false.field-0-test at h)
 
-pub returns-then-refusal-ne-NONE : goal.returns-then-refusal-ne-NONE
+pub returns-in-Ok-true : goal.returns-in-Ok-true
 unfolding kept
-returns-then-refusal-ne-NONE c =
-    let after_table_refusal_refusal = (goal.at.returns-then-refusal-ne-NONE c).After-table_refusal-refusal in
-    let a = c.args in
-    let number = ap (λ (g : Refusal). g.number) (tested after_table_refusal_refusal) in
-    ap (λ (g : Refusal). kept g.number g.place 0 0) (tested after_table_refusal_refusal)
-    ∙ sym
-    (refused_so a.n a.tails.now a.heads.now a.lengths.now a.standing.now a.fresh.now (λ e. c.if-refusal-ne-NONE.true (number ∙ e)))
+returns-in-Ok-true c = rw c.in-Ok-true.field-0-test at c.in-Ok-true.ensures
 
-pub compare-requires : goal.compare-requires
-unfolding table_in Below
-compare-requires c =
-    let r = (goal.at.compare-requires c).After-table_refusal-refusal in
-    let a = c.args in
-    let u = unrefused a.n 0 a.tails.now a.heads.now a.lengths.now [] [] (λ i. (c.type_inv.lengths i).fits)
-    (ap (λ (g : Refusal). g.number) (sym (tested r)) ∙ c.if-refusal-ne-NONE.false) in
-    record { heads_len = (sym u.heads_count, sym (u.heads_count ∙ u.lengths_count)); lengths_value = u.table_good }
+pub returns-in-Ok-false : goal.returns-in-Ok-false
+unfolding kept
+returns-in-Ok-false c = rw c.in-Ok-false.field-0-test at c.in-Ok-false.ensures
 
-pub returns : goal.returns
-unfolding chosen
-returns c =
-    let a = c.args in
-    c.compare.ensures
-    ∙ sym
-    (chosen_so a.n a.tails.now a.heads.now a.lengths.now a.standing.now a.fresh.now
-    (ap (λ (g : Refusal). g.number) (sym (tested (goal.at.returns c).After-table_refusal-refusal)) ∙ c.if-refusal-ne-NONE.false))
+pub returns-in-Err : goal.returns-in-Err
+returns-in-Err c = let k = c.from.ensures in made_so _ _ k.0 k.1 k.2 k.3 ∙ c.in-Err.ensures

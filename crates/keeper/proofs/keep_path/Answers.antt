@@ -1,44 +1,20 @@
--- The part is the one that the answer names. Assumes nothing.
-use mathlib.Core.Path.{◌≡◌, refl, sym}
-use mathlib.Core.Bool.{Bool, true, false, cond}
-use lib.ListN.{length, take}
-use lib.Seq.{length-take-le}
-use Rattle.keeping.specs.declared.Kept.{Kept}
-use Rattle.keeping.specs.Keeping.{keep, is_standing}
-use Rattle.keeper.proofs.Giving.{standing_named, fresh_named, named_fits, part_of}
+-- One of the lists is given, whole, or the refusal is told. Assumes nothing.
+use mathlib.Core.Path.{◌∙◌}
+use Rattle.table.proofs.Telling.{handed_out}
+use Rattle.keeper.proofs.Answering.{whole, nothing_told, told_so}
 use Rattle.keeper.proofs.keep_path.Goals as goal
-use Rattle.keeper.proofs.keep_path.Goals.{After-decide-kept}
 
--- where it is decided: the arguments, and the answer, which names one of the lists
-module _ (c : After-decide-kept) where
-  abbrev k : Kept
-  k = c.decide-kept.result
+pub returns-in_err-keeps_standing-clause-told : goal.returns-in_err-keeps_standing-clause-told
+returns-in_err-keeps_standing-clause-told c = handed_out _ _ c.from_residual.ensures.1 ∙ told_so _ _ c.in_err-keeps_standing.ensures
 
-  decided : let a = c.args in k ≡ keep a.n a.tails.now a.heads.now a.lengths.now a.standing.now a.fresh.now
-  decided = c.decide-kept.ensures
+pub returns-then-branch-clause-part : goal.returns-then-branch-clause-part
+returns-then-branch-clause-part c = rw c.if-branch.true at (whole _ c.args.standing c.args.fresh _ c.in_ok-keeps_standing.ensures)
 
-  as_many : (b : Bool) → is_standing k ≡ b → let l = cond b c.args.standing.now c.args.fresh.now in k.count ≡ length (take k.count l)
-  as_many b named =
-      let a = c.args in
-      sym (length-take-le k.count (cond b a.standing.now a.fresh.now)
-      (named_fits a.standing.now a.fresh.now a.n a.tails.now a.heads.now a.lengths.now k decided b named))
+pub returns-then-branch-clause-told : goal.returns-then-branch-clause-told
+returns-then-branch-clause-told c = nothing_told _ _ _ _ c.in_ok-keeps_standing.ensures
 
-pub slice_bounds-result-end : goal.slice_bounds-result-end
-slice_bounds-result-end c =
-    let after_decide_kept = (goal.at.slice_bounds-result-end c).After-decide-kept in
-    as_many after_decide_kept true (standing_named (k after_decide_kept) c.if-kept-eq1.true)
+pub returns-else-branch-clause-part : goal.returns-else-branch-clause-part
+returns-else-branch-clause-part c = rw c.if-branch.false at (whole _ c.args.standing c.args.fresh _ c.in_ok-keeps_standing.ensures)
 
-pub returns-then-kept-eq1-clause-part : goal.returns-then-kept-eq1-clause-part
-returns-then-kept-eq1-clause-part c =
-    let after_decide_kept = (goal.at.returns-then-kept-eq1-clause-part c).After-decide-kept in
-    part_of (k after_decide_kept) _ (decided after_decide_kept) _ _ _ true (standing_named (k after_decide_kept) c.if-kept-eq1.true) refl refl
-
-pub slice_bounds-result-end-2 : goal.slice_bounds-result-end-2
-slice_bounds-result-end-2 c =
-    let after_decide_kept = (goal.at.slice_bounds-result-end-2 c).After-decide-kept in
-    as_many after_decide_kept false (fresh_named (k after_decide_kept) c.if-kept-eq1.false)
-
-pub returns-clause-part : goal.returns-clause-part
-returns-clause-part c =
-    let after_decide_kept = (goal.at.returns-clause-part c).After-decide-kept in
-    part_of (k after_decide_kept) _ (decided after_decide_kept) _ _ _ false (fresh_named (k after_decide_kept) c.if-kept-eq1.false) refl refl
+pub returns-else-branch-clause-told : goal.returns-else-branch-clause-told
+returns-else-branch-clause-told c = nothing_told _ _ _ _ c.in_ok-keeps_standing.ensures

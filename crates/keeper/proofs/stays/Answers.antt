@@ -1,16 +1,32 @@
 -- The ends are compared, then the totals. Assumes nothing.
-use Rattle.keeper.proofs.Choosing.{no_standing, other_first, other_last, by_total}
+use mathlib.Core.Path.{◌≡◌, sym, ◌∙◌}
+use mathlib.Core.Option.{some}
+use native.Mathlib.Omega.{arith}
+use Rattle.std.proofs.lemmas.Bool.Decides.{nat_tests}
+use Rattle.std.proofs.lemmas.Grind.{common_steps}
+use Rattle.keeping.specs.Keeping.{no_greater}
+use Rattle.keeper.specs.Totals.{held}
+use Rattle.keeper.proofs.Choosing.{same_read, other_read, other_first, other_last, by_total}
 use Rattle.keeper.proofs.stays.Goals as goal
+use Rattle.keeper.proofs.stays.Goals.{then-ne-via-then-ne, then-ne-via-else-ne+then-ne-2}
 
-pub returns-then-count-eq0 : goal.returns-then-count-eq0
-returns-then-count-eq0 c t here e = no_standing t _ _ c.if-count-eq0.true
-
-pub returns-then-standing-fresh : goal.returns-then-standing-fresh
-returns-then-standing-fresh c t here e = other_first t _ _ c.if-standing-fresh.true
-
-pub returns-then-standing-count : goal.returns-then-standing-count
-returns-then-standing-count c t here e = other_last t _ _ c.if-standing-count.true
+pub returns-then-ne : goal.returns-then-ne
+returns-then-ne c =
+    elim c.then-ne.branch [
+      | then-ne-via-then-ne w ↦
+          other_first _ _ _ _ c.requires
+          (other_read _ _ c.first.ensures.value c.first-2.ensures.value (sym c.ne.ensures ∙ w.if-ne.true))
+      | then-ne-via-else-ne+then-ne-2 w ↦
+          other_last _ _ _ _ c.requires
+          (other_read _ _ w.last.ensures.value w.last-else-ne.ensures.value (sym w.ne-else-ne.ensures ∙ w.if-ne-2.true))
+    ]
 
 pub returns : goal.returns
-returns c t here e =
-    by_total t _ _ _ _ c.if-standing-fresh.false c.if-standing-count.false (c.total_of.ensures t here) e c.requires.first_len_bound.1.1
+unfolding no_greater
+returns c =
+    let less : c.is_some_and.result ≡ no_greater (held c.total.result) (some c.args.most) = grind (arith, nat_tests, common_steps, c.is_some_and.ensures) in
+    less
+    ∙ by_total _ _ _ _ c.requires
+    (same_read _ _ c.first.ensures.value c.first-2.ensures.value (sym c.ne.ensures ∙ c.if-ne.false))
+    (same_read _ _ c.last.ensures.value c.last-else-ne.ensures.value (sym c.ne-else-ne.ensures ∙ c.if-ne-2.false))
+    _ c.total.ensures

@@ -1,52 +1,57 @@
 -- The arcs from p on are left to compare; p rises along the node's list. Assumes nothing.
-use mathlib.Core.Path.{◌≡◌, refl, ap}
+use mathlib.Core.Path.{◌≡◌, refl, ◌∙◌}
+use Prim.Native.Nat.{◌<◌}
 use native.Mathlib.Omega.{arith}
-use lib.ListN.{get_or}
+use lib.ListN.{length, get_or}
+use borrow.Author.Tests.{lt-ltb}
+use Rattle.std.proofs.lemmas.Bool.Decides.{nat_tests}
+use Rattle.table.specs.Lent.{table_in}
+use Rattle.table.specs.Table.{Table}
 use Rattle.forward_star.proofs.Along.{Readable, readable}
-use Rattle.keeper.proofs.Stepping.{begins, goes_on, ends}
+use Rattle.forward_star.proofs.Outgoing.{star, Outgoing}
+use Rattle.forward_star.proofs.Columns.{outgoing_of}
+use Rattle.keeper.proofs.Stepping.{begins, into, elsewhere, ends}
 use Rattle.keeper.proofs.step_length.Goals as goal
-use Rattle.keeper.proofs.step_length.Goals.{In-loop-p}
+use Rattle.keeper.proofs.step_length.Goals.{In-loop-p, then-columns-i, else-columns-i}
 
--- Inside the loop the arc at p can be read.
-inside : (c : In-loop-p) → Readable c.args.heads.now c.args.lengths.now c.args.first.now c.args.next.now c.loop-p.p
-inside c = readable (λ t here. (c.loop-p.invariant.0 t here).on_list) c.requires.some_table c.loop-p-test.true
+-- inside the loop the arc at p can be read
+module _ (c : In-loop-p) where
+  abbrev t : Table
+  t = table_in c.args.star.now.table
+
+  abbrev here : Outgoing t (let s = c.args.star.now in star s.table.columns.heads.now s.table.columns.lengths.now s.first.now s.next.now)
+  here = outgoing_of c.args.star.now
+
+  inside : Readable t c.args.star.now.table.columns.heads.now c.args.star.now.next.now c.loop-p.p
+  inside = readable here c.loop-p.invariant.on_list c.loop-p-test.true
 
 pub loop-p-init : goal.loop-p-init
 loop-p-init c =
-    let a = c.args in (
-      begins a.heads.now a.lengths.now a.first.now a.next.now a.from a.to _ refl c.requires.from_in_bounds.0,
-      omega (arith, c.type_inv.first a.from),
-    )
+    let s = c.args.star.now in
+    let f : (c.args.from < length s.first.now) × (c.in_ok-p.field-0.now ≡ get_or s.first.now c.args.from 0) = grind (arith, nat_tests, c.in_ok-p.ensures.lookup) in
+    rw f.1 (begins (outgoing_of s) c.args.from c.args.to (omega (arith, f.0, s.linked.first_count)))
 
-pub bounds-heads-i : goal.bounds-heads-i
-bounds-heads-i c =
-    let r = inside (goal.at.bounds-heads-i c).In-loop-p in omega (arith, c.wide-i.ensures.same, r.inside, r.listed.head_count)
+pub bounds-columns-i : goal.bounds-columns-i
+bounds-columns-i c = let at = (goal.at.bounds-columns-i c).In-loop-p in omega (arith, (inside at).inside, (here at).head_count)
 
-pub bounds-lengths-i : goal.bounds-lengths-i
-bounds-lengths-i c =
-    let r = inside (goal.at.bounds-lengths-i c).In-loop-p in omega (arith, c.wide-i.ensures.same, r.inside, r.listed.length_count)
-
-pub bounds-next-i : goal.bounds-next-i
-bounds-next-i c =
-    let r = inside (goal.at.bounds-next-i c).In-loop-p in omega (arith, c.wide-i.ensures.same, r.inside, r.listed.linked.next_count)
+pub bounds-columns-i-then-columns-i : goal.bounds-columns-i-then-columns-i
+bounds-columns-i-then-columns-i c = let at = (goal.at.bounds-columns-i-then-columns-i c).In-loop-p in omega (arith, (inside at).inside, (here at).length_count)
 
 pub loop-p-smaller : goal.loop-p-smaller
-loop-p-smaller c =
-    let n = c.args.next.now in
-    let i = c.wide-i.result in
-    let same : get_or n i 0 ≡ get_or n c.loop-p.p 0 = ap (λ m. get_or n m 0) c.wide-i.ensures.same in
-    omega (arith, same, (inside (goal.at.loop-p-smaller c).In-loop-p).rises, c.type_inv.next i)
+loop-p-smaller c = let at = (goal.at.loop-p-smaller c).In-loop-p in rw c.from-i.ensures (omega (arith, (inside at).inside, (inside at).rises, (here at).few))
 
 pub loop-p-preserved : goal.loop-p-preserved
 loop-p-preserved c =
-    let a = c.args in
-    let i = c.wide-i.result in (
-      goes_on a.heads.now a.lengths.now a.first.now a.next.now a.from a.to _ _ _ i c.loop-p.invariant.0 c.wide-i.ensures.same
-          c.loop-p-test.true c.requires.from_in_bounds.1 (omega (arith, c.type_inv.lengths i)) c.lesser-shortest.ensures,
-      omega (arith, c.type_inv.next i),
-    )
+    let here = outgoing_of c.args.star.now in
+    let more = c.loop-p-test.true in
+    elim c.if-columns-i.branch [
+      | then-columns-i w ↦
+          rw w.shortest-is (into here _ _ c.loop-p.invariant more _ c.from-i.ensures w.if-columns-i.true _ w.lesser-shortest.ensures)
+      | else-columns-i w ↦
+          rw w.shortest-is (elsewhere here _ _ c.loop-p.invariant more _ c.from-i.ensures w.if-columns-i.false)
+    ]
 
 pub returns : goal.returns
-returns c t here =
-    let a = c.args in
-    ends a.heads.now a.lengths.now a.first.now a.next.now a.from a.to _ _ c.loop-p.invariant.0 c.loop-p-test.false t here
+returns c =
+    let s = c.args.star.now in
+    ends (outgoing_of s) _ _ c.loop-p.invariant c.loop-p-test.false ∙ rw (lt-ltb _ _ c.loop-p.invariant.on_list.node) refl
