@@ -1,8 +1,11 @@
--- What a check of crate `table` says by its answer, which is one refusal or none. Assumes nothing.
+-- What a check of crate `table` says by its answer, which is one refusal or none, and what a `?` passes on. Assumes nothing.
 use mathlib.Core.Bool.{Bool, true, false, cond}
-use mathlib.Core.Path.{◌≡◌, refl, sym, ap}
-use Prim.Native.Nat.{ℕ, ◌≤◌, ◌<◌}
+use mathlib.Core.Path.{◌≡◌, refl, ap}
+use Prim.Native.Nat.{ℕ, ◌<◌}
 use native.Mathlib.Omega.{arith}
+use Rattle.std.specs.Prelude.{Result, Err}
+use Rattle.std.specs.Result.{IsErrAnd}
+use Rattle.std.proofs.lemmas.Result.{err_from_is_err_and}
 use Rattle.table.specs.Refusals.{refusal, no_refusal}
 use Rattle.table.specs.Told.{number, tells}
 use Rattle.table.specs.declared.faults.Fault.{Fault}
@@ -10,7 +13,7 @@ use Rattle.table.specs.declared.faults.Refusal.{Refusal}
 use Rattle.table.specs.declared.Refusal as as_told
 
 -- every fault has a number
-some_number : (f : Fault) → 0 < number f
+pub some_number : (f : Fault) → 0 < number f
 some_number f = grind arith
 
 pub failed : (r : Refusal) (bad : Bool) (n p : ℕ) → tells r ≡ cond bad (refusal n p) no_refusal → (bad ≡ true) × (tells r ≡ refusal n p)
@@ -22,3 +25,7 @@ pub passed : (bad : Bool) (n p : ℕ) → 0 < n → no_refusal ≡ cond bad (ref
 unfolding refusal no_refusal
 passed true n p some e = let zero : 0 ≡ n = ap (λ (t : as_told.Refusal). t.number) e in absurd (omega arith)
 passed false n p some e = refl
+
+-- the error that a `?` returns is the callee's
+pub passed_on : {T E : Type 0} (r : Result T E) (e : E) → IsErrAnd r (λ x. x ≡ e) → r ≡ Err e
+passed_on r e passed = let p = err_from_is_err_and r passed in rw p.2 at p.1

@@ -1,5 +1,5 @@
 -- Where `!=` finds two bit maps equal their bytes are, and where not they are not. Assumes nothing.
-use Rattle.std.proofs.Common.{◌≡◌, Bool, true, false, ◌&&◌, sym, ◌∙◌, ap, arith}
+use Rattle.std.proofs.Common.{◌≡◌, true, false, ◌&&◌, sym, ◌∙◌, ap, arith}
 use mathlib.Core.Bool.{beq, not}
 use Rattle.std.proofs.lemmas.Bool.Decides.{nat_tests}
 use Rattle.link_format.specs.Format.{has}
