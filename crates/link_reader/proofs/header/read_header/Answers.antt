@@ -4,9 +4,9 @@ use Rattle.std.proofs.lemmas.Bool.Decides.{nat_tests}
 use Rattle.table.specs.Refusals.{count_bad}
 use Rattle.link_format.specs.Format.{header_bits}
 use Rattle.link_format.proofs.Counts.{few_nodes}
-use Rattle.link_fields.proofs.Checks.{failed, passed}
+use Rattle.link_fields.proofs.Checks.{failed, passed, passed_on}
 use Rattle.link_fields.proofs.bit_maps.Bytes.{same_byte, other_byte}
-use Rattle.link_reader.proofs.Refused.{refused_as, passed_on}
+use Rattle.link_reader.proofs.Refused.{refused_as}
 use Rattle.link_reader.proofs.header.Ways.{header_empty, header_forbidden, cut_n, bad_n, cut_origin, wanted_refused, header_needless, header_got}
 use Rattle.link_reader.proofs.header.read_header.Goals as goal
 use Rattle.link_reader.proofs.header.read_header.Goals.{Else-is_empty, In_ok-check_count}
@@ -34,7 +34,7 @@ returns-in_default-read_field c =
 pub returns-in_err-check_count : goal.returns-in_err-check_count
 returns-in_err-check_count c =
     let bad = failed _ _ 1 0 c.in_err-check_count.ensures in
-    passed_on _ _ _ c.from_residual.ensures.1
+    rw (passed_on _ _ c.from_residual.ensures.1)
     (refused_as _ bad.1 (bad_n _ (some (goal.at.returns-in_err-check_count c).Else-is_empty) _ c.in-Some.ensures c.in-Some-read_field.ensures bad.0))
 
 pub returns-in_default-read_optional : goal.returns-in_default-read_optional
@@ -49,7 +49,7 @@ read_wanted-requires-clause-few c = few_nodes (fine (goal.at.read_wanted-require
 pub returns-in_err-wanted : goal.returns-in_err-wanted
 returns-in_err-wanted c =
     let here = goal.at.returns-in_err-wanted c in
-    passed_on _ _ _ c.from_residual-in_err-wanted.ensures.1
+    rw (passed_on _ _ c.from_residual-in_err-wanted.ensures.1)
     (wanted_refused _ (some here.Else-is_empty) _ c.in-Some.ensures c.in-Some-read_field.ensures (fine here.In_ok-check_count) c.in-Some-read_optional.ensures c.in_err-wanted.ensures)
 
 pub returns-then-ne : goal.returns-then-ne

@@ -1,7 +1,8 @@
 -- `header::read_wanted` meets its contract: each `return` is one way out of reading the wanted list. Assumes nothing.
 use Rattle.std.proofs.Common.{arith}
 use Rattle.std.proofs.lemmas.Bool.Decides.{nat_tests}
-use Rattle.link_reader.proofs.Refused.{refused_as, passed_on}
+use Rattle.link_fields.proofs.Checks.{passed_on}
+use Rattle.link_reader.proofs.Refused.{refused_as}
 use Rattle.link_reader.proofs.header.Ways.{wanted_absent, wanted_cut_count, wanted_many, nodes_refused, wanted_got}
 use Rattle.link_reader.proofs.header.read_wanted.Goals as goal
 
@@ -16,7 +17,7 @@ returns-then-count-gt-MOST_WANTED c = refused_as _ c.at-then-count-gt-MOST_WANTE
     (rw c.if-not-listed.false (wanted_many _ _ _ c.in-Some.ensures c.if-count-gt-MOST_WANTED.true))
 
 pub returns-in_err-nodes : goal.returns-in_err-nodes
-returns-in_err-nodes c = passed_on _ _ _ c.from_residual.ensures.1
+returns-in_err-nodes c = rw (passed_on _ _ c.from_residual.ensures.1)
     (rw c.if-not-listed.false (nodes_refused _ _ _ c.in-Some.ensures c.if-count-gt-MOST_WANTED.false c.in_err-nodes.ensures))
 
 pub returns-then-count-n : goal.returns-then-count-n

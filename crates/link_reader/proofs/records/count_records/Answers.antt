@@ -1,7 +1,8 @@
 -- `records::count_records` meets its contract: one law of `Runs` for each way on and out. Assumes nothing.
 use Rattle.std.proofs.Common.{sym, ap, ◌∙◌, arith}
 use Rattle.link_reader.proofs.records.Runs.{part_is, standing_next, run_more, count_of, count_more, all_counted, one_refused, one_too_many}
-use Rattle.link_reader.proofs.Refused.{refused_as, passed_on}
+use Rattle.link_fields.proofs.Checks.{passed_on}
+use Rattle.link_reader.proofs.Refused.{refused_as}
 use Rattle.link_reader.proofs.records.count_records.Goals as goal
 
 pub returns-then-at-file : goal.returns-then-at-file
@@ -10,7 +11,7 @@ returns-then-at-file c = let all = all_counted _ _ _ _ _ c.loop-count.invariant.
 pub returns-in_err-record : goal.returns-in_err-record
 returns-in_err-record c =
     let stands = c.loop-count.invariant.stands in
-    passed_on _ _ _ c.from_residual.ensures.1
+    rw (passed_on _ _ c.from_residual.ensures.1)
     (one_refused _ _ _ _ _ c.loop-count.invariant.same (omega (arith, stands.inside)) c.loop-count-test.true (rw part_is at c.in_err-record.ensures))
 
 pub loop-count-preserved : goal.loop-count-preserved
