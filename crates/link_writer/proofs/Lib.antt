@@ -1,4 +1,2 @@
 -- Laws that several functions share.
 pub mod Pieces
-pub mod Sizes
-pub mod HeaderBytes

@@ -1,21 +1,17 @@
--- What the sizes of the writer's own functions mean, and what putting a header asks for, in the terms of Format.antt. Assumes nothing: these are
--- definitions.
-use Rattle.std.specs.Prelude.{List, ◌≡◌, ℕ, suc, ◌≤◌, length}
-use Rattle.link_format.specs.Format.{most_header, most_record, header_bits, header_bytes, fields_bytes}
-use Rattle.table.specs.Table.{Arc, most_wanted}
+-- What the writer's structs stand for, in the terms of Format.antt. Assumes nothing: these are definitions.
+use Rattle.std.specs.Prelude.{List, ℕ, get_or}
+use Rattle.table.specs.declared.links.Columns.{Columns}
+use Rattle.table.specs.Table.{Arc, arc, arcs_of}
+use Rattle.link_format.specs.Format.{header_bytes}
+use Rattle.link_writer.specs.declared.header.Header.{Header}
 
--- the size of a record with a bit map, whatever its arc
-pub record RecordSized (bits size : ℕ) : Type 0 where
-  pub is : (a : Arc) → size ≡ suc (length (fields_bytes bits a))
-  pub near : size ≤ most_record
+-- a header's bytes
+abbrev pub bytes_of : Header → List ℕ
+bytes_of h = header_bytes h.n h.origin h.wanted.now
 
--- the size of a header with a bit map and so many wanted nodes
-pub record HeaderSized (bits wanted size : ℕ) : Type 0 where
-  pub is : (n o : ℕ) (ws : List ℕ) → length ws ≡ wanted → bits ≡ header_bits n o ws → size ≡ length (header_bytes n o ws)
-  pub near : size ≤ most_header
+-- the arc at a position of the columns, and all of them
+abbrev pub arc_in : Columns → (i : ℕ) → Arc
+arc_in c i = arc (get_or c.tails.now i 0) (get_or c.heads.now i 0) (get_or c.lengths.now i 0)
 
--- a header may be put: its bit map is the canonical one, and there is room
-pub record HeaderAsks (n origin : ℕ) (wanted : List ℕ) (bits : ℕ) (output : List ℕ) : Type 0 where
-  pub canonical : bits ≡ header_bits n origin wanted
-  pub room : length (header_bytes n origin wanted) ≤ length output
-  pub few : length wanted ≤ most_wanted
+abbrev pub arcs_in : Columns → List Arc
+arcs_in c = arcs_of c.tails.now c.heads.now c.lengths.now

@@ -1,0 +1,78 @@
+// Writing the records of arcs.
+ghost use Rattle.std.specs.Prelude.{◌≡◌, ◌*◌, ◌+◌, ◌≤◌, ◌<◌, length};
+ghost use Rattle.std.proofs.Math.Option.{none};
+ghost use Rattle.std.proofs.lemmas.List.Edits.{sets};
+ghost use Rattle.table.specs.Table.{most_arcs};
+ghost use Rattle.link_format.specs.Format.{most_record, record_bytes, records_bytes};
+ghost use Rattle.link_fields.specs.Fields.{arc_of, arc_before, Put};
+ghost use Rattle.link_writer.specs.Says.{arc_in, arcs_in};
+
+use link_fields::arcs::Arc;
+use link_fields::fields::{LENGTH_WIDTH, MAP_WIDTH, NODE_WIDTH, put_optional};
+use table::links::Columns;
+
+// The arc at a position of the columns.
+fn arc_at(columns: Columns, i: usize) -> Arc
+    requires { i < length columns.tails.now }
+    ensures { arc_of result ≡ arc_in columns.entry i }
+{
+    Arc {
+        tail: columns.tails[i],
+        head: columns.heads[i],
+        length: columns.lengths[i],
+    }
+}
+
+// The size of an arc's record.
+fn record_size(previous: Option<Arc>, arc: Arc) -> usize
+    ensures same { result ≡ length (record_bytes (arc_before previous) (arc_of arc)) }
+    ensures low { result ≤ most_record }
+{
+    let map = arc.bit_map(previous);
+    let tail = usize::from(map.first) * NODE_WIDTH;
+    let head = usize::from(map.second) * NODE_WIDTH;
+    let length = usize::from(map.third) * LENGTH_WIDTH;
+    MAP_WIDTH + tail + head + length
+}
+
+// The size of all records.
+pub fn records_size(columns: Columns) -> usize
+    ensures same { result ≡ length (records_bytes none (arcs_in columns.entry)) }
+    ensures low { result ≤ most_record * most_arcs }
+{
+    let mut size = 0;
+    let mut previous = None;
+    for i in 0..columns.tails.len() {
+        let arc = arc_at(columns, i);
+        size += record_size(previous, arc);
+        previous = Some(arc);
+    }
+    size
+}
+
+// Puts one record.
+fn write_record(output: &mut [u8], at: usize, previous: Option<Arc>, arc: Arc) -> usize
+    requires { at + length (record_bytes (arc_before previous) (arc_of arc)) ≤ length output.old }
+    ensures { Put output.old at (record_bytes (arc_before previous) (arc_of arc)) result output.new }
+{
+    let map = arc.bit_map(previous);
+    output[at] = u8::from(map);
+    let at = at + MAP_WIDTH;
+    let at = put_optional(output, at, NODE_WIDTH, map.first, usize::from(arc.tail));
+    let at = put_optional(output, at, NODE_WIDTH, map.second, usize::from(arc.head));
+    put_optional(output, at, LENGTH_WIDTH, map.third, arc.length as usize)
+}
+
+// Puts all records.
+pub fn write_records(output: &mut [u8], start: usize, columns: Columns)
+    requires { start + length (records_bytes none (arcs_in columns)) ≤ length output.old }
+    ensures { output.new ≡ sets output.old start (records_bytes none (arcs_in columns.entry)) }
+{
+    let mut at = start;
+    let mut previous = None;
+    for i in 0..columns.tails.len() {
+        let arc = arc_at(columns, i);
+        at = write_record(output, at, previous, arc);
+        previous = Some(arc);
+    }
+}
