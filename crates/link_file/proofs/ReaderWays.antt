@@ -3,7 +3,7 @@ use mathlib.Core.Bool.{true}
 use mathlib.Core.List.{List}
 use mathlib.Core.Option.{none}
 use mathlib.Core.Path.{◌≡◌, refl, ap, ◌∙◌}
-use Prim.Native.Nat.{ℕ, ◌+◌, ◌≤◌}
+use Prim.Native.Nat.{ℕ, ◌≤◌}
 use native.Mathlib.Nat.{zero-add}
 use native.Mathlib.Omega.{arith}
 use lib.ListN.{length, drop, length-map}
@@ -16,36 +16,17 @@ use Rattle.link_format.specs.Reading.{◌>>=◌, Outcome, got, refused, accepted
 use Rattle.link_format.proofs.Counts.{Roomy}
 use Rattle.link_format.proofs.Records.{few_records}
 use Rattle.link_file.specs.Entries.{read_answer, ReadSays}
-use Rattle.link_file.specs.Says.{header_answer}
-use Rattle.link_reader.specs.Says.{arcs_from, wanted_of, HeaderGot, count_of, records_from}
-use Rattle.link_file.specs.declared.TableRead.{TableRead}
+use Rattle.link_file.specs.Says.{table_answer}
+use Rattle.link_reader.specs.Says.{arcs_from, wanted_of, HeaderGot, Counted, records_from}
 use Rattle.link_reader.specs.declared.header.Header.{Header}
-use Rattle.link_reader.specs.declared.records.Counted.TheVariants.{Arcs, Refused}
-use Rattle.table.specs.declared.Refusal.{Refusal}
+use Rattle.std.specs.Prelude.{Ok}
+use Rattle.table.specs.Told.{number, tells}
+use Rattle.table.specs.declared.faults.Refusal.{Refusal}
 
 -- a list stored from the start
 pub sets_over : (xs buffer : List ℕ) → length xs ≤ length buffer → sets buffer 0 xs ≡ over xs buffer
 unfolding over
 sets_over xs buffer h = sets-eq xs buffer 0 (rw (zero-add (length xs)) h) ∙ rw (zero-add (length xs))
-
--- a count of records, by its case
-count_refused : (o : Outcome (List Arc)) {f : Refusal} → count_of 0 o ≡ Refused f → o ≡ refused f.number f.place
-unfolding count_of refusal
-count_refused (got arcs at rest) e = let z : ◌≡◌ {A = ℕ} 0 1 = cc in absurd (omega arith)
-count_refused (refused n p) {f} e = let same : record { number = n; place = p } ≡ f = cc in rw (← same)
-
-pub count_accepted : (o : Outcome (List Arc)) {k : ℕ} → count_of 0 o ≡ Arcs k → accepted o ≡ true
-unfolding count_of accepted
-count_accepted (got arcs at rest) e = refl
-count_accepted (refused n p) e = let z : ◌≡◌ {A = ℕ} 0 1 = cc in absurd (omega arith)
-
-count_of_length : (o : Outcome (List Arc)) {k : ℕ} → count_of 0 o ≡ Arcs k → length (list_got o) ≡ k
-unfolding count_of list_got
-count_of_length (got arcs at rest) {k} e = let c : 0 + length arcs ≡ k = cc in omega arith
-count_of_length (refused n p) e = let z : ◌≡◌ {A = ℕ} 0 1 = cc in absurd (omega arith)
-
-pub count_of_few : (file : List ℕ) (start : ℕ) {k : ℕ} → count_of 0 (records_from file start) ≡ Arcs k → k ≤ most_arcs
-count_of_few file start e = omega (arith, count_of_length (records_from file start) e, few_records most_arcs none start (drop start file))
 
 -- a refusal of the header, or of a record, is the file's
 pub header_refuses : (file : List ℕ) {n p : ℕ} → read_header 0 file ≡ refused n p → read_file file ≡ refused n p
@@ -61,9 +42,9 @@ module _ (file : List ℕ) (h : Header) (g : HeaderGot file h) where
   unfolding read_file read_content ◌>>=◌ and_then content
   with_records = rw g.is
 
-  pub records_refuse : {f : Refusal} → count_of 0 (records_from file h.next) ≡ Refused f → read_file file ≡ refused f.number f.place
+  pub records_refuse : {n p : ℕ} → records_from file h.next ≡ refused n p → read_file file ≡ refused n p
   unfolding and_then
-  records_refuse e = with_records ∙ rw (count_refused (records_from file h.next) e)
+  records_refuse e = with_records ∙ rw e
 
   -- both were read: the file's content
   content_read : (o : Outcome (List Arc)) → accepted o ≡ true → content_of (and_then o (λ (arcs : List Arc). give (whole arcs))) ≡ whole (list_got o)
@@ -76,35 +57,37 @@ module _ (file : List ℕ) (h : Header) (g : HeaderGot file h) where
   nothing_refused (got arcs at rest) e = refl
   nothing_refused (refused n p) e = let z : ◌≡◌ {A = ℕ} 0 1 = cc in absurd (omega arith)
 
-  pub read_whole : {k : ℕ} {tails heads lengths wanted tails' heads' lengths' wanted' : List ℕ} {r : TableRead}
-      → reading file tails heads lengths wanted ≡ read_file file
-      → Roomy (length tails) (length heads) (length lengths) (length wanted)
-      → count_of 0 (records_from file h.next) ≡ Arcs k
-      → tails' ≡ sets tails 0 (tails_of (arcs_from file h.next))
-      → heads' ≡ sets heads 0 (heads_of (arcs_from file h.next))
-      → lengths' ≡ sets lengths 0 (lengths_of (arcs_from file h.next))
-      → wanted' ≡ sets wanted 0 (wanted_of file h)
-      → r ≡ header_answer h k
-      → ReadSays file tails heads lengths wanted tails' heads' lengths' wanted' r
-  unfolding read_answer header_answer content no_refusal refusal tails_of heads_of lengths_of
-  read_whole {k} {tails} {heads} {lengths} {wanted} all room counted tails_are heads_are lengths_are wanted_is answer =
-      let good : accepted (records_from file h.next) ≡ true = count_accepted (records_from file h.next) counted in
-      let few : length (arcs_from file h.next) ≤ most_arcs = few_records most_arcs none h.next (drop h.next file) in
-      let is : content_of (reading file tails heads lengths wanted) ≡ whole (arcs_from file h.next) =
-      ap content_of (all ∙ with_records) ∙ content_read (records_from file h.next) good in
-      let clean : refusal_of (reading file tails heads lengths wanted) ≡ no_refusal =
-      ap refusal_of (all ∙ with_records) ∙ nothing_refused (records_from file h.next) good in
-      record {
-        answer = answer ∙ rw (is, clean, count_of_length (records_from file h.next) counted, g.size);
-        tails_are = tails_are ∙ rw is (sets_over _ tails (rw length-map (omega (arith, room.tails_room))));
-        heads_are = heads_are ∙ rw is (sets_over _ heads (rw length-map (omega (arith, room.heads_room))));
-        lengths_are = lengths_are ∙ rw is (sets_over _ lengths (rw length-map (omega (arith, room.lengths_room))));
-        wanted_are = wanted_is ∙ rw is (sets_over (wanted_of file h) wanted (omega (arith, room.wanted_room, g.size, g.few)));
-      }
+  module _ {k : ℕ} (counted : Counted file h.next k) where
+    few_arcs : length (arcs_from file h.next) ≤ most_arcs
+    few_arcs = few_records most_arcs none h.next (drop h.next file)
+
+    pub count_few : k ≤ most_arcs
+    count_few = omega (arith, counted.is, few_arcs)
+
+    pub read_whole : {tails heads lengths wanted tails' heads' lengths' wanted' : List ℕ}
+        → reading file tails heads lengths wanted ≡ read_file file
+        → Roomy (length tails) (length heads) (length lengths) (length wanted)
+        → tails' ≡ sets tails 0 (tails_of (arcs_from file h.next))
+        → heads' ≡ sets heads 0 (heads_of (arcs_from file h.next))
+        → lengths' ≡ sets lengths 0 (lengths_of (arcs_from file h.next))
+        → wanted' ≡ sets wanted 0 (wanted_of file h)
+        → ReadSays file tails heads lengths wanted tails' heads' lengths' wanted' (table_answer (Ok (h, k)))
+    unfolding read_answer content no_refusal refusal tails_of heads_of lengths_of
+    read_whole {tails} {heads} {lengths} {wanted} all room tails_are heads_are lengths_are wanted_is =
+        let is : content_of (reading file tails heads lengths wanted) ≡ whole (arcs_from file h.next) =
+        ap content_of (all ∙ with_records) ∙ content_read (records_from file h.next) counted.good in
+        let clean : refusal_of (reading file tails heads lengths wanted) ≡ no_refusal =
+        ap refusal_of (all ∙ with_records) ∙ nothing_refused (records_from file h.next) counted.good in
+        record {
+          answer = rw (is, clean, counted.is, g.size);
+          tails_are = tails_are ∙ rw is (sets_over _ tails (rw length-map (omega (arith, few_arcs, room.tails_room))));
+          heads_are = heads_are ∙ rw is (sets_over _ heads (rw length-map (omega (arith, few_arcs, room.heads_room))));
+          lengths_are = lengths_are ∙ rw is (sets_over _ lengths (rw length-map (omega (arith, few_arcs, room.lengths_room))));
+          wanted_are = wanted_is ∙ rw is (sets_over (wanted_of file h) wanted (omega (arith, room.wanted_room, g.size, g.few)));
+        }
 
 -- the answer to a refusal, with the buffers as they were
-pub none_read : (file : List ℕ) {tails heads lengths wanted : List ℕ} {f : Refusal} {r : TableRead}
-    → reading file tails heads lengths wanted ≡ refused f.number f.place
-    → r ≡ read_answer f no_content → ReadSays file tails heads lengths wanted tails heads lengths wanted r
-unfolding refusal_of refusal content_of no_content content tails_of heads_of lengths_of over
-none_read file e answer = record { answer = answer ∙ rw e; tails_are = rw e; heads_are = rw e; lengths_are = rw e; wanted_are = rw e }
+pub none_read : (r : Refusal) (file : List ℕ) {tails heads lengths wanted : List ℕ} → reading file tails heads lengths wanted ≡ refused (number r.fault) r.place
+    → ReadSays file tails heads lengths wanted tails heads lengths wanted (read_answer (tells r) no_content)
+unfolding refusal_of content_of no_content content tails_of heads_of lengths_of over
+none_read r file e = record { answer = rw e; tails_are = rw e; heads_are = rw e; lengths_are = rw e; wanted_are = rw e }

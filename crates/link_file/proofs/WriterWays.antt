@@ -16,8 +16,11 @@ use Rattle.link_file.specs.Entries.{write_answer, WriteSays}
 use Rattle.link_fields.specs.Fields.{Put}
 use Rattle.link_file.proofs.ReaderWays.{sets_over}
 use Rattle.link_writer.proofs.Pieces.{put_then}
-use Rattle.link_file.specs.declared.Written.{Written}
-use Rattle.table.specs.declared.Refusal.{Refusal}
+use Rattle.link_file.specs.Says.{file_answer}
+use Rattle.std.specs.Prelude.{Ok}
+use Rattle.table.specs.Told.{number, tells}
+use Rattle.table.specs.declared.faults.Refusal.{Refusal}
+use Rattle.link_fields.proofs.Checks.{some_number}
 use native.Mathlib.Omega.{arith}
 
 module _ (n o : ℕ) (ts hs ls ws out : List ℕ) where
@@ -25,12 +28,9 @@ module _ (n o : ℕ) (ts hs ls ws out : List ℕ) where
   unfolding file_of file_bytes content
   file_size = length-append (header_bytes n o ws) (records_bytes none (arcs_of ts hs ls))
 
-  pub none_written : {f : Refusal} {r : Written} (k p : ℕ) → 0 < k → f ≡ refusal k p → writing n o ts hs ls ws (length out) ≡ refusal k p
-      → r ≡ write_answer f 0 → WriteSays n o ts hs ls ws out out r
+  pub none_written : (r : Refusal) → writing n o ts hs ls ws (length out) ≡ tells r → WriteSays n o ts hs ls ws out out (write_answer (tells r) 0)
   unfolding put_bytes over refusal
-  none_written k p some f_is e answer =
-      let real : eqb k 0 ≡ false = ne_eqb k 0 (omega (arith, some)) in
-      record { answer = answer ∙ rw (e, f_is, real); output_is = rw (e, real) }
+  none_written r e = let real : eqb (number r.fault) 0 ≡ false = ne_eqb (number r.fault) 0 (omega (arith, some_number r.fault)) in record { answer = rw (e, real); output_is = rw (e, real) }
 
   pub refuses_count : count_bad n ≡ true → writing n o ts hs ls ws (length out) ≡ refusal 1 0
   unfolding writing
@@ -55,14 +55,14 @@ module _ (n o : ℕ) (ts hs ls ws out : List ℕ) where
         unfolding writing
         accepts room = rw (fine, equal, le-ltb most_wanted (length ws) few, le-ltb (length out) (length (file_of n o ts hs ls ws)) room)
 
-        pub all_written : {at size : ℕ} {out₁ out₂ : List ℕ} {r : Written} → size ≡ length (file_of n o ts hs ls ws) → length (file_of n o ts hs ls ws) ≤ length out
+        pub all_written : {at size : ℕ} {out₁ out₂ : List ℕ} → size ≡ length (file_of n o ts hs ls ws) → length (file_of n o ts hs ls ws) ≤ length out
             → Put out 0 (header_bytes n o ws) at out₁ → out₂ ≡ sets out₁ at (records_bytes none (arcs_of ts hs ls))
-            → r ≡ record { number = 0; place = 0; length = size } → WriteSays n o ts hs ls ws out out₂ r
+            → WriteSays n o ts hs ls ws out out₂ (file_answer (Ok size))
         unfolding put_bytes write_answer no_refusal refusal file_of file_bytes content
-        all_written {at} {size} {out₁} {out₂} is room head records answer =
+        all_written {at} {size} {out₁} {out₂} is room head records =
             let whole : Put out 0 (header_bytes n o ws ++ records_bytes none (arcs_of ts hs ls)) (at + length (records_bytes none (arcs_of ts hs ls))) out₂ =
             put_then head (record { on = refl; is = records }) in
             record {
-              answer = answer ∙ rw (accepts room, is);
+              answer = rw (accepts room, is);
               output_is = rw (accepts room) (whole.is ∙ sets_over (header_bytes n o ws ++ records_bytes none (arcs_of ts hs ls)) out room);
             }

@@ -2,17 +2,20 @@
 // what reading bytes gives; specs/Entries.antt says what the two entries answer.
 #![tactic(auto)]
 
-ghost use Rattle.std.specs.Prelude.{◌≡◌, ◌≤◌};
+ghost use Rattle.std.specs.Prelude.{◌≡◌, ◌≤◌, IfOk};
 ghost use Rattle.table.specs.Table.{most_nodes, most_arcs, most_wanted};
+ghost use Rattle.table.specs.Told.{tells};
 ghost use Rattle.link_format.specs.Buffers.{too_short, no_content};
+ghost use Rattle.link_format.specs.Format.{most_file};
 ghost use Rattle.link_file.specs.Entries.{read_answer, ReadsFile, write_answer, WritesFile};
-ghost use Rattle.link_file.specs.Says.{header_answer};
+ghost use Rattle.link_file.specs.Says.{table_answer, file_answer};
 
-use link_fields::fields::{narrow, refuse};
-use link_reader::header::{Header, HeaderRead};
-use link_reader::records::Counted;
-use link_reader::{header, records};
-use table::{MOST_ARCS, MOST_WANTED, Refusal};
+use link_reader::header::{Header, fill_wanted, read_header};
+use link_reader::records::{count_records, fill_records};
+use link_writer::header::Header as FileHeader;
+use link_writer::records::{records_size, write_records};
+use table::faults::{Fault, Refusal};
+use table::{MOST_ARCS, MOST_WANTED};
 
 // What reading a link file answers: the refusal's number and place, both 0 where there is none, and the node count, the origin and how many
 // arcs and wanted nodes there are, all 0 in a refusal.
@@ -37,31 +40,31 @@ pub struct Written {
 }
 
 // The answer to a file that is refused: no table.
-fn not_read(refusal: Refusal) -> TableRead
-    ensures { result ≡ read_answer refusal no_content }
-{
-    TableRead {
-        number: refusal.number,
-        place: refusal.place,
-        n: 0,
-        origin: 0,
-        arcs: 0,
-        wanted: 0,
+impl From<Refusal> for TableRead {
+    ghost from_gives = { λ refusal answer. answer ≡ read_answer (tells refusal) no_content };
+
+    fn from(refusal: Refusal) -> TableRead {
+        TableRead {
+            number: refusal.fault.number(),
+            place: refusal.place,
+            n: 0,
+            origin: 0,
+            arcs: 0,
+            wanted: 0,
+        }
     }
 }
 
-// The answer to a file that is read: what its header says, and how many arcs there are.
-fn all_read(header: Header, arcs: usize) -> TableRead
-    requires { (header.n ≤ most_nodes) × ((header.wanted ≤ most_wanted) × (arcs ≤ most_arcs)) }
-    ensures { result ≡ header_answer header arcs }
-{
-    TableRead {
-        number: Refusal::NONE,
-        place: 0,
-        n: narrow(header.n),
-        origin: header.origin,
-        arcs: narrow(arcs),
-        wanted: narrow(header.wanted),
+// The answer where nothing is written.
+impl From<Refusal> for Written {
+    ghost from_gives = { λ refusal answer. answer ≡ write_answer (tells refusal) 0 };
+
+    fn from(refusal: Refusal) -> Written {
+        Written {
+            number: refusal.fault.number(),
+            place: refusal.place,
+            length: 0,
+        }
     }
 }
 
@@ -69,16 +72,28 @@ fn all_read(header: Header, arcs: usize) -> TableRead
 fn short(tails: usize, heads: usize, lengths: usize, wanted: usize) -> bool
     ensures { result ≡ too_short tails heads lengths wanted }
 {
-    if tails < MOST_ARCS {
-        return true;
+    tails < MOST_ARCS || heads < MOST_ARCS || lengths < MOST_ARCS || wanted < MOST_WANTED
+}
+
+// Reads the header and counts the arcs, and fills the buffers.
+fn read_table(
+    file: &[u8],
+    tails: &mut [u16],
+    heads: &mut [u16],
+    lengths: &mut [u32],
+    wanted: &mut [u16],
+) -> Result<(Header, usize), Refusal>
+    ensures answer { ReadsFile file tails heads lengths wanted (table_answer result) }
+    ensures few { IfOk result (λ t. (t.0.n ≤ most_nodes) × (t.0.wanted ≤ most_wanted) × (t.1 ≤ most_arcs)) }
+{
+    if short(tails.len(), heads.len(), lengths.len(), wanted.len()) {
+        return Err(Fault::Buffers.at(0));
     }
-    if heads < MOST_ARCS {
-        return true;
-    }
-    if lengths < MOST_ARCS {
-        return true;
-    }
-    wanted < MOST_WANTED
+    let header = read_header(file)?;
+    let arcs = count_records(file, header.next)?;
+    fill_wanted(file, header, wanted);
+    fill_records(file, header.next, tails, heads, lengths);
+    Ok((header, arcs))
 }
 
 // Reads a link file: the arcs go to the starts of the three columns, which are at least 6,000 long, the wanted nodes to the start of a buffer of
@@ -92,34 +107,45 @@ pub fn read_link_file(
 ) -> TableRead
     ensures { ReadsFile file tails heads lengths wanted result }
 {
-    if short(tails.len(), heads.len(), lengths.len(), wanted.len()) {
-        return not_read(refuse(Refusal::BUFFERS, 0));
-    }
-    match header::read_header(file) {
-        HeaderRead::Refused(refusal) => not_read(refusal),
-        HeaderRead::Read(header) => {
-            let next = header.next;
-            match records::count_records(file, next) {
-                Counted::Refused(refusal) => not_read(refusal),
-                Counted::Arcs(arcs) => {
-                    header::fill_wanted(file, header, wanted);
-                    records::fill_records(file, next, tails, heads, lengths);
-                    all_read(header, arcs)
-                }
-            }
-        }
+    match read_table(file, tails, heads, lengths, wanted) {
+        Ok((header, arcs)) => TableRead {
+            number: 0,
+            place: 0,
+            n: header.n as u32,
+            origin: header.origin,
+            arcs: arcs as u32,
+            wanted: header.wanted as u32,
+        },
+        Err(refusal) => TableRead::from(refusal),
     }
 }
 
-// The answer where nothing is written.
-fn not_written(refusal: Refusal) -> Written
-    ensures { result ≡ write_answer refusal 0 }
+// Puts the file's bytes, and gives how many there are.
+fn write_file(
+    n: usize,
+    origin: u16,
+    tails: &[u16],
+    heads: &[u16],
+    lengths: &[u32],
+    wanted: &[u16],
+    output: &mut [u8],
+) -> Result<usize, Refusal>
+    ensures answer { WritesFile n origin tails heads lengths wanted output (file_answer result) }
+    ensures low { IfOk result (λ size. size ≤ most_file) }
 {
-    Written {
-        number: refusal.number,
-        place: refusal.place,
-        length: 0,
+    table::check_count(n)?;
+    let columns = table::check_columns(tails, heads, lengths)?;
+    if MOST_WANTED < wanted.len() {
+        return Err(Fault::Wanted.at(MOST_WANTED));
     }
+    let header = FileHeader::new(n, origin, wanted);
+    let size = header.size() + records_size(columns);
+    if output.len() < size {
+        return Err(Fault::Room.at(0));
+    }
+    let at = header.write(output);
+    write_records(output, at, columns);
+    Ok(size)
 }
 
 // Writes a table as a link file at the start of the output and gives the file's length. A refusal leaves the output as it was. The elements of
@@ -135,27 +161,12 @@ pub fn write_link_file(
 ) -> Written
     ensures { WritesFile n origin tails heads lengths wanted output result }
 {
-    let n = n as usize;
-    if table::bad_count(n) {
-        return not_written(refuse(Refusal::NODE_COUNT, 0));
-    }
-    if table::bad_columns(tails.len(), heads.len(), lengths.len()) {
-        return not_written(refuse(Refusal::COLUMNS, 0));
-    }
-    if MOST_WANTED < wanted.len() {
-        return not_written(refuse(Refusal::WANTED, MOST_WANTED));
-    }
-    let bits = link_writer::header_bits(n, origin, wanted);
-    let size = link_writer::header_size(bits, wanted.len())
-        + link_writer::records_size(tails, heads, lengths);
-    if output.len() < size {
-        return not_written(refuse(Refusal::ROOM, 0));
-    }
-    let at = link_writer::write_header(n, origin, wanted, bits, output);
-    link_writer::write_records(tails, heads, lengths, at, output);
-    Written {
-        number: Refusal::NONE,
-        place: 0,
-        length: narrow(size),
+    match write_file(n as usize, origin, tails, heads, lengths, wanted, output) {
+        Ok(size) => Written {
+            number: 0,
+            place: 0,
+            length: size as u32,
+        },
+        Err(refusal) => Written::from(refusal),
     }
 }
