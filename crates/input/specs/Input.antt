@@ -1,7 +1,7 @@
 -- What the function that reads and plans leaves behind. Assumes nothing: these are definitions.
-use Rattle.std.specs.Prelude.{◌≡◌, List, ℕ, ◌≤◌, ◌<◌, length, take}
+use Rattle.std.specs.Prelude.{◌≡◌, List, ℕ, ◌≤◌, ◌<◌, length, replicate, take}
 use Rattle.table.specs.Table.{most_nodes, most_arcs, most_wanted}
-use Rattle.table.specs.Slices.{Slice, was, Buffer, had, left}
+use Rattle.table.specs.Slices.{Slice, was, Buffer, left}
 use Rattle.link_format.specs.Format.{Content}
 use Rattle.link_format.specs.Reading.{Outcome, refused}
 use Rattle.link_file.specs.declared.TableRead.{TableRead}
@@ -9,9 +9,10 @@ use Rattle.link_file.specs.Entries.{LeftByReading}
 use Rattle.link_file.specs.Promises.{CountsFit}
 use Rattle.hand_over.specs.declared.Planned.{Planned}
 use Rattle.hand_over.specs.Answered.{answered}
-use Rattle.sheet.specs.Sheet.{Finished, to_print, finished, sheet}
+use Rattle.sheet.specs.Sheet.{Finished, finished, sheet}
 use Rattle.sheet.specs.Printed.{read_input, lines_of, printed}
 use Rattle.input.specs.declared.PlannedInput.{PlannedInput}
+use Rattle.input.specs.declared.Room.{Room}
 
 -- the columns and the buffers that are lent have room for every table
 pub record ColumnsRoomy (tails heads lengths wanted : List ℕ) : Type 0 where
@@ -26,6 +27,20 @@ pub record BuffersRoomy (distances prices tree marks : List ℕ) : Type 0 where
   pub tree_long : most_nodes ≤ length tree
   pub marks_long : most_arcs ≤ length marks
 
+-- a room with nothing in it yet
+unfoldable pub zeros : Room
+zeros =
+    record {
+      tails = replicate most_arcs 0;
+      heads = replicate most_arcs 0;
+      lengths = replicate most_arcs 0;
+      wanted = replicate most_wanted 0;
+      distances = replicate most_nodes 0;
+      prices = replicate most_nodes 0;
+      tree = replicate most_nodes 0;
+      marks = replicate most_arcs 0;
+    }
+
 -- the answer to a file that is refused
 unfoldable pub refused_file : (number place : ℕ) → Planned
 refused_file n p =
@@ -37,10 +52,10 @@ printing_read r a ts hs ws ds ps tr ms =
     finished r.origin (take r.arcs ts) (take r.arcs hs) (take r.wanted ws)
     (answered a (take r.n ds) (take r.n ps) (take r.n tr) (take r.arcs ms))
 
--- what reading the input did, of the slices that were lent
-abbrev pub ReadsInput : (input : Slice) → (tails heads lengths wanted : Buffer) → TableRead → Type 0
-ReadsInput input ts hs ls ws r =
-    LeftByReading (read_input (was input)) (had ts) (had hs) (had ls) (had ws) (left ts) (left hs) (left ls) (left ws) r
+-- what reading the input did to the columns
+abbrev pub ReadsInput : (input : List ℕ) → (old new : Room) → TableRead → Type 0
+ReadsInput input o n r =
+    LeftByReading (read_input input) o.tails o.heads o.lengths o.wanted n.tails n.heads n.lengths n.wanted r
 
 -- a reader's refusal has a number, and it is not 8, on which a plan is made all the same
 unfoldable pub RefusesWell : Outcome Content → Type 0
@@ -52,11 +67,7 @@ PlansRead r ts hs ls ws ds ps tr ms a =
     (o : Outcome Content) (ts₀ hs₀ ls₀ ws₀ : List ℕ) → RefusesWell o → LeftByReading o ts₀ hs₀ ls₀ ws₀ (was ts) (was hs) (was ls) (was ws) r →
     sheet (printing_read r a (was ts) (was hs) (was ws) (left ds) (left ps) (left tr) (left ms)) ≡ lines_of o
 
--- THE CONTRACT of plan_input: the counts are within the buffers, and the sheet of the answer, the columns and the buffers is what is printed of the input.
-pub record Ready (input : List ℕ) (r : PlannedInput) (tails heads wanted distances prices tree marks : List ℕ) : Type 0 where
+-- THE CONTRACT of plan_input: the counts are within the room, and the sheet of the answer, the columns and the buffers is what is printed of the input.
+pub record Ready (input : List ℕ) (r : PlannedInput) (o : Room) : Type 0 where
   pub counts : CountsFit r.read
-  pub prints : sheet (printing_read r.read r.answer tails heads wanted distances prices tree marks) ≡ printed input
-
--- What the printing loop asks: the sheet of the answer and of the columns that are lent is what is printed of the input.
-abbrev pub Prints : (input : List ℕ) → Planned → (origin : ℕ) → (tails heads order distances prices tree marks : List ℕ) → Type 0
-Prints input a o ts hs vs ds ps tr ms = sheet (to_print o ts hs vs (answered a ds ps tr ms)) ≡ printed input
+  pub prints : sheet (printing_read r.read r.answer o.tails o.heads o.wanted o.distances o.prices o.tree o.marks) ≡ printed input

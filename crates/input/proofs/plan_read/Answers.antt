@@ -4,9 +4,9 @@ use lib.ListN.{take}
 use Rattle.input.proofs.Planning.{part_of, refused_read, planned_parts}
 use Rattle.input.proofs.plan_read.Goals as goal
 
-pub returns-then-read-ne-NONE : goal.returns-then-read-ne-NONE
-returns-then-read-ne-NONE c o ts₀ hs₀ ls₀ ws₀ well l =
-    refused_read c.args.read ts₀ hs₀ ls₀ ws₀ _ _ _ _ _ _ _ _ o well l c.if-read-ne-NONE.true c.refused.result c.refused.ensures
+pub returns-then-read-ne0 : goal.returns-then-read-ne0
+returns-then-read-ne0 c o ts₀ hs₀ ls₀ ws₀ well l =
+    refused_read c.args.read ts₀ hs₀ ls₀ ws₀ _ _ _ _ _ _ _ _ o well l c.if-read-ne0.true c.refused.result c.refused.ensures
 
 pub returns : goal.returns
 returns c o ts₀ hs₀ ls₀ ws₀ well l =
@@ -17,7 +17,7 @@ returns c o ts₀ hs₀ ls₀ ws₀ well l =
     let p = sym (part_of a.prices.now a.read.n fits.nodes room.prices_long) in
     let t = sym (part_of a.tree.now a.read.n fits.nodes room.tree_long) in
     let m = sym (part_of a.marks.now a.read.arcs fits.arcs_few room.marks_long) in
-    planned_parts a.read ts₀ hs₀ ls₀ ws₀ _ _ _ _ o well l c.if-read-ne-NONE.false c.plan_routes.result
+    planned_parts a.read ts₀ hs₀ ls₀ ws₀ _ _ _ _ o well l c.if-read-ne0.false c.plan_routes.result
     (take a.read.n a.distances.now) (take a.read.n a.prices.now) (take a.read.n a.tree.now) (take a.read.arcs a.marks.now)
     _ _ _ _ _ _ _ _ d p t m (c.plan_routes.auto.distances ∙ d) (c.plan_routes.auto.prices ∙ p) (c.plan_routes.auto.tree ∙ t)
     (c.plan_routes.auto.marks ∙ m) c.plan_routes.ensures

@@ -1,0 +1,13 @@
+-- `input::Room::plan_input` meets its contract: what was read is planned, and what is printed of it is printed of the input. Assumes nothing.
+use Rattle.sheet.specs.Printed.{read_input, printed}
+use Rattle.input.proofs.Planning.{input_refuses_well}
+use Rattle.input.proofs.Room.plan_input.Goals as goal
+
+pub returns : goal.returns
+unfolding printed
+returns c =
+    let input = c.args.input.now in
+    record {
+      counts = c.read_input-read.ensures.fits;
+      prints = c.plan_read.ensures (read_input input) _ _ _ _ (input_refuses_well input) c.read_input-read.ensures.reads;
+    }
