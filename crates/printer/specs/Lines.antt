@@ -3,6 +3,7 @@ use Rattle.std.specs.Prelude.{◌≡◌, List, [], ◌∷◌, ◌++◌, ℕ, ◌
 use Rattle.table.specs.Slices.{Buffer, had, left}
 use Rattle.hand_over.specs.Answered.{answered}
 use Rattle.sheet.specs.Sheet.{Finished, to_print, node_count, has_distance, passing, node_lines, path_lines, marks_lines, after_nodes, from_counts, from_reached, sheet}
+use Rattle.sheet.specs.Printed.{printed}
 use Rattle.sheet_lines.specs.Buffers.{Begins}
 use Rattle.printer.specs.declared.plan.FinishedPlan.{FinishedPlan}
 use Rattle.printer.specs.declared.plan.Piece.{Piece}
@@ -12,6 +13,10 @@ use Rattle.printer.specs.declared.plan.Cursor.TheVariants.{Start, Reached, Count
 -- WHAT IS PRINTED of a plan that the code has lent: the answer, the columns, and the nodes that have a path line, in order
 unfoldable pub printing : FinishedPlan → Finished
 printing p = to_print p.origin p.tails.now p.heads.now p.order.now (answered p.answer p.distances.now p.prices.now p.tree.now p.marks.now)
+
+-- What the printing loop asks: the sheet of the plan is what is printed of an input.
+abbrev pub Prints : (input : List ℕ) → FinishedPlan → Type 0
+Prints input p = sheet (printing p) ≡ printed input
 
 -- the lines from the path line at an index of their order on, and from the line of a node on
 unfoldable pub paths_from : Finished → (i : ℕ) → List (List ℕ)
