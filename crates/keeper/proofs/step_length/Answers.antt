@@ -22,7 +22,7 @@ module _ (c : In-loop-p) where
   abbrev here : Outgoing t (let s = c.args.star.now in star s.table.columns.heads.now s.table.columns.lengths.now s.first.now s.next.now)
   here = outgoing_of c.args.star.now
 
-  inside : Readable t c.args.star.now.table.columns.heads.now c.args.star.now.next.now c.loop-p.p
+  inside : let s = c.args.star.now in Readable t s.table.columns.heads.now s.table.columns.lengths.now s.next.now c.loop-p.p
   inside = readable here c.loop-p.invariant.on_list c.loop-p-test.true
 
 pub loop-p-init : goal.loop-p-init
