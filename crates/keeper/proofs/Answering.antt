@@ -37,7 +37,8 @@ module _ (t : Table) (standing fresh : List ℕ) where
   unfolding chosen fresh_refusal refusal
   no_walk e y told = as_told y (refusal 15 0) told ∙ rw (← e) refl
 
-  pub either : (d : ℕ) → some d ≡ lent_total t fresh → (b : Bool) → b ≡ stays t standing fresh → answer (Ok b) standing fresh ≡ chosen t standing fresh
+  pub either : (d : ℕ) → some d ≡ lent_total t fresh → (b : Bool) → b ≡ stays t standing fresh →
+      answer (Ok b) standing fresh ≡ chosen t standing fresh
   unfolding chosen fresh_refusal no_refusal refusal choice
   either d e true s = rw (← e, ← s)
   either d e false s = rw (← e, ← s)
@@ -65,7 +66,8 @@ module _ (n : ℕ) (ts hs ls standing fresh : List ℕ) where
       rw take-length at (subst (λ (k : Kept). length (given k standing fresh) ≤ most_nodes) (sym e) s)
 
 -- A PART of a list that is all of it
-pub whole : (b : Bool) (standing fresh : Bor (List ℕ)) (k : Kept) → answer (Ok b) standing.now fresh.now ≡ k → Part k standing fresh (cond b standing fresh)
+pub whole : (b : Bool) (standing fresh : Bor (List ℕ)) (k : Kept) → answer (Ok b) standing.now fresh.now ≡ k →
+    Part k standing fresh (cond b standing fresh)
 unfolding kept given is_standing
 whole true standing fresh k e = rw (← e) (record { nodes = sym (take-length standing.now); begins = refl })
 whole false standing fresh k e = rw (← e) (record { nodes = sym (take-length fresh.now); begins = refl })

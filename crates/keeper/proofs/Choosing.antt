@@ -57,28 +57,34 @@ module _ (t : Table) (standing fresh : List ℕ) (most : ℕ) (total : some most
   none_standing : length standing ≡ 0 → false ≡ stays t standing fresh
   unfolding stays
   none_standing e =
-      sym (and_false (same_ends standing fresh) _ (ap (λ (o : Option ℕ). no_greater o (lent_total t fresh)) (sym (lent_none t standing e)) ∙ no_greater_none (lent_total t fresh)))
+      let none_lent = ap (λ (o : Option ℕ). no_greater o (lent_total t fresh)) (sym (lent_none t standing e)) in
+      sym (and_false (same_ends standing fresh) _ (none_lent ∙ no_greater_none (lent_total t fresh)))
+
+  -- two nodes that are read and differ
+  differ : (i j : ℕ) → i < length standing → j < length fresh → (slice_get standing i ≡ slice_get fresh j → ⊥) →
+      eqb (get_or standing i 0) (get_or fresh j 0) ≡ false
+  differ i j h l d =
+      ne_eqb (get_or standing i 0) (get_or fresh j 0)
+      (λ e. d (slice_get-get_or standing i 0 h ∙ ap code.Some e ∙ sym (slice_get-get_or fresh j 0 l)))
 
   pub other_first : (slice_get standing 0 ≡ slice_get fresh 0 → ⊥) → false ≡ stays t standing fresh
   unfolding stays same_ends first_node
   other_first d =
-      ⊎_elim none_standing
-      (λ (z : length standing ≡ 0 → ⊥).
-      let others : get_or standing 0 0 ≡ get_or fresh 0 0 → ⊥ = λ e. d (slice_get-get_or standing 0 0 (omega (arith, z)) ∙ ap code.Some e ∙ sym (slice_get-get_or fresh 0 0 some_node)) in
-      rw (ne_eqb (get_or standing 0 0) (get_or fresh 0 0) others))
-      (same_or (length standing) 0)
+      ⊎_elim none_standing (λ (z : length standing ≡ 0 → ⊥). rw (differ 0 0 (omega (arith, z)) some_node d)) (same_or (length standing) 0)
 
   pub other_last : (slice_get standing (length standing - 1) ≡ slice_get fresh (length fresh - 1) → ⊥) → false ≡ stays t standing fresh
   unfolding stays same_ends last_node
   other_last d =
       ⊎_elim none_standing
       (λ (z : length standing ≡ 0 → ⊥).
-      let others : get_or standing (length standing - 1) 0 ≡ get_or fresh (length fresh - 1) 0 → ⊥ =
-      λ e. d (slice_get-get_or standing (length standing - 1) 0 (omega (arith, z)) ∙ ap code.Some e ∙ sym (slice_get-get_or fresh (length fresh - 1) 0 (omega (arith, some_node)))) in
-      rw (ne_eqb (get_or standing (length standing - 1) 0) (get_or fresh (length fresh - 1) 0) others, and_false (eqb (first_node standing) (first_node fresh)) false refl))
+      rw (
+        differ (length standing - 1) (length fresh - 1) (omega (arith, z)) (omega (arith, some_node)) d,
+        and_false (eqb (first_node standing) (first_node fresh)) false refl,
+      ))
       (same_or (length standing) 0)
 
-  module _ (first : slice_get standing 0 ≡ slice_get fresh 0) (last : slice_get standing (length standing - 1) ≡ slice_get fresh (length fresh - 1)) where
+  module _ (first : slice_get standing 0 ≡ slice_get fresh 0)
+      (last : slice_get standing (length standing - 1) ≡ slice_get fresh (length fresh - 1)) where
     stands : 0 < length standing
     stands = slice_get_within standing 0 (get_or fresh 0 0) (first ∙ slice_get-get_or fresh 0 0 some_node)
 

@@ -25,7 +25,8 @@ fn lesser(shortest: Option<u32>, length: u32) -> Option<u32>
     Some(shortest.map_or(length, |least| least.min(length)))
 }
 
-// The length of the shortest arc from one node to another, where there is one; none from what is no node. Only the arcs out of the first are looked at.
+// The length of the shortest arc from one node to another, where there is one. Only the arcs out of the first node are looked at, and what is no node has
+// none.
 fn step_length(star: &Star, from: u16, to: u16) -> Option<u32>
     ensures { held result ≡ step_from (table_in star.now.table) from to }
 {
@@ -97,7 +98,7 @@ fn compare(table: LinkTable, standing: &[u16], fresh: &[u16]) -> Result<bool, Re
     choose(&star, standing, fresh)
 }
 
-// Whether the standing list is kept, or the refusal: 1, 2, 6 and 7, then 15. Node 0 stands for an origin, nothing is wanted, and the buffers' lengths fit.
+// Whether the standing list is kept, or the refusal: 1, 2, 6 and 7, then 15. Node 0 stands for an origin, nothing is wanted, and the buffers fit.
 fn keeps_standing(
     n: u32,
     tails: &[u16],

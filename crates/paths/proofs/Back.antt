@@ -34,7 +34,8 @@ pathless wide.none e = refl
 pathless (wide.some vs) e = absurd (none-some (length vs) (sym e))
 
 -- nothing is listed
-refuses : (l : Listing) (r : Result ℕ Refusal) (before : List ℕ) (n : ℕ) → l ≡ refused n → IsErr r → told r ≡ refusal n 0 → ListsBack l r before before
+refuses : (l : Listing) (r : Result ℕ Refusal) (before : List ℕ) (n : ℕ) → l ≡ refused n → IsErr r → told r ≡ refusal n 0 →
+    ListsBack l r before before
 unfolding refused
 refuses l r before n e is_err t =
     rw e (record { told = t; count = MatchResult-from_err r (λ c. c ≡ 0) (λ _. [] ≡ []) is_err (λ _. refl); output = refl })
@@ -90,7 +91,8 @@ module _ (o v : ℕ) (k : Tree) (room : ℕ) where
 -- WHAT IS ANSWERED
 module _ (l : Listing) (answer : Listed) (before after : List ℕ) where
   -- so many nodes, as they stand there
-  pub as_made : (n : ℕ) → ListsBack l (Ok n) before after → answer.number ≡ 0 → answer.place ≡ 0 → answer.count ≡ n → Lists (turned_round l) answer before after
+  pub as_made : (n : ℕ) → ListsBack l (Ok n) before after → answer.number ≡ 0 → answer.place ≡ 0 → answer.count ≡ n →
+      Lists (turned_round l) answer before after
   unfolding turned_round no_refusal
   as_made n b at_number at_place at_count =
       let same = length-reverse l.nodes in

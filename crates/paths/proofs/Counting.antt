@@ -71,5 +71,8 @@ module _ (o node : ℕ) (k : Tree) where
               passed = v ∷ w.passed;
               counted = omega (arith, w.counted);
               low = (leads k v b.0).low;
-              same = ap (λ (l : ℕ). back_to l o k (node_before k v) (v ∷ w.passed)) f ∙ sym (one_back (node_count k - count) o k v w.passed e b.0) ∙ here;
+              same =
+                  ap (λ (l : ℕ). back_to l o k (node_before k v) (v ∷ w.passed)) f
+                  ∙ sym (one_back (node_count k - count) o k v w.passed e b.0)
+                  ∙ here;
             })

@@ -1,8 +1,8 @@
 // Listing a path: the nodes from the origin to a node, read off a tree column, or those from a node to a collector.
 // crates/listing/specs/Listing.antt says what a listing gives, Collecting.antt beside it what one to a collector does.
 //
-// The path is followed twice, from the node back: once to count its nodes, which finds refusal 14 before anything is written, and once to write them. From
-// the origin they are then turned round; to a collector, for which tails and heads are exchanged, they already stand as they are wanted.
+// The path is followed twice, from the node back: once to count its nodes, which finds refusal 14 before anything is written, and once to write them.
+// From the origin they are then turned round; to a collector, for which tails and heads are exchanged, they already stand as they are wanted.
 #![tactic(auto)]
 
 mod tree;

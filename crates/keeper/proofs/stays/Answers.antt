@@ -24,7 +24,8 @@ returns-then-ne c =
 pub returns : goal.returns
 unfolding no_greater
 returns c =
-    let less : c.is_some_and.result ≡ no_greater (held c.total.result) (some c.args.most) = grind (arith, nat_tests, common_steps, c.is_some_and.ensures) in
+    let less : c.is_some_and.result ≡ no_greater (held c.total.result) (some c.args.most) =
+    grind (arith, nat_tests, common_steps, c.is_some_and.ensures) in
     less
     ∙ by_total _ _ _ _ c.requires
     (same_read _ _ c.first.ensures.value c.first-2.ensures.value (sym c.ne.ensures ∙ c.if-ne.false))

@@ -6,39 +6,34 @@ use lib.ListN.{length, get_or}
 use borrow.Author.Tests.{lt-ltb}
 use Rattle.std.proofs.lemmas.Bool.Decides.{nat_tests}
 use Rattle.table.specs.Lent.{table_in}
-use Rattle.table.specs.Table.{Table}
 use Rattle.forward_star.proofs.Along.{Readable, readable}
-use Rattle.forward_star.proofs.Outgoing.{star, Outgoing}
 use Rattle.forward_star.proofs.Columns.{outgoing_of}
 use Rattle.keeper.proofs.Stepping.{begins, into, elsewhere, ends}
 use Rattle.keeper.proofs.step_length.Goals as goal
 use Rattle.keeper.proofs.step_length.Goals.{In-loop-p, then-columns-i, else-columns-i}
 
 -- inside the loop the arc at p can be read
-module _ (c : In-loop-p) where
-  abbrev t : Table
-  t = table_in c.args.star.now.table
-
-  abbrev here : Outgoing t (let s = c.args.star.now in star s.table.columns.heads.now s.table.columns.lengths.now s.first.now s.next.now)
-  here = outgoing_of c.args.star.now
-
-  inside : let s = c.args.star.now in Readable t s.table.columns.heads.now s.table.columns.lengths.now s.next.now c.loop-p.p
-  inside = readable here c.loop-p.invariant.on_list c.loop-p-test.true
+inside : (c : In-loop-p) →
+    let s = c.args.star.now in
+    Readable (table_in s.table) s.table.columns.heads.now s.table.columns.lengths.now s.next.now c.loop-p.p
+inside c = readable (outgoing_of c.args.star.now) c.loop-p.invariant.on_list c.loop-p-test.true
 
 pub loop-p-init : goal.loop-p-init
 loop-p-init c =
     let s = c.args.star.now in
-    let f : (c.args.from < length s.first.now) × (c.in_ok-p.field-0.now ≡ get_or s.first.now c.args.from 0) = grind (arith, nat_tests, c.in_ok-p.ensures.lookup) in
+    let f : (c.args.from < length s.first.now) × (c.in_ok-p.field-0.now ≡ get_or s.first.now c.args.from 0) =
+    grind (arith, nat_tests, c.in_ok-p.ensures.lookup) in
     rw f.1 (begins (outgoing_of s) c.args.from c.args.to (omega (arith, f.0, s.linked.first_count)))
 
 pub bounds-columns-i : goal.bounds-columns-i
-bounds-columns-i c = let at = (goal.at.bounds-columns-i c).In-loop-p in omega (arith, (inside at).inside, (here at).head_count)
+bounds-columns-i c = let r = inside (goal.at.bounds-columns-i c).In-loop-p in omega (arith, r.in_heads)
 
 pub bounds-columns-i-then-columns-i : goal.bounds-columns-i-then-columns-i
-bounds-columns-i-then-columns-i c = let at = (goal.at.bounds-columns-i-then-columns-i c).In-loop-p in omega (arith, (inside at).inside, (here at).length_count)
+bounds-columns-i-then-columns-i c = let r = inside (goal.at.bounds-columns-i-then-columns-i c).In-loop-p in omega (arith, r.in_lengths)
 
 pub loop-p-smaller : goal.loop-p-smaller
-loop-p-smaller c = let at = (goal.at.loop-p-smaller c).In-loop-p in rw c.from-i.ensures (omega (arith, (inside at).inside, (inside at).rises, (here at).few))
+loop-p-smaller c =
+    let r = inside (goal.at.loop-p-smaller c).In-loop-p in rw c.from-i.ensures (omega (arith, r.rises, r.low))
 
 pub loop-p-preserved : goal.loop-p-preserved
 loop-p-preserved c =

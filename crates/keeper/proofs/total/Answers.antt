@@ -44,12 +44,12 @@ loop-step-preserved c =
 
 pub returns-then-from-star : goal.returns-then-from-star
 returns-then-from-star c =
-    let s = c.args.star.now in
-    ends _ _ _ _ c.loop-step.invariant.adding (omega (arith, c.in-None.ensures.steps)) _ c.in_ok-last.ensures.value (omega (arith, s.linked.first_count))
+    ends _ _ _ _ c.loop-step.invariant.adding (omega (arith, c.in-None.ensures.steps)) _ c.in_ok-last.ensures.value
+    (omega (arith, c.args.star.now.linked.first_count))
     ∙ lent_few _ _ c.if-list-gt-MOST_NODES.false
 
 pub returns-else-from-star : goal.returns-else-from-star
 returns-else-from-star c =
-    let s = c.args.star.now in
-    ends_outside _ _ _ _ c.loop-step.invariant.adding (omega (arith, c.in-None.ensures.steps)) _ c.in_ok-last.ensures.value (omega (arith, s.linked.first_count))
+    ends_outside _ _ _ _ c.loop-step.invariant.adding (omega (arith, c.in-None.ensures.steps)) _ c.in_ok-last.ensures.value
+    (omega (arith, c.args.star.now.linked.first_count))
     ∙ lent_few _ _ c.if-list-gt-MOST_NODES.false

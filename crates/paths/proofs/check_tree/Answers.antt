@@ -9,7 +9,8 @@ use Rattle.paths.proofs.check_tree.Goals as goal
 
 pub returns-in_err-check_count-clause-told : goal.returns-in_err-check_count-clause-told
 unfolding early_number refusal no_refusal
-returns-in_err-check_count-clause-told c = grind (arith, nat_tests, common_steps, handed_out _ _ c.from_residual.ensures.1, c.in_err-check_count.ensures)
+returns-in_err-check_count-clause-told c =
+    grind (arith, nat_tests, common_steps, handed_out _ _ c.from_residual.ensures.1, c.in_err-check_count.ensures)
 
 pub returns-then-bad_columns-clause-told : goal.returns-then-bad_columns-clause-told
 unfolding early_number refusal no_refusal count_bad columns_bad
@@ -25,7 +26,10 @@ returns-then-n-from-2-clause-told c = grind (arith, nat_tests, common_steps, c.i
 
 pub invariant_of-result : goal.invariant_of-result
 unfolding refusal no_refusal count_bad columns_bad
-invariant_of-result c = record { heads_are = grind (arith, nat_tests, common_steps); few = grind (arith, nat_tests, common_steps, c.in_ok-check_count.ensures) }
+invariant_of-result c = record {
+  heads_are = grind (arith, nat_tests, common_steps);
+  few = grind (arith, nat_tests, common_steps, c.in_ok-check_count.ensures);
+}
 
 pub returns-clause-told : goal.returns-clause-told
 unfolding early_number refusal no_refusal count_bad columns_bad

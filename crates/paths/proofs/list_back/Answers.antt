@@ -35,7 +35,8 @@ returns-in_err-count c =
     let same = c.in_ok-tree.ensures.same in
     let none : c.count_nodes.result ≡ None = grind (arith, c.in_err-count.ensures.value) in
     let same_error : c.in_err-count.field-0.0 ≡ c.at.result = grind (arith, c.in_err-count.ensures.value) in
-    no_path _ _ _ _ c.in_ok-tree.ensures.told (rw (← same.0, ← same.1) (sym c.count_nodes.ensures ∙ none)) _ _ r.0 (handed_out _ _ r.1 ∙ ap tells same_error ∙ c.at.ensures)
+    no_path _ _ _ _ c.in_ok-tree.ensures.told (rw (← same.0, ← same.1) (sym c.count_nodes.ensures ∙ none)) _ _ r.0
+    (handed_out _ _ r.1 ∙ ap tells same_error ∙ c.at.ensures)
 
 pub returns-then-output-count : goal.returns-then-output-count
 unfolding early_of

@@ -74,7 +74,10 @@ pub invariant_of-result : goal.invariant_of-result
 unfolding UnrefusedIsTable Below no_refusal refusal
 invariant_of-result c =
     let same = c.in_ok-columns.ensures.same in
-    record { good = rw (same.0, same.1, same.2) (unrefused_is_table _ _ _ _ c.args.lengths.now _ _ (λ i. (c.type_inv.lengths i).fits) (sym (ap (λ r. r.number) (unrefused c)))) }
+    record {
+      good = rw (same.0, same.1, same.2)
+          (unrefused_is_table _ _ _ _ c.args.lengths.now _ _ (λ i. (c.type_inv.lengths i).fits) (sym (ap (λ r. r.number) (unrefused c))));
+    }
 
 pub returns-clause-told : goal.returns-clause-told
 returns-clause-told c = unrefused (goal.at.returns-clause-told c).In_ok-check_arcs
