@@ -9,8 +9,7 @@ use lib.Dec.{ltb, leb, eqb}
 use lib.ListN.{length, get_or}
 use borrow.Author.Tests.{ltb-true, leb-true, eqb-true, lt-ltb, le-ltb, le-leb, lt-leb, eq-eqb, ne_eqb, ltb-false, leb-false, eqb-false}
 use Rattle.table.specs.Table.{Table, Arc, arc, table, table_of, arcs_of, is_table, arc_good, arcs_good, nodes_below, arc_count, arc_at, tail_at, head_at, length_at, longest, no_arc, most_nodes, most_arcs, most_wanted, Below}
-use Rattle.table.specs.declared.Refusal.{Refusal}
-use Rattle.table.specs.Refusals.{refusal, no_refusal, or_else, table_refusal, count_bad, columns_bad, rooms_fit, wanted_from, wanted_refusal, arc_fault, arcs_from, arcs_refusal}
+use Rattle.table.specs.Refusals.{Refusal, refusal, no_refusal, or_else, table_refusal, count_bad, columns_bad, rooms_fit, wanted_from, wanted_refusal, arc_fault, arcs_from, arcs_refusal}
 use Rattle.auction.specs.Promises.{LongestOf32Bits, LengthsOf32Bits, UnrefusedIsTable, TableIsUnrefused}
 use Rattle.table.proofs.Basics.{either_false, both_true, true_both, true_or}
 use Rattle.table.proofs.Columns.{arcs_count}

@@ -9,8 +9,7 @@ use lib.Dec.{ltb, leb, eqb}
 use lib.ListN.{length}
 use borrow.Author.Tests.{eqb-true, eqb-false, eq-eqb, ne_eqb, not-false, ltb-false, leb-true}
 use Rattle.table.specs.Table.{Arc, arcs_of, table_of, is_table, most_nodes, most_arcs, most_wanted, Below}
-use Rattle.table.specs.declared.Refusal.{Refusal}
-use Rattle.table.specs.Refusals.{refusal, no_refusal, or_else, Room, room, table_refusal, count_bad, columns_bad, rooms_fit, wanted_from, wanted_refusal, arc_fault, arcs_from, arcs_refusal}
+use Rattle.table.specs.Refusals.{Refusal, refusal, no_refusal, or_else, Room, room, table_refusal, count_bad, columns_bad, rooms_fit, wanted_from, wanted_refusal, arc_fault, arcs_from, arcs_refusal}
 use Rattle.table.proofs.Basics.{both_true, either_false, same_or, true_or}
 use Rattle.auction.specs.HandOver.{Answer}
 use Rattle.auction.specs.Promises.{UnrefusedIsTable}

@@ -4,8 +4,7 @@
 -- lent. Otherwise the answer and the buffers are what the auction hands over, also where it ends without a route, which is number 8.
 use Rattle.std.specs.Prelude.{cond, List, [], ◌∷◌, ℕ, eqb, length}
 use Rattle.table.specs.Table.{Table, table_of}
-use Rattle.table.specs.declared.Refusal.{Refusal}
-use Rattle.table.specs.Refusals.{Room, room, table_refusal}
+use Rattle.table.specs.Refusals.{Refusal, Room, room, table_refusal}
 use Rattle.auction.specs.Auction.{auction}
 use Rattle.auction.specs.HandOver.{Answer, answer, handed_over}
 

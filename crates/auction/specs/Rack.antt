@@ -2,8 +2,7 @@
 -- written here (proofs/Answers.antt). Assumes nothing: these are definitions.
 use Rattle.std.specs.Prelude.{◌≡◌, List, [], ◌∷◌, map, ℕ, ◌<◌, length, replicate, take}
 use Rattle.table.specs.Table.{most_wanted, down, no_arc, no_distance}
-use Rattle.table.specs.declared.Refusal.{Refusal}
-use Rattle.table.specs.Refusals.{refusal, no_refusal, wanted_refusal}
+use Rattle.table.specs.Refusals.{Refusal, refusal, no_refusal, wanted_refusal}
 use Rattle.auction.specs.Auction.{most_iterations}
 use Rattle.auction.specs.HandOver.{Answer, answer, how_many}
 use Rattle.auction.specs.Plan.{plan, plan_refusal}

@@ -8,7 +8,7 @@ use native.Mathlib.Omega.{arith}
 use lib.Dec.{eqb}
 use lib.ListN.{length, get_or, length-reverse}
 use Rattle.table.specs.Table.{Table, table, table_of, is_table, present_at, tail_at, head_at, length_at, leads, is_walk, walk_length}
-use Rattle.table.specs.declared.Refusal.{Refusal}
+use Rattle.table.specs.Refusals.{Refusal}
 use Rattle.table.proofs.Basics.{both_true, true_both}
 use Rattle.table.proofs.Present.{leaves_present}
 use Rattle.auction.specs.HandOver.{Answer}

@@ -11,8 +11,7 @@ use borrow.Author.Tests.{ltb-true, lt-ltb, eq-eqb, ne_eqb}
 use Rattle.table.specs.Table.{Table, down, no_arc, no_distance}
 use Rattle.table.specs.Lent.{table_in}
 use Rattle.table.specs.declared.links.LinkTable.{LinkTable}
-use Rattle.table.specs.declared.Refusal.{Refusal}
-use Rattle.table.specs.Refusals.{refusal, no_refusal}
+use Rattle.table.specs.Refusals.{Refusal, refusal, no_refusal}
 use Rattle.auction.specs.Auction.{State, auction, iterations, was_reached, distance, kept_at, is_kept, unreached}
 use Rattle.auction.specs.HandOver.{answer, handed_over, route_refusal, entries, greatest, sum, horizon, reached_count, distances, prices, tree, marks, mark, arc_or_none}
 use Rattle.auction.specs.Plan.{routes_of}

@@ -10,7 +10,7 @@ use denote.Ref.{Bor}
 use Rattle.std.specs.Prelude.{Result, Ok, Err}
 use Rattle.std.specs.Result.{IsErrAnd}
 use Rattle.table.specs.declared.faults.Refusal.{Refusal}
-use Rattle.table.specs.declared.Refusal as told_as
+use Rattle.table.specs.Refusals as told_as
 use Rattle.table.specs.Table.{Table, most_nodes}
 use Rattle.table.specs.Refusals.{refusal, no_refusal}
 use Rattle.table.specs.Told.{number, tells}

@@ -10,8 +10,7 @@ use lib.Dec.{ltb, leb, eqb}
 use lib.ListN.{length}
 use borrow.Author.Tests.{eq-eqb, ne_eqb, lt-leb, eqb-false}
 use Rattle.table.specs.Table.{Arc, Table, arcs_of, most_nodes}
-use Rattle.table.specs.declared.Refusal.{Refusal}
-use Rattle.table.specs.Refusals.{refusal, no_refusal, or_else, count_bad, columns_bad, rooms_fit, wanted_from, wanted_refusal, arc_fault, arcs_from, arcs_refusal, table_refusal}
+use Rattle.table.specs.Refusals.{Refusal, refusal, no_refusal, or_else, count_bad, columns_bad, rooms_fit, wanted_from, wanted_refusal, arc_fault, arcs_from, arcs_refusal, table_refusal}
 use Rattle.table.proofs.Basics.{true_or, same_or, either_false, option_or}
 use Rattle.keeping.specs.declared.Kept.{Kept}
 use Rattle.keeping.specs.Keeping.{lent_total, table_in, fresh_refusal, keep_refusal, kept, choice, keep}

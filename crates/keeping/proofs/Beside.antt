@@ -8,8 +8,7 @@ use native.Mathlib.Omega.{arith}
 use lib.ListN.{length}
 use borrow.Author.Tests.{lt-ltb}
 use Rattle.table.specs.Table.{Table, table, table_of, is_table, leads, is_walk, walk_length, nodes_below, most_nodes}
-use Rattle.table.specs.declared.Refusal.{Refusal}
-use Rattle.table.specs.Refusals.{refusal, no_refusal, rooms_fit}
+use Rattle.table.specs.Refusals.{Refusal, refusal, no_refusal, rooms_fit}
 use Rattle.table.proofs.Basics.{some_same}
 use Rattle.auction.specs.Promises.{TableIsUnrefused}
 use Rattle.auction.proofs.Good.{good, table_is_unrefused}

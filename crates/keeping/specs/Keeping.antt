@@ -6,8 +6,7 @@ use Rattle.std.specs.Prelude.{◌≡◌, Bool, false, ◌&&◌, cond, List, [], 
 use Rattle.std.proofs.Math.Option.{Option, none, some}
 use Rattle.std.specs.Borrow.{Bor}
 use Rattle.table.specs.Table.{Table, arcs_of, table_of, arc_count, tail_at, head_at, length_at, most_nodes}
-use Rattle.table.specs.declared.Refusal.{Refusal}
-use Rattle.table.specs.Refusals.{refusal, no_refusal, or_else, count_bad, columns_bad, arcs_refusal}
+use Rattle.table.specs.Refusals.{Refusal, refusal, no_refusal, or_else, count_bad, columns_bad, arcs_refusal}
 use Rattle.table.specs.Slices.{Slice, was}
 use Rattle.keeping.specs.declared.Kept.{Kept}
 

@@ -4,7 +4,7 @@ use mathlib.Core.List.{List, [], ◌∷◌}
 use Prim.Native.Nat.{ℕ, ◌^◌}
 use borrow.Author.Tests.{eq-eqb, ne_eqb}
 use Rattle.table.specs.Table.{table_of, Below}
-use Rattle.table.specs.declared.Refusal.{Refusal}
+use Rattle.table.specs.Refusals.{Refusal}
 use Rattle.auction.proofs.Made.{Unrefused, unrefused}
 use Rattle.limit_answer.specs.Answer.{within, limit_refusal, limit_of, within_limit}
 

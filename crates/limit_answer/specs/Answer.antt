@@ -4,8 +4,7 @@
 -- it is 0; no buffers are lent, so 3 never does. Otherwise the number is 0, also where the node has no walk.
 use Rattle.std.specs.Prelude.{◌≡◌, cond, List, [], ◌∷◌, ℕ, eqb}
 use Rattle.table.specs.Table.{Table, table_of}
-use Rattle.table.specs.declared.Refusal.{Refusal}
-use Rattle.table.specs.Refusals.{table_refusal}
+use Rattle.table.specs.Refusals.{Refusal, table_refusal}
 use Rattle.table.specs.Slices.{Slice, was}
 use Rattle.auction.specs.Auction.{was_reached, iterations}
 use Rattle.auction.specs.Limit.{limited_state}

@@ -1,7 +1,7 @@
 -- What the two entries answer and leave in the lent buffers, for every input: what crate `link_format` says of reading and writing, in the entries'
 -- own answers. Assumes nothing: these are definitions.
 use Rattle.std.specs.Prelude.{List, ◌≡◌, ℕ, length}
-use Rattle.table.specs.declared.Refusal.{Refusal}
+use Rattle.table.specs.Refusals.{Refusal}
 use Rattle.table.specs.Slices.{Slice, was, Buffer, had, left}
 use Rattle.link_format.specs.Buffers.{over, reading, refusal_of, content_of, file_of, writing, put_bytes}
 use Rattle.link_format.specs.Format.{Content, tails_of, heads_of, lengths_of}

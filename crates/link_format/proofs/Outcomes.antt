@@ -7,8 +7,7 @@ use Prim.Native.Nat.{ℕ, zero, suc}
 use native.Mathlib.Omega.{arith}
 use lib.Dec.{ltb, leb}
 use lib.ListN.{length}
-use Rattle.table.specs.declared.Refusal.{Refusal}
-use Rattle.table.specs.Refusals.{refusal}
+use Rattle.table.specs.Refusals.{Refusal, refusal}
 use Rattle.table.specs.Table.{Arc, most_wanted}
 use Rattle.link_format.specs.Buffers.{too_short, reading, refusal_of}
 use Rattle.link_format.specs.Format.{Content}

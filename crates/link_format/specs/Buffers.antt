@@ -4,8 +4,7 @@
 -- the file is refused that content is empty, so that every value is 0 and every buffer is as it was. The writer likewise puts the bytes that
 -- Format.antt says, or none.
 use Rattle.std.specs.Prelude.{Bool, cond, ◌||◌, List, [], ◌++◌, ◌≡◌, ℕ, ◌≤◌, eqb, ltb, length, drop}
-use Rattle.table.specs.declared.Refusal.{Refusal}
-use Rattle.table.specs.Refusals.{refusal, no_refusal, count_bad, columns_bad}
+use Rattle.table.specs.Refusals.{Refusal, refusal, no_refusal, count_bad, columns_bad}
 use Rattle.table.specs.Table.{arcs_of, most_arcs, most_wanted}
 use Rattle.link_format.specs.Format.{Content, content, file_bytes}
 use Rattle.link_format.specs.Reading.{Outcome, got, refused, read_file}

@@ -11,7 +11,7 @@ use Rattle.std.proofs.lemmas.Option.{none-some}
 use Rattle.std.proofs.lemmas.Result.{MatchResult-from_err}
 use Rattle.std.proofs.lemmas.List.{take_at, drop_at, reverse-reverse}
 use Rattle.table.specs.declared.faults.Refusal.{Refusal}
-use Rattle.table.specs.declared.Refusal as told_as
+use Rattle.table.specs.Refusals as told_as
 use Rattle.table.specs.Table.{most_nodes}
 use Rattle.table.specs.Refusals.{refusal, no_refusal}
 use Rattle.table.specs.Told.{number, tells, told}

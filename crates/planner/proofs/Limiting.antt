@@ -7,8 +7,7 @@ use Prim.Native.Nat.{ℕ}
 use lib.Dec.{eqb}
 use lib.ListN.{length}
 use Rattle.table.specs.Table.{Table}
-use Rattle.table.specs.declared.Refusal.{Refusal}
-use Rattle.table.specs.Refusals.{table_refusal}
+use Rattle.table.specs.Refusals.{Refusal, table_refusal}
 use Rattle.auction.specs.Auction.{State, was_reached, iterations}
 use Rattle.auction.specs.Limit.{limited, limited_state}
 use Rattle.auction.specs.Plan.{rooms}

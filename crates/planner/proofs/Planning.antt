@@ -10,8 +10,7 @@ use lib.ListN.{length, get_or, take}
 use lib.Seq.{length-take-le}
 use borrow.Author.Tests.{lt-ltb, eq-eqb, ne_eqb}
 use Rattle.table.specs.Table.{Table, table_of, is_table, most_nodes, longest, Below, most_wanted}
-use Rattle.table.specs.declared.Refusal.{Refusal}
-use Rattle.table.specs.Refusals.{refusal}
+use Rattle.table.specs.Refusals.{Refusal, refusal}
 use Rattle.auction.specs.Auction.{State, Ended, fresh, was_reached, all_reached, auction}
 use Rattle.auction.specs.HandOver.{Answer, answer}
 use Rattle.auction.specs.Promises.{last_state, EndsByItself}

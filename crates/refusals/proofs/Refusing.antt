@@ -11,10 +11,9 @@ use lib.Seq.{drop-cons}
 use borrow.Author.Tests.{lt-ltb, le-ltb, eq-eqb, ne_eqb}
 use Rattle.table.specs.Table.{arc, arcs_of, most_wanted}
 use Rattle.table.specs.declared.faults.Fault.{Fault}
-use Rattle.table.specs.declared.Refusal.{Refusal}
 use Rattle.table.specs.Told.{number}
 use Rattle.table.proofs.Telling.{numbered, first}
-use Rattle.table.specs.Refusals.{Room, refusal, no_refusal, or_else, count_bad, columns_bad, rooms_fit, table_refusal, wanted_from, wanted_refusal, arc_fault, arcs_from, arcs_refusal}
+use Rattle.table.specs.Refusals.{Refusal, Room, refusal, no_refusal, or_else, count_bad, columns_bad, rooms_fit, table_refusal, wanted_from, wanted_refusal, arc_fault, arcs_from, arcs_refusal}
 
 -- 1 TO 7 IN ORDER
 pub in_order : (n o : ℕ) (ts hs ls ws : List ℕ) (rs : List Room) →

@@ -8,7 +8,7 @@ use native.Mathlib.Omega.{arith}
 use lib.ListN.{length}
 use borrow.Author.Tests.{ne_eqb}
 use Rattle.table.specs.Table.{table_of}
-use Rattle.table.specs.declared.Refusal.{Refusal}
+use Rattle.table.specs.Refusals.{Refusal}
 use Rattle.table.proofs.Basics.{same_or}
 use Rattle.auction.specs.HandOver.{Answer}
 use Rattle.auction.specs.Plan.{plan_refusal, plan, routes_of, refused_plan}

@@ -10,7 +10,7 @@ use Rattle.std.specs.Result.{IsErrAnd}
 use Rattle.table.specs.declared.faults.Fault.{Fault}
 use Rattle.table.specs.declared.faults.Fault.TheVariants.{NodeCount, Columns, Buffers, Origin, Wanted, ArcEnd, ArcLength, NoRoute, Cut, BitMap, ImpliedHead, Needless, Room, NoPath, NoWalk}
 use Rattle.table.specs.declared.faults.Refusal.{Refusal}
-use Rattle.table.specs.declared.Refusal as told_as
+use Rattle.table.specs.Refusals as told_as
 use Rattle.table.specs.Told.{number, tells, told}
 use Rattle.table.specs.Refusals.{refusal, no_refusal, or_else}
 

@@ -1,9 +1,12 @@
 -- The refusals 1 to 7 of a table, in the order in which they are tested. Assumes nothing: these are definitions.
 --
--- A REFUSAL is the code's own struct: a number, which is document 01's, and a place, 0 where none is named. Number 0 is no refusal.
+-- A REFUSAL, as a caller is told it, is a number, which is document 01's, and a place, 0 where none is named. Number 0 is no refusal.
 use Rattle.std.specs.Prelude.{Bool, true, ◌&&◌, ◌||◌, not, cond, List, [], ◌∷◌, ℕ, suc, ltb, leb, eqb, length}
-use Rattle.table.specs.declared.Refusal.{Refusal}
 use Rattle.table.specs.Table.{Arc, arcs_of, most_nodes, most_arcs, most_wanted}
+
+pub record Refusal : Type 0 where
+  pub number : ℕ
+  pub place : ℕ
 
 unfoldable pub refusal : (number place : ℕ) → Refusal
 refusal n p = record { number = n; place = p }

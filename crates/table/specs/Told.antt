@@ -3,7 +3,7 @@ use Rattle.std.specs.Prelude.{ℕ, Result, Ok, Err}
 use Rattle.table.specs.declared.faults.Fault.{Fault}
 use Rattle.table.specs.declared.faults.Fault.TheVariants.{NodeCount, Columns, Buffers, Origin, Wanted, ArcEnd, ArcLength, NoRoute, Cut, BitMap, ImpliedHead, Needless, Room, NoPath, NoWalk}
 use Rattle.table.specs.declared.faults.Refusal.{Refusal}
-use Rattle.table.specs.declared.Refusal as told_as
+use Rattle.table.specs.Refusals as told_as
 use Rattle.table.specs.Refusals.{refusal, no_refusal}
 
 abbrev pub number : Fault → ℕ

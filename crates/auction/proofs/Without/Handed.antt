@@ -8,8 +8,7 @@ use Prim.Native.Nat.{ℕ, zero, suc, ◌≤◌, ◌<◌}
 use native.Mathlib.Omega.{arith}
 use lib.ListN.{get_or, get_or-map}
 use Rattle.table.specs.Table.{Table, table, is_table, arc_count, tail_at, head_at, no_arc, most_arcs}
-use Rattle.table.specs.declared.Refusal.{Refusal}
-use Rattle.table.specs.Refusals.{refusal, no_refusal}
+use Rattle.table.specs.Refusals.{Refusal, refusal, no_refusal}
 use Rattle.auction.specs.Auction.{State, state, Ended, ended, auction, was_reached, status_at, bound_at, kept_at, distance, iterations}
 use Rattle.auction.specs.HandOver.{entries, horizon, reached_count, distances, prices, arc_or_none, tree, mark, marks, first_missing, route_refusal, handed_over, back_from, returned}
 use Rattle.auction.specs.Plan.{routes_of}

@@ -1,8 +1,7 @@
 -- The table is refused, or it is planned. Assumes nothing.
 use mathlib.Core.Path.{refl, ap, sym, ◌∙◌}
 use Rattle.table.specs.Table.{Below}
-use Rattle.table.specs.declared.Refusal.{Refusal}
-use Rattle.table.specs.Refusals.{refusal, no_refusal}
+use Rattle.table.specs.Refusals.{Refusal, refusal, no_refusal}
 use Rattle.table.proofs.Telling.{numbered}
 use Rattle.auction.specs.Plan.{plan_refusal}
 use Rattle.hand_over.specs.Answered.{answered}

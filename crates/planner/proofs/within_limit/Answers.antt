@@ -5,8 +5,7 @@ use lib.ListN.{length}
 use Prim.Native.Nat.{ℕ}
 use Rattle.table.specs.Table.{Table}
 use Rattle.table.specs.Told.{tells}
-use Rattle.table.specs.declared.Refusal.{Refusal}
-use Rattle.table.specs.Refusals.{refusal, no_refusal, table_refusal}
+use Rattle.table.specs.Refusals.{Refusal, refusal, no_refusal, table_refusal}
 use Rattle.table.proofs.Telling.{numbered}
 use Rattle.auction.specs.Plan.{rooms}
 use Rattle.limit_answer.specs.Answer.{limit_refusal, limit_of}

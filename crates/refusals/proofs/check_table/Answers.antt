@@ -1,9 +1,8 @@
 -- The first test that refuses decides; where none does, the table is one. Assumes nothing.
 use mathlib.Core.Path.{◌≡◌, sym, ap, ◌∙◌}
 use lib.ListN.{length}
-use Rattle.table.specs.declared.Refusal.{Refusal}
 use Rattle.table.specs.Table.{Below}
-use Rattle.table.specs.Refusals.{refusal, no_refusal, table_refusal}
+use Rattle.table.specs.Refusals.{Refusal, refusal, no_refusal, table_refusal}
 use Rattle.auction.specs.Promises.{UnrefusedIsTable}
 use Rattle.refusals.specs.Lent.{lent_rooms}
 use Rattle.auction.proofs.Good.{unrefused_is_table}
