@@ -10,7 +10,7 @@ use Rattle.table.specs.Refusals.{refusal, no_refusal}
 use Rattle.table.specs.Told.{number, tells}
 use Rattle.table.specs.declared.faults.Fault.{Fault}
 use Rattle.table.specs.declared.faults.Refusal.{Refusal}
-use Rattle.table.specs.declared.Refusal as as_told
+use Rattle.table.specs.Refusals as as_told
 
 -- every fault has a number
 pub some_number : (f : Fault) → 0 < number f

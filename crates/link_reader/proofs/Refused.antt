@@ -3,7 +3,7 @@ use mathlib.Core.Path.{◌≡◌, ap}
 use Prim.Native.Nat.{ℕ}
 use Rattle.table.specs.Refusals.{refusal}
 use Rattle.table.specs.Told.{number, tells}
-use Rattle.table.specs.declared.Refusal as as_told
+use Rattle.table.specs.Refusals as as_told
 use Rattle.table.specs.declared.faults.Refusal.{Refusal}
 use Rattle.link_format.specs.Reading.{Outcome, refused}
 
