@@ -39,7 +39,7 @@ pub fn read_field(part: &[u8], from: usize, width: usize) -> Option<Field>
     })
 }
 
-// A field that may be absent, and what its absence says.
+// A field that may be absent, and what its absence says. An Option in place of the last two would be made of them at each call.
 pub fn read_optional(
     part: &[u8],
     from: usize,
@@ -72,7 +72,7 @@ pub fn put_field(output: &mut [u8], at: usize, width: usize, value: usize) -> us
     at + width
 }
 
-// Puts a field where it stands.
+// Puts a field where it stands. An Option in place of the last two would be made of them at each call.
 pub fn put_optional(output: &mut [u8], at: usize, width: usize, stands: bool, value: usize) -> usize
     requires { at + length (field_bytes stands width value) ≤ length output.old }
     ensures { Put output.old at (field_bytes stands width value) result output.new }

@@ -12,13 +12,13 @@ ghost use Rattle.link_file.specs.Says.{table_answer, file_answer};
 
 use link_reader::header::{Header, fill_wanted, read_header};
 use link_reader::records::{count_records, fill_records};
-use link_writer::header::Header as FileHeader;
+use link_writer::header::FileHeader;
 use link_writer::records::{records_size, write_records};
 use table::faults::{Fault, Refusal};
 use table::{MOST_ARCS, MOST_WANTED};
 
 // What reading a link file answers: the refusal's number and place, both 0 where there is none, and the node count, the origin and how many
-// arcs and wanted nodes there are, all 0 in a refusal.
+// arcs and wanted nodes there are, all 0 in a refusal. C reads it, so it is numbers and no Result, with the counts beside the buffers.
 #[repr(C)]
 #[derive(Clone, Copy)]
 pub struct TableRead {
@@ -30,7 +30,8 @@ pub struct TableRead {
     pub wanted: u32,
 }
 
-// What writing a link file answers: the refusal's number and place, both 0 where there is none, and the file's length, 0 in a refusal.
+// What writing a link file answers: the refusal's number and place, both 0 where there is none, and the file's length, 0 in a refusal. C reads it, so
+// it is numbers and no Result.
 #[repr(C)]
 #[derive(Clone, Copy)]
 pub struct Written {

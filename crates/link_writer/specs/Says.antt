@@ -3,10 +3,10 @@ use Rattle.std.specs.Prelude.{List, ℕ, get_or}
 use Rattle.table.specs.declared.links.Columns.{Columns}
 use Rattle.table.specs.Table.{Arc, arc, arcs_of}
 use Rattle.link_format.specs.Format.{header_bytes}
-use Rattle.link_writer.specs.declared.header.Header.{Header}
+use Rattle.link_writer.specs.declared.header.FileHeader.{FileHeader}
 
 -- a header's bytes
-abbrev pub bytes_of : Header → List ℕ
+abbrev pub bytes_of : FileHeader → List ℕ
 bytes_of h = header_bytes h.n h.origin h.wanted.now
 
 -- the arc at a position of the columns, and all of them

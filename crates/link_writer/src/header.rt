@@ -8,9 +8,9 @@ ghost use Rattle.link_fields.specs.Fields.{byte_of, Put};
 use link_fields::bit_maps::BitMap;
 use link_fields::fields::{MAP_WIDTH, NODE_WIDTH, put_field, put_optional};
 
-// What a header is to say, with its canonical bit map.
+// What the header of a file is to say, with its canonical bit map.
 #[derive(Clone, Copy)]
-pub struct Header<'a> {
+pub struct FileHeader<'a> {
     pub n: usize,
     pub origin: u16,
     pub wanted: &'a [u16],
@@ -19,11 +19,11 @@ pub struct Header<'a> {
     ghost few: { length wanted.now ≤ most_wanted },
 }
 
-impl<'a> Header<'a> {
+impl<'a> FileHeader<'a> {
     ghost use Rattle.link_writer.specs.Says.{bytes_of};
 
     // The header of a table of n nodes.
-    pub fn new(n: usize, origin: u16, wanted: &'a [u16]) -> Header<'a>
+    pub fn new(n: usize, origin: u16, wanted: &'a [u16]) -> FileHeader<'a>
         requires { length wanted.now ≤ most_wanted }
         ensures nodes { result.n ≡ n }
         ensures origin { result.origin ≡ origin }
@@ -34,7 +34,7 @@ impl<'a> Header<'a> {
             second: origin != 0,
             third: !is_all(n, wanted),
         };
-        Header {
+        FileHeader {
             n,
             origin,
             wanted,

@@ -1,5 +1,5 @@
 -- A run of nodes: what the reader says of it, and the loops over it. Assumes nothing.
-use mathlib.Core.Bool.{Bool, true, ◌&&◌}
+use mathlib.Core.Bool.{Bool, ◌&&◌}
 use mathlib.Core.List.{List, ◌∷◌}
 use mathlib.Core.Path.{◌≡◌, refl, ap, sym, ◌∙◌}
 use Prim.Native.Nat.{ℕ, zero, suc, ◌+◌, ◌-◌, ◌*◌, ◌≤◌, ◌<◌}
@@ -56,9 +56,6 @@ pub record Along (file : List ℕ) (from at i : ℕ) : Type 0 where
   pub here : at ≡ from + 2 * i
   pub inside : at ≤ length file
 
-pub along_begins : (file : List ℕ) (from : ℕ) → from ≤ length file → Along file from from 0
-along_begins file from h = record { here = omega arith; inside = h }
-
 pub along_next : {file : List ℕ} {from at i : ℕ} → Along file from at i → {next : ℕ} → next ≡ at + 2 → next ≤ length file → Along file from next (i + 1)
 along_next a e h = record { here = omega (arith, a.here); inside = h }
 
@@ -72,11 +69,6 @@ nodes_left file count at i more =
 pub record Checking (file : List ℕ) (from count at : ℕ) (ascending : Bool) (i : ℕ) : Type 0 where
   pub along : Along file from at i
   pub same : (ascending && counts_from i (nodes_in (count - i) (drop at file))) ≡ counts_from 0 (nodes_in count (drop from file))
-
-pub checking_begins : (file : List ℕ) (from count : ℕ) → from ≤ length file → Checking file from count from true 0
-checking_begins file from count h =
-    let all : count - 0 ≡ count = omega arith in
-    record { along = along_begins file from h; same = rw all }
 
 module _ {file : List ℕ} {from count at i : ℕ} {ascending : Bool} (c : Checking file from count at ascending i) where
   pub checking_next : i < count → {next : ℕ} → next ≡ at + 2 → next ≤ length file

@@ -1,7 +1,7 @@
 -- The second pass over the records: what is left to read fills what is left of the columns. Assumes nothing.
 use mathlib.Core.Bool.{true}
 use mathlib.Core.List.{List, [], ◌∷◌}
-use mathlib.Core.Option.{Option, none, some}
+use mathlib.Core.Option.{Option, some}
 use mathlib.Core.Path.{◌≡◌, refl, ap, sym, ◌∙◌, subst}
 use Prim.Native.Nat.{ℕ, ◌+◌, ◌≤◌, ◌<◌}
 use native.Mathlib.Decide.{dec_lt}
@@ -13,8 +13,8 @@ use Rattle.link_reader.specs.declared.records.Record.{Record}
 use Rattle.link_format.specs.Format.{tails_of, heads_of, lengths_of}
 use Rattle.link_format.specs.Reading.{Outcome, got, refused, accepted, list_got, and_then, give, read_record}
 use Rattle.link_format.proofs.Records.{in_front}
-use Rattle.link_reader.specs.Says.{RecordGot, Fillable, arcs_from}
-use Rattle.link_fields.proofs.Columns.{Column, column_begins, column_next}
+use Rattle.link_reader.specs.Says.{RecordGot, arcs_from}
+use Rattle.link_fields.proofs.Columns.{Column, column_next}
 use Rattle.link_reader.proofs.records.Runs.{remaining, Standing, standing_next, run_none, run_full, run_refused, run_more}
 use Rattle.table.proofs.Basics.{not_both}
 use lib.Seq.{sets}
@@ -72,17 +72,6 @@ pub record Filling (file : List ℕ) (start : ℕ) (tails₀ heads₀ lengths₀
   pub tails_left : Column tails₀ 0 (tails_of (arcs_from file start)) tails i (tails_of (list_got (remaining file at i before)))
   pub heads_left : Column heads₀ 0 (heads_of (arcs_from file start)) heads i (heads_of (list_got (remaining file at i before)))
   pub lengths_left : Column lengths₀ 0 (lengths_of (arcs_from file start)) lengths i (lengths_of (list_got (remaining file at i before)))
-
-pub filling_begins : {file : List ℕ} {start : ℕ} {tails heads lengths : List ℕ} → Fillable file start tails heads lengths
-    → Filling file start tails heads lengths tails heads lengths start 0 none
-filling_begins f =
-    record {
-      stands = record { inside = f.inside; short = omega (arith, f.short) };
-      good = f.good;
-      tails_left = column_begins _ 0 _;
-      heads_left = column_begins _ 0 _;
-      lengths_left = column_begins _ 0 _;
-    }
 
 module _ {file : List ℕ} {start : ℕ} {tails₀ heads₀ lengths₀ tails heads lengths : List ℕ} {at i : ℕ} {before : Option Arc}
     (f : Filling file start tails₀ heads₀ lengths₀ tails heads lengths at i before) where

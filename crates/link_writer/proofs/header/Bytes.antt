@@ -15,9 +15,9 @@ use Rattle.link_format.specs.Format.{bytes, field_bytes, counts_from, nodes_byte
 use Rattle.link_format.proofs.BitMaps.{MadeOf, made_of}
 use Rattle.link_format.proofs.Numbers.{length_bytes}
 use Rattle.link_fields.specs.Fields.{byte_of, Put}
-use Rattle.link_fields.proofs.Columns.{Column, column_begins, column_piece}
+use Rattle.link_fields.proofs.Columns.{Column, column_piece}
 use Rattle.link_writer.specs.Says.{bytes_of}
-use Rattle.link_writer.specs.declared.header.Header.{Header}
+use Rattle.link_writer.specs.declared.header.FileHeader.{FileHeader}
 
 -- a list that counts up, by each of its nodes
 pub each_in_place : (i : ℕ) (ws : List ℕ) → list_all (λ (p : ℕ × ℕ). p.1 == p.0) (enumerate_from i ws) ≡ counts_from i ws
@@ -26,7 +26,7 @@ each_in_place i [] = refl
 each_in_place i (w ∷ ws) = rw (each_in_place (i + 1) ws, add-one i)
 
 -- a header's pieces
-pub header_pieces : (h : Header) → bytes_of h
+pub header_pieces : (h : FileHeader) → bytes_of h
     ≡ byte_of h.map ∷ (bytes 2 h.n ++ (field_bytes h.map.second 2 h.origin ++ wanted_bytes h.map.third h.wanted.now))
 unfolding header_bytes
 header_pieces h =
@@ -48,9 +48,6 @@ pub record WritingNodes (ws output₀ : List ℕ) (start : ℕ) (output : List �
   -- the rest ends where all would
   pub on : at + length (nodes_bytes (drop i ws)) ≡ start + length (nodes_bytes ws)
   pub column : Column output₀ start (nodes_bytes ws) output at (nodes_bytes (drop i ws))
-
-pub nodes_begin : (ws output : List ℕ) (start : ℕ) → WritingNodes ws output start output start 0
-nodes_begin ws output start = record { on = refl; column = column_begins _ _ _ }
 
 module _ {ws output₀ : List ℕ} {start : ℕ} {output : List ℕ} {at i : ℕ} (w : WritingNodes ws output₀ start output at i) where
   module _ (h : i < length ws) where

@@ -1,7 +1,7 @@
 -- `records::fill_records` meets its contract: an accepted file has no refused record, and each record's arc goes to the columns' next
 -- element. Assumes nothing.
 use Rattle.std.proofs.Common.{arith}
-use Rattle.link_reader.proofs.records.Filling.{filling_begins, filling_next, tails_done, heads_done, lengths_done, all_passed, never_refused}
+use Rattle.link_reader.proofs.records.Filling.{filling_next, tails_done, heads_done, lengths_done, all_passed, never_refused}
 use Rattle.link_reader.proofs.records.Runs.{part_is}
 use Rattle.link_reader.proofs.records.fill_records.Goals as goal
 use Rattle.link_reader.proofs.records.fill_records.Goals.{In_default}
@@ -11,9 +11,6 @@ never : (c : In_default) → ⊥
 never c =
     let f = c.loop-i.invariant in
     never_refused _ _ _ _ f.good (omega (arith, f.stands.inside)) c.loop-i-test.true _ _ (rw part_is at c.in_default.ensures)
-
-pub loop-i-init : goal.loop-i-init
-loop-i-init c = filling_begins c.requires
 
 pub returns-then-at-file-clause-tails : goal.returns-then-at-file-clause-tails
 returns-then-at-file-clause-tails c = tails_done c.loop-i.invariant (omega arith)

@@ -1,9 +1,9 @@
--- `Header::size` meets its contract: the bit map and the fields that stand. Assumes nothing.
+-- `FileHeader::size` meets its contract: the bit map and the fields that stand. Assumes nothing.
 use Rattle.std.proofs.Common.{arith, length-append}
 use Rattle.link_format.proofs.Numbers.{length_bytes}
 use Rattle.link_writer.proofs.Pieces.{length_field}
 use Rattle.link_writer.proofs.header.Bytes.{header_pieces, length_wanted}
-use Rattle.link_writer.proofs.header.Header.size.Goals as goal
+use Rattle.link_writer.proofs.header.FileHeader.size.Goals as goal
 
 pub returns-clause-same : goal.returns-clause-same
 returns-clause-same c =

@@ -1,12 +1,12 @@
--- `Header::write` meets its contract: the bit map and the fields are put one after the other, each with its room. Assumes nothing.
+-- `FileHeader::write` meets its contract: the bit map and the fields are put one after the other, each with its room. Assumes nothing.
 use Rattle.std.proofs.Common.{arith, ◌≡◌, ◌≤◌, ◌∷◌, ◌++◌, List, ℕ, length, ◌∙◌}
 use Rattle.link_format.specs.Format.{bytes, field_bytes, wanted_bytes}
 use Rattle.link_format.proofs.Numbers.{length_bytes}
 use Rattle.link_writer.specs.Says.{bytes_of}
 use Rattle.link_writer.proofs.Pieces.{Room, byte_room, first_room, second_room, third_room, all_put}
 use Rattle.link_writer.proofs.header.Bytes.{header_pieces}
-use Rattle.link_writer.proofs.header.Header.write.Goals as goal
-use Rattle.link_writer.proofs.header.Header.write.Goals.{After-from}
+use Rattle.link_writer.proofs.header.FileHeader.write.Goals as goal
+use Rattle.link_writer.proofs.header.FileHeader.write.Goals.{After-from}
 
 -- after the bit map: the header's pieces, and their room
 module _ (c : After-from) where
