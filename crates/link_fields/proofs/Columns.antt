@@ -21,9 +21,6 @@ pub record Column (first : List ℕ) (start : ℕ) (all buffer : List ℕ) (i : 
   -- storing the rest makes it whole
   pub same : sets buffer i left ≡ sets first start all
 
-pub column_begins : (first : List ℕ) (start : ℕ) (all : List ℕ) → Column first start all first start all
-column_begins first start all = record { kept = refl; same = refl }
-
 pub column_next : {first : List ℕ} {start : ℕ} {all buffer : List ℕ} {i x : ℕ} {left : List ℕ} → Column first start all buffer i (x ∷ left)
     → Column first start all (set buffer i x) (i + 1) left
 column_next {first} {start} {all} {buffer} {i} {x} {left} k =

@@ -27,7 +27,7 @@ nodes_read (suc k) at rest h =
     rw (le-leb 2 (length rest) (omega arith), nodes_read k (at + 2) (drop 2 rest) left, drop-drop (2 * k) 2 rest, on, far)
 
 -- and where they are not
-pub nodes_cut : (k at : ℕ) (rest : List ℕ) → length rest < 2 * k → read_nodes k at rest ≡ refused 9 (at + length rest)
+nodes_cut : (k at : ℕ) (rest : List ℕ) → length rest < 2 * k → read_nodes k at rest ≡ refused 9 (at + length rest)
 unfolding read_nodes ◌>>=◌ and_then field
 nodes_cut zero at rest h = absurd (omega arith)
 nodes_cut (suc k) at rest h =
@@ -47,7 +47,7 @@ run_cut file from count fits short =
     nodes_cut count from (drop from file) cut ∙ rw end
 
 -- one node more
-pub nodes_more : (k at : ℕ) (file : List ℕ) → nodes_in (suc k) (drop at file) ≡ number 2 (drop at file) ∷ nodes_in k (drop (at + 2) file)
+nodes_more : (k at : ℕ) (file : List ℕ) → nodes_in (suc k) (drop at file) ≡ number 2 (drop at file) ∷ nodes_in k (drop (at + 2) file)
 unfolding nodes_in
 nodes_more k at file = rw (drop-drop 2 at file)
 

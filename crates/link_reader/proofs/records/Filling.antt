@@ -31,7 +31,7 @@ got_then a (got more at rest) e = refl
 got_then a (refused n p) e = absurd (not_both _ e refl)
 
 -- a refusal is no acceptance
-pub refused_not : {A : Type 0} {o : Outcome A} {n p : ℕ} → o ≡ refused n p → accepted o ≡ true → ⊥
+refused_not : {A : Type 0} {o : Outcome A} {n p : ℕ} → o ≡ refused n p → accepted o ≡ true → ⊥
 unfolding accepted
 refused_not e good = not_both _ (rw e at good) refl
 
@@ -50,14 +50,14 @@ module _ (file : List ℕ) (at i : ℕ) (before : Option Arc) (good : accepted (
       abbrev rest : Outcome (List Arc)
       rest = remaining file r.next (i + 1) (some (arc_of r.arc))
 
-      pub next_good : accepted (remaining file r.next (i + 1) (some (arc_of r.arc))) ≡ true
+      next_good : accepted (remaining file r.next (i + 1) (some (arc_of r.arc))) ≡ true
       next_good = sym (accepted_then (arc_of r.arc) rest) ∙ ap accepted (sym (run_more file at i before more few g)) ∙ good
 
       next_list : list_got (remaining file at i before) ≡ arc_of r.arc ∷ list_got rest
       next_list = ap list_got (run_more file at i before more few g) ∙ got_then (arc_of r.arc) rest next_good
 
       -- a column, of tails, heads or lengths
-      pub next_column : (of : List Arc → List ℕ) (x : ℕ) → ((others : List Arc) → of (arc_of r.arc ∷ others) ≡ x ∷ of others) → {first : List ℕ} {all buffer : List ℕ}
+      next_column : (of : List Arc → List ℕ) (x : ℕ) → ((others : List Arc) → of (arc_of r.arc ∷ others) ≡ x ∷ of others) → {first : List ℕ} {all buffer : List ℕ}
           → Column first 0 all buffer i (of (list_got (remaining file at i before)))
           → Column first 0 all (set buffer i x) (i + 1) (of (list_got (remaining file r.next (i + 1) (some (arc_of r.arc)))))
       next_column of x cons {first} {all} {buffer} k =

@@ -29,12 +29,12 @@ module _ (c : table.Columns) where
   left_none i h = rw (drop_of_length-le c.tails.now h)
 
   -- what is left to write: a record, and those behind it; or none
-  pub bytes_more : (before : Option Arc) {i : ℕ} {a : Arc} → i < length c.tails.now → a ≡ arc_in c i
+  bytes_more : (before : Option Arc) {i : ℕ} {a : Arc} → i < length c.tails.now → a ≡ arc_in c i
       → records_bytes before (arcs_left c i) ≡ record_bytes before a ++ records_bytes (some a) (arcs_left c (i + 1))
   unfolding records_bytes
   bytes_more before h e = rw (e, left_more h)
 
-  pub bytes_none : (before : Option Arc) (i : ℕ) → length c.tails.now ≤ i → records_bytes before (arcs_left c i) ≡ []
+  bytes_none : (before : Option Arc) (i : ℕ) → length c.tails.now ≤ i → records_bytes before (arcs_left c i) ≡ []
   unfolding records_bytes
   bytes_none before i h = rw (left_none i h)
 
