@@ -1,4 +1,5 @@
-// The lines of a sheet one after the other: which comes next, and where the one behind it stands.
+// The lines of a sheet one after the other: which comes next, and where the one behind it stands. Each function asks for a line's room itself, as those
+// of crate sheet_lines do that put one.
 ghost use Rattle.std.specs.Prelude.{◌≤◌, length, Some};
 ghost use Rattle.sheet_lines.specs.Room.{line_room};
 ghost use Rattle.printer.specs.declared.plan.Cursor.TheVariants.{Start, Reached, Node, Path};
@@ -66,8 +67,8 @@ impl FinishedPlan<'_> {
         }
     }
 
-    // The first line: the refusal's where there is one, which is where its number is not 0. It is the only one, but for "no route", on which a plan is
-    // made all the same and its lines follow.
+    // The first line: the refusal's where there is one, so where the number is not 0. It is the only one, but for "no route", on which a plan is made
+    // all the same and its lines follow.
     fn first_line(&self, out: &mut [u8]) -> Piece
         requires { line_room ≤ length out.old }
         ensures { NextLine Start (printing self.now) out (Some result) }

@@ -9,8 +9,8 @@ use sheet_lines::LINE_ROOM;
 use table::MOST_NODES;
 
 impl FinishedPlan<'_> {
-    // The next piece of the sheet, from a cursor on, at the start of a buffer with room for a line: line after line, while there is room for any line.
-    // None where there is no line any more.
+    // The next piece of the sheet, from a cursor on, at the start of a buffer with room for a line: line after line, while there is room for any
+    // line. None where there is no line any more.
     pub fn next_piece(&self, cursor: Cursor, out: &mut [u8]) -> Option<Piece>
         requires { line_room ≤ length out.old }
         ensures { Continues (printing self.now) cursor result out.new }

@@ -13,7 +13,8 @@ pub returns-then-number : goal.returns-then-number
 unfolding printing answered rest
 returns-then-number c =
     gives_put _ _ _ _ _ _ _
-    (start_no_route (printing c.args.self.now) c.if-number-eq0.false (c.if-number.true ∙ c.number.ensures)) (refused_some _ _) c.put_refused.ensures refl
+    (start_no_route (printing c.args.self.now) c.if-number-eq0.false (c.if-number.true ∙ c.number.ensures)) (refused_some _ _)
+    c.put_refused.ensures refl
 
 pub returns-else-number : goal.returns-else-number
 unfolding printing answered rest

@@ -1,5 +1,5 @@
--- `printer::plan::FinishedPlan::next_line` meets its contract: at each cursor the line that stands there is put, and the next cursor leads to the rest.
--- Assumes nothing.
+-- `printer::plan::FinishedPlan::next_line` meets its contract: at each cursor the line that stands there is put, and the next cursor leads to the
+-- rest. Assumes nothing.
 use mathlib.Core.Path.{refl}
 use Rattle.hand_over.specs.Answered.{answered}
 use Rattle.sheet.specs.Sheet.{from_counts}

@@ -11,7 +11,8 @@ pub overflow_add-piece : goal.overflow_add-piece
 overflow_add-piece c =
     let l = c.loop-out in
     let line = c.next_line in
-    let f = filling_next (printing c.args.self.now) _ _ l.out l.piece.count _ l.invariant line.new.out c.in-Some.line line.auto.out c.in-Some.ensures in
+    let f =
+    filling_next (printing c.args.self.now) _ _ l.out l.piece.count _ l.invariant line.new.out c.in-Some.line line.auto.out c.in-Some.ensures in
     omega (arith, f.inside, f.same)
 
 pub loop-out-smaller : goal.loop-out-smaller
