@@ -2,15 +2,15 @@
 -- on, is made along the node's list. Assumes nothing.
 use mathlib.Core.Path.{◌≡◌, refl, sym, ap, subst, ◌∙◌}
 use mathlib.Core.List.{List}
-use mathlib.Core.Logic.{⊎_elim}
+use mathlib.Core.Logic.{⊎_elim, ∥∥₁_elim}
 use Prim.Native.Nat.{ℕ, zero, suc, ◌+◌, ◌-◌, ◌≤◌, ◌<◌}
 use native.Mathlib.Omega.{arith}
 use lib.ListN.{length, get_or}
 use borrow.Author.Tests.{eq-eqb, ne_eqb}
 use Rattle.table.specs.Table.{Table, arc_count, tail_at, no_arc, most_arcs}
 use Rattle.table.proofs.Basics.{same_or}
-use Rattle.forward_star.specs.Lists.{next_out}
-use Rattle.forward_star.proofs.Outgoing.{star, Outgoing}
+use Rattle.std.proofs.Props.{props}
+use Rattle.forward_star.specs.Lists.{star, next_out, Outgoing, SomeTable}
 
 -- an arc out of v at a position from i on, or none
 record Found (t : Table) (k i v p : ℕ) : Type 0 where
@@ -125,26 +125,45 @@ module _ {t : Table} {hs ls first next : List ℕ} (here : Outgoing t (star hs l
   none_left p e = omega (arith, here.few)
 
 -- what a read of the arc at p needs, and the next one
-pub record Readable (t : Table) (hs ls next : List ℕ) (p : ℕ) : Type 0 where
-  pub inside : p < arc_count t
+pub record Readable (hs ls first next : List ℕ) (p : ℕ) : Type 0 where
   pub in_heads : p < length hs
   pub in_lengths : p < length ls
   pub in_next : p < length next
-  pub head_in : get_or hs p 0 < t.n
+  pub head_in : get_or hs p 0 < length first
   pub rises : p < get_or next p 0
   pub low : get_or next p 0 ≤ no_arc
 
-pub readable : {t : Table} {hs ls first next : List ℕ} {v p : ℕ} → Outgoing t (star hs ls first next) → OnList t v p → (p ≡ no_arc → ⊥) →
-    Readable t hs ls next p
-readable {t} {hs} {ls} {first} {next} {v} {p} here on more =
-    let at = (on.inside more).0 in
-    let n = on_next here v on more in
+-- the forward star of a table has it on every list,
+pub readable_in : {t : Table} {hs ls first next : List ℕ} {v p : ℕ} → Outgoing t (star hs ls first next) → OnList t v p → (p ≡ no_arc → ⊥) →
+    Readable hs ls first next p
+readable_in {t} {hs} {ls} {first} {next} {v} {p} here walk more =
+    let at = (walk.inside more).0 in
+    let n = on_next here v walk more in
     record {
-      inside = at;
       in_heads = omega (arith, here.head_count);
       in_lengths = omega (arith, here.length_count);
       in_next = omega (arith, here.linked.next_count);
-      head_in = omega (arith, here.head p at, here.head_in p at);
+      head_in = omega (arith, here.head p at, here.head_in p at, here.linked.first_count);
       rises = n.1;
       low = on_low here v n.0;
     }
+
+readable_is_fact : (hs ls first next : List ℕ) (p : ℕ) → IsProp (Readable hs ls first next p)
+readable_is_fact hs ls first next p = Prim.hlevel props
+
+-- and so has that of some table,
+pub readable : {hs ls first next : List ℕ} {v p : ℕ} → ∥ SomeTable (star hs ls first next) ∥₁ →
+    ((t : Table) → Outgoing t (star hs ls first next) → OnList t v p) → (p ≡ no_arc → ⊥) → Readable hs ls first next p
+unfolding SomeTable
+readable {hs} {ls} {first} {next} {v} {p} of on more =
+    ∥∥₁_elim of (readable_is_fact hs ls first next p) (λ some. readable_in some.1 (on some.0 some.1) more)
+
+-- of which each arc leads to a node
+pub head_inside : (hs ls first next : List ℕ) → ∥ SomeTable (star hs ls first next) ∥₁ → (i : ℕ) → i < length hs → get_or hs i 0 < length first
+unfolding SomeTable
+head_inside hs ls first next of i h =
+    ∥∥₁_elim of (Prim.hlevel props)
+    (λ some.
+    let here = some.1 in
+    let at : i < arc_count some.0 = omega (arith, here.head_count) in
+    omega (arith, here.head i at, here.head_in i at, here.linked.first_count))

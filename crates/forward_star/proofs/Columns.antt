@@ -1,5 +1,5 @@
 -- A table that is not refused: what linking its arcs needs, and that the lists are its forward star. Assumes nothing.
-use mathlib.Core.Path.{◌≡◌, refl, sym, ap, ◌∙◌}
+use mathlib.Core.Path.{◌≡◌, refl, sym, ap, subst, ◌∙◌}
 use mathlib.Core.List.{List, ◌++◌}
 use Prim.Native.Nat.{ℕ, zero, suc, ◌≤◌, ◌<◌}
 use native.Mathlib.Omega.{arith}
@@ -11,9 +11,9 @@ use Rattle.table.specs.Table.{Table, arc_count, arc_at, head_at, length_at, no_a
 use Rattle.table.proofs.Present.{present_tail, absent_tail, down_absent, up_present}
 use Rattle.table.proofs.Columns.{count_so, end_so, head_so, length_so, nodes_so, origin_so}
 use Rattle.auction.proofs.Good.{Good, good}
-use Rattle.forward_star.specs.declared.star.Star.{Star}
-use Rattle.forward_star.specs.Lists.{Linked, Empty}
-use Rattle.forward_star.proofs.Outgoing.{star, Tails, Outgoing}
+use Rattle.table.specs.declared.links.Columns.{Columns}
+use Rattle.forward_star.specs.declared.linked.LinkedTable.{LinkedTable}
+use Rattle.forward_star.specs.Lists.{Star, star, Tails, Linked, Outgoing, SomeTable}
 
 -- THE TABLE that the code's struct holds
 module _ (l : LinkTable) where
@@ -93,9 +93,21 @@ module _ (l : LinkTable) where
         linked = linked;
       }
 
--- and its forward star
-pub outgoing_of : (s : Star) → Outgoing (table_in s.table) (star s.table.columns.heads.now s.table.columns.lengths.now s.first.now s.next.now)
-outgoing_of s = outgoing s.table s.linked
+-- and its forward star, with the column of tails
+pub tails_of_star : (s : LinkedTable) → Tails (table_in s.table) s.star.columns.tails.now s.star.columns.lengths.now
+tails_of_star s = subst (λ (c : Columns). Tails (table_in s.table) c.tails.now c.lengths.now) (sym s.same_columns) (tails_held s.table)
+
+pub star_tails_below : (s : LinkedTable) (i : ℕ) → i < length s.star.columns.tails.now → get_or s.star.columns.tails.now i 0 < s.table.n
+star_tails_below s =
+    subst (λ (c : Columns). (i : ℕ) → i < length c.tails.now → get_or c.tails.now i 0 < s.table.n) (sym s.same_columns) (tails_below s.table)
+
+pub nodes_listed : (s : LinkedTable) → length s.star.first.now ≡ s.table.n
+nodes_listed s = s.listed.linked.first_count ∙ nodes_are s.table
+
+-- a table's forward star is that of some table
+pub some_table : {t : Table} {o : Star} → Outgoing t o → ∥ SomeTable o ∥₁
+unfolding SomeTable
+some_table {t} {o} of = ∣ (t, of) ∣₁
 
 -- an array whose first part has been lent and has come back
 prefix_fits : (a b : List ℕ) (n : ℕ) → length a ≡ n → n ≤ length (a ++ b)
@@ -131,37 +143,45 @@ lent_again room n part = take n (back_in room n part)
 pub record Linkable (n m : ℕ) : Type 0 where
   pub few_nodes : n ≤ most_nodes
   pub few_arcs : m ≤ most_arcs
-  pub empty : Empty n (take n (no_arcs most_nodes))
+  pub first_long : length (take n (no_arcs most_nodes)) ≡ n
   pub next_long : length (take m (no_arcs most_arcs)) ≡ m
+  pub no_first : (v : ℕ) → v < length (take n (no_arcs most_nodes)) → get_or (take n (no_arcs most_nodes)) v 0 ≡ no_arc
 
 -- what is known of them where they have come back
-pub record Relent (t : Table) (n m : ℕ) (first next : List ℕ) : Type 0 where
-  pub first_part : n ≤ length (back_in most_nodes n first)
-  pub next_part : m ≤ length (back_in most_arcs m next)
-  pub linked : Linked t (lent_again most_nodes n first) (lent_again most_arcs m next)
+pub record Relent (l : LinkTable) (first next : List ℕ) : Type 0 where
+  pub first_part : l.n ≤ length (back_in most_nodes l.n first)
+  pub next_part : length l.columns.tails.now ≤ length (back_in most_arcs (length l.columns.tails.now) next)
+  pub listed : Outgoing (table_in l)
+      (star l.columns.heads.now l.columns.lengths.now (lent_again most_nodes l.n first) (lent_again most_arcs (length l.columns.tails.now) next))
 
 module _ (l : LinkTable) where
   pub linkable : Linkable l.n (length l.columns.tails.now)
   linkable =
+      let long = filled_long most_nodes l.n no_arc (few_nodes l) in
       record {
         few_nodes = few_nodes l;
         few_arcs = few_tails l;
-        empty = record {
-          count = filled_long most_nodes l.n no_arc (few_nodes l);
-          none = λ v h. filled_with most_nodes l.n no_arc v (few_nodes l) h;
-        };
+        first_long = long;
         next_long = filled_long most_arcs (length l.columns.tails.now) no_arc (few_tails l);
+        no_first = λ v h. filled_with most_nodes l.n no_arc v (few_nodes l) (omega (arith, long));
       }
 
-  pub relent : {first next : List ℕ} → Linked (table_in l) first next → Relent (table_in l) l.n (length l.columns.tails.now) first next
-  relent {first} {next} linked =
+  pub relent : {first next : List ℕ} → length first ≡ length (take l.n (no_arcs most_nodes)) →
+      length next ≡ length (take (length l.columns.tails.now) (no_arcs most_arcs)) →
+      ((t : Table) → t.n ≡ length (take l.n (no_arcs most_nodes)) → Tails t l.columns.tails.now l.columns.lengths.now → Linked t first next) →
+      Relent l first next
+  relent {first} {next} as_first as_next linked =
       let m = length l.columns.tails.now in
-      let first_is : length first ≡ l.n = omega (arith, linked.first_count, nodes_are l) in
-      let next_is : length next ≡ m = omega (arith, linked.next_count, arcs_are l) in
+      let k = linkable in
+      let first_is : length first ≡ l.n = omega (arith, as_first, k.first_long) in
+      let next_is : length next ≡ m = omega (arith, as_next, k.next_long) in
       let rest = drop l.n (no_arcs most_nodes) in
       let others = drop m (no_arcs most_arcs) in
       record {
         first_part = prefix_fits first rest l.n first_is;
         next_part = prefix_fits next others m next_is;
-        linked = rw (take_at first rest l.n first_is, take_at next others m next_is) linked;
+        listed =
+            outgoing l
+            (rw (take_at first rest l.n first_is, take_at next others m next_is)
+            (linked (table_in l) (nodes_are l ∙ sym k.first_long) (tails_held l)));
       }

@@ -9,8 +9,7 @@ use lib.Seq.{get_or-set_same, get_or-set_other}
 use borrow.Author.Tests.{eq-eqb, ne_eqb}
 use Rattle.table.specs.Table.{Table, arc_count, tail_at, down, no_arc}
 use Rattle.table.proofs.Basics.{same_or}
-use Rattle.forward_star.specs.Lists.{next_out, Linked}
-use Rattle.forward_star.proofs.Outgoing.{Tails}
+use Rattle.forward_star.specs.Lists.{next_out, Tails, Linked}
 
 pub record LinkedFrom (t : Table) (p : ℕ) (first next : List ℕ) : Type 0 where
   pub first_arc : (v : ℕ) → v < t.n → get_or first v 0 ≡ next_out (arc_count t - p) p t v

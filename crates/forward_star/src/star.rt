@@ -1,14 +1,13 @@
-// A table with the lists of its outgoing arcs.
-ghost use Rattle.table.specs.Lent.{table_in};
-ghost use Rattle.forward_star.specs.Lists.{Linked};
+// The columns of a table with the lists of its outgoing arcs.
+ghost use Rattle.forward_star.specs.Lists.{star, SomeTable};
 
-use table::links::LinkTable;
+use table::links::Columns;
 
-// A table, and for each node its first outgoing arc, for each arc the next one that leaves the same node.
+// The forward star of some table, with the column of tails: for each node its first outgoing arc, for each arc the next one that leaves the same node.
 #[derive(Clone, Copy)]
-pub struct Star<'a> {
-    pub table: LinkTable<'a>,
+pub struct ForwardStar<'a> {
+    pub columns: Columns<'a>,
     pub first: &'a [u16],
     pub next: &'a [u16],
-    ghost linked: { Linked (table_in table) first.now next.now },
+    ghost of_some_table: { ∥ SomeTable (star columns.heads.now columns.lengths.now first.now next.now) ∥₁ },
 }

@@ -12,7 +12,7 @@ use borrow.Author.Tests.{eq-eqb, ne_eqb, le-leb, lt-leb, leb-true, leb-false}
 use Rattle.std.specs.Prelude as code
 use Rattle.table.specs.Table.{Table, arc_count, tail_at, head_at, no_arc}
 use Rattle.table.proofs.Basics.{true_or}
-use Rattle.forward_star.proofs.Outgoing.{star, Outgoing}
+use Rattle.forward_star.specs.Lists.{star, Outgoing}
 use Rattle.forward_star.proofs.Along.{OwnArcs, OnList, on_first, on_next, here_left, own_first, own_next, none_left}
 use Rattle.keeping.specs.Keeping.{lesser, between, shortest_from, step_length}
 use Rattle.keeper.specs.Totals.{held}

@@ -11,7 +11,8 @@ ghost use Rattle.keeping.specs.Keeping.{lesser, lent_total, stays, keep, keeps, 
 ghost use Rattle.keeper.specs.Totals.{held, step_from, answer, chosen};
 
 use forward_star::link_arcs;
-use forward_star::star::Star;
+use forward_star::linked::LinkedTable;
+use forward_star::star::ForwardStar;
 use keeping::Kept;
 use refusals::{Rooms, check_table};
 use table::faults::{Fault, Refusal};
@@ -27,10 +28,11 @@ fn lesser(shortest: Option<u32>, length: u32) -> Option<u32>
 
 // The length of the shortest arc from one node to another, where there is one. Only the arcs out of the first node are looked at, and what is no node has
 // none.
-fn step_length(star: &Star, from: u16, to: u16) -> Option<u32>
-    ensures { held result ≡ step_from (table_in star.now.table) from to }
+fn step_length(linked: &LinkedTable, from: u16, to: u16) -> Option<u32>
+    ensures { held result ≡ step_from (table_in linked.now.table) from to }
 {
-    let columns = star.table.columns;
+    let star = &linked.star;
+    let columns = star.columns;
     let mut shortest = None;
     let mut p = *star.first.get(usize::from(from))?;
     while p != NO_ARC {
@@ -44,8 +46,8 @@ fn step_length(star: &Star, from: u16, to: u16) -> Option<u32>
 }
 
 // The total of a list, where it is a walk of 1 to MOST_NODES nodes.
-fn total(star: &Star, list: &[u16]) -> Option<u64>
-    ensures { held result ≡ lent_total (table_in star.now.table) list.now }
+fn total(linked: &LinkedTable, list: &[u16]) -> Option<u64>
+    ensures { held result ≡ lent_total (table_in linked.now.table) list.now }
 {
     let last = *list.last()?;
     if MOST_NODES < list.len() {
@@ -53,9 +55,9 @@ fn total(star: &Star, list: &[u16]) -> Option<u64>
     }
     let mut total = 0;
     for step in list.windows(2) {
-        total += u64::from(step_length(star, step[0], step[1])?);
+        total += u64::from(step_length(linked, step[0], step[1])?);
     }
-    if usize::from(last) < star.first.len() {
+    if usize::from(last) < linked.star.first.len() {
         Some(total)
     } else {
         None
@@ -63,22 +65,22 @@ fn total(star: &Star, list: &[u16]) -> Option<u64>
 }
 
 // Whether the standing list is kept beside a fresh list of this total.
-fn stays(star: &Star, standing: &[u16], fresh: &[u16], most: u64) -> bool
-    requires { held (Some most) ≡ lent_total (table_in star.now.table) fresh.now }
-    ensures { result ≡ stays (table_in star.now.table) standing.now fresh.now }
+fn stays(linked: &LinkedTable, standing: &[u16], fresh: &[u16], most: u64) -> bool
+    requires { held (Some most) ≡ lent_total (table_in linked.now.table) fresh.now }
+    ensures { result ≡ stays (table_in linked.now.table) standing.now fresh.now }
 {
     if standing.first() != fresh.first() || standing.last() != fresh.last() {
         return false;
     }
-    total(star, standing).is_some_and(|total| total <= most)
+    total(linked, standing).is_some_and(|total| total <= most)
 }
 
 // Whether the standing list is kept, or the fresh one's refusal.
-fn choose(star: &Star, standing: &[u16], fresh: &[u16]) -> Result<bool, Refusal>
-    ensures { answer result standing.now fresh.now ≡ chosen (table_in star.now.table) standing.now fresh.now }
+fn choose(linked: &LinkedTable, standing: &[u16], fresh: &[u16]) -> Result<bool, Refusal>
+    ensures { answer result standing.now fresh.now ≡ chosen (table_in linked.now.table) standing.now fresh.now }
 {
-    let most = total(star, fresh).ok_or(Fault::NoWalk.at(0))?;
-    Ok(stays(star, standing, fresh, most))
+    let most = total(linked, fresh).ok_or(Fault::NoWalk.at(0))?;
+    Ok(stays(linked, standing, fresh, most))
 }
 
 // The same by a table: its arcs are linked once, and each step looks at the arcs out of its first node.
@@ -86,16 +88,23 @@ fn compare(table: LinkTable, standing: &[u16], fresh: &[u16]) -> Result<bool, Re
     ensures { answer result standing.now fresh.now ≡ chosen (table_in table.entry) standing.now fresh.now }
 {
     let n = table.n;
-    let m = table.columns.tails.len();
+    let columns = table.columns;
+    let m = columns.tails.len();
     let mut first = [NO_ARC; MOST_NODES];
     let mut next = [NO_ARC; MOST_ARCS];
-    link_arcs(&table, &mut first[..n], &mut next[..m]);
-    let star = Star {
-        table,
+    link_arcs(
+        columns.tails,
+        columns.lengths,
+        &mut first[..n],
+        &mut next[..m],
+    );
+    let star = ForwardStar {
+        columns,
         first: &first[..n],
         next: &next[..m],
     };
-    choose(&star, standing, fresh)
+    let linked = LinkedTable { table, star };
+    choose(&linked, standing, fresh)
 }
 
 // Whether the standing list is kept, or the refusal: 1, 2, 6 and 7, then 15. Node 0 stands for an origin, nothing is wanted, and the buffers fit.

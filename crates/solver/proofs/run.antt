@@ -1,5 +1,6 @@
--- The wanted node that is looked for, what the nodes remember, the loop of iterations, and how it begins.
+-- The wanted node that is looked for, how nodes forget and what they remember, the loop of iterations, and how it begins.
 pub mod Wanted
+pub mod Forgetting
 pub mod Holding
 pub mod Recalling
 pub mod Ready

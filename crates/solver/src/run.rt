@@ -1,13 +1,15 @@
 // The run: iterations until every wanted node has been reached, the origin's price is above a limit, or the origin has no children.
-ghost use Rattle.std.specs.Prelude.{◌≡◌, ℕ, ◌≤◌, ◌<◌, length, get_or};
+ghost use Rattle.std.specs.Prelude.{◌≡◌, List, ℕ, ◌≤◌, ◌<◌, length, get_or};
 ghost use Rattle.table.specs.Lent.{table_in};
 ghost use Rattle.auction.specs.Auction.{fresh, start};
+ghost use Rattle.steps.specs.declared.state.Progress.{Progress};
 ghost use Rattle.steps.specs.Seen.{run_of, held, statuses_in};
 ghost use Rattle.steps.specs.Memory.{AllForgotten};
 ghost use Rattle.solver.specs.Runs.{RanWithin, FirstFrom, is_above};
 
 use forward_star::link_arcs;
-use forward_star::star::Star;
+use forward_star::linked::LinkedTable;
+use forward_star::star::ForwardStar;
 use steps::bids::{LeastBid, least_bid};
 use steps::reaching::reach;
 use steps::state::{NO_NODE, Node, Progress, RunEnd};
@@ -44,15 +46,22 @@ fn is_above(limit: u64, least: Option<LeastBid>) -> bool
 // origin's price has become the least bid, and no other iteration changes it, so the limit is held against that bid; the wanted nodes are
 // looked at where the path is longer, since no other iteration reaches a node. The loop has no cap: it ends because the auction does, and
 // its measure is the auction's own bound less the iterations made.
-fn iterate(begun: Progress, limit: u64, star: &Star, path: &mut [u16], nodes: &mut [Node]) -> RunEnd
-    requires long { (length path.old ≡ star.now.table.n) × (length nodes.old ≡ star.now.table.n) }
-    requires begun { held (run_of path.old nodes.old begun) ≡ start (table_in star.now.table) }
+fn iterate(
+    begun: Progress,
+    limit: u64,
+    linked: &LinkedTable,
+    path: &mut [u16],
+    nodes: &mut [Node],
+) -> RunEnd
+    requires long { (length path.old ≡ linked.now.table.n) × (length nodes.old ≡ linked.now.table.n) }
+    requires begun { held (run_of path.old nodes.old begun) ≡ start (table_in linked.now.table) }
     requires forgotten { AllForgotten nodes.old }
-    ensures { RanWithin (table_in star.now.table) star.now.table.wanted.now limit result.missing result.scans
+    ensures { RanWithin (table_in linked.now.table) linked.now.table.wanted.now limit result.missing result.scans
         (held (run_of path.new nodes.new result.progress)) }
 {
-    let wanted = star.table.wanted;
-    let origin = usize::from(star.table.origin);
+    let star = &linked.star;
+    let wanted = linked.table.wanted;
+    let origin = usize::from(linked.table.origin);
     let mut g = begun;
     let mut scans = 0;
     let mut w = first_unreached(0, wanted, nodes);
@@ -72,7 +81,7 @@ fn iterate(begun: Progress, limit: u64, star: &Star, path: &mut [u16], nodes: &m
                 };
             }
             scans += 1;
-            g = step(g, v, least, star, path, nodes);
+            g = step(g, v, least, origin, star, path, nodes);
             if is_above(limit, least) && depth == g.depth {
                 return RunEnd {
                     missing: w,
@@ -96,19 +105,29 @@ fn iterate(begun: Progress, limit: u64, star: &Star, path: &mut [u16], nodes: &m
 fn run_linked(
     begun: Progress,
     limit: u64,
-    star: &Star,
+    linked: &LinkedTable,
     path: &mut [u16],
     nodes: &mut [Node],
 ) -> RunEnd
-    requires long { (length path.old ≡ star.now.table.n) × (length nodes.old ≡ star.now.table.n) }
-    requires begun { held (run_of path.old nodes.old begun) ≡ fresh (table_in star.now.table) }
+    requires long { (length path.old ≡ linked.now.table.n) × (length nodes.old ≡ linked.now.table.n) }
+    requires begun { held (run_of path.old nodes.old begun) ≡ fresh (table_in linked.now.table) }
     requires forgotten { AllForgotten nodes.old }
-    ensures { RanWithin (table_in star.now.table) star.now.table.wanted.now limit result.missing result.scans
+    ensures { RanWithin (table_in linked.now.table) linked.now.table.wanted.now limit result.missing result.scans
         (held (run_of path.new nodes.new result.progress)) }
 {
-    let origin = usize::from(star.table.origin);
-    reach(origin, star, nodes);
-    iterate(begun, limit, star, path, nodes)
+    let origin = usize::from(linked.table.origin);
+    reach(origin, &linked.star, nodes);
+    iterate(begun, limit, linked, path, nodes)
+}
+
+// Every node forgets its child; the state that is held stays as it is.
+fn forget_all(nodes: &mut [Node])
+    ensures forgotten { AllForgotten nodes.new }
+    ensures held { (path : List ℕ) (g : Progress) → held (run_of path nodes.new g) ≡ held (run_of path nodes.old g) }
+{
+    for node in nodes.iter_mut() {
+        node.remembered = NO_NODE;
+    }
 }
 
 // The whole run within a limit, from the fresh state that is lent to the state where it ends.
@@ -121,18 +140,28 @@ pub fn run(
 ) -> RunEnd
     requires long { (length path.old ≡ table.now.n) × (length nodes.old ≡ table.now.n) }
     requires begun { held (run_of path.old nodes.old begun) ≡ fresh (table_in table.now) }
-    requires forgotten { AllForgotten nodes.old }
     ensures { RanWithin (table_in table.now) table.now.wanted.now limit result.missing result.scans (held (run_of path.new nodes.new result.progress)) }
 {
     let n = table.n;
-    let m = table.columns.tails.len();
+    let columns = table.columns;
+    let m = columns.tails.len();
     let mut first = [NO_ARC; MOST_NODES];
     let mut next = [NO_ARC; MOST_ARCS];
-    link_arcs(table, &mut first[..n], &mut next[..m]);
-    let star = Star {
-        table: *table,
+    link_arcs(
+        columns.tails,
+        columns.lengths,
+        &mut first[..n],
+        &mut next[..m],
+    );
+    let star = ForwardStar {
+        columns,
         first: &first[..n],
         next: &next[..m],
     };
-    run_linked(begun, limit, &star, path, nodes)
+    let linked = LinkedTable {
+        table: *table,
+        star,
+    };
+    forget_all(nodes);
+    run_linked(begun, limit, &linked, path, nodes)
 }

@@ -12,7 +12,7 @@ use borrow.Author.Tests.{ne_eqb, leb-true, leb-false, le-leb, lt-leb}
 use Rattle.table.specs.Table.{Table, arc_count, tail_at, head_at, length_at, no_arc}
 use Rattle.auction.specs.Auction.{State, Bid, bid, offer, offers, takes, best_from, to_child, with_bid, lower_bid, price_at}
 use Rattle.table.proofs.Basics.{true_or}
-use Rattle.forward_star.proofs.Outgoing.{star, Outgoing}
+use Rattle.forward_star.specs.Lists.{star, Outgoing}
 use Rattle.forward_star.proofs.Along.{OwnArcs, OnList, here_left, own_first, own_next, none_left}
 use Rattle.steps.specs.Steps.{lower_of}
 

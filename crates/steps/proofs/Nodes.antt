@@ -9,7 +9,7 @@ use Rattle.table.proofs.Basics.{map_set}
 use Rattle.steps.specs.declared.state.Node.{Node}
 use Rattle.steps.specs.declared.state.Status.{Status}
 use Rattle.steps.specs.declared.state.Progress.{Progress}
-use Rattle.forward_star.specs.declared.star.Star.{Star}
+use Rattle.forward_star.specs.declared.star.ForwardStar.{ForwardStar}
 use Rattle.steps.specs.Seen.{seen, run_of, held, status_number, prices_in, bounds_in, kepts_in, statuses_in}
 use Rattle.steps.specs.Memory.{nobody, node_at, Ready}
 
@@ -63,14 +63,14 @@ module _ (path : List ℕ) (ns : List Node) (g : Progress) (v : ℕ) where
       rw (written (λ a. a.price) ns v m, unwritten (λ a. a.bound) ns v m refl, unwritten (λ a. a.kept) ns v m refl, unwritten (λ a. status_number a.status) ns v m refl)
 
 -- what a step may rely on stays where no kept arc changes
-pub still_ready : {star : Star} {ns : List Node} (v : ℕ) (n : Node) → n.kept ≡ (node_at v ns).kept → Ready star ns → Ready star (set ns v n)
+pub still_ready : {star : ForwardStar} {ns : List Node} (v : ℕ) (n : Node) → n.kept ≡ (node_at v ns).kept → Ready star ns → Ready star (set ns v n)
 still_ready {star} {ns} v n e r =
     let long = length-set ns v n in
     record {
       count = long ∙ r.count;
       kept_in = record {
         listed = λ u h.
-            subst (λ (k : List ℕ). (get_or k u 0 ≡ no_arc → ⊥) → get_or k u 0 < length star.table.columns.tails.now) (sym (unwritten (λ a. a.kept) ns v n e))
+            subst (λ (k : List ℕ). (get_or k u 0 ≡ no_arc → ⊥) → get_or k u 0 < length star.columns.tails.now) (sym (unwritten (λ a. a.kept) ns v n e))
             (r.kept_in.listed u (omega arith));
         tail_in = λ i h. omega (arith, r.kept_in.tail_in i h);
       };

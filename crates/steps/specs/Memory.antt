@@ -4,12 +4,13 @@ use Rattle.std.specs.Prelude.{◌≡◌, true, false, cond, List, ◌⊎◌, ℕ
 use Rattle.std.proofs.Math.Option.{some}
 use Rattle.table.specs.Table.{Table, arc_count, tail_at, head_at, no_arc, no_node}
 use Rattle.auction.specs.Auction.{State, kept_at, status_at, to_child, unreached}
-use Rattle.forward_star.specs.declared.star.Star.{Star}
+use Rattle.forward_star.specs.declared.star.ForwardStar.{ForwardStar}
+use Rattle.forward_star.specs.Lists.{Tails}
+use Rattle.forward_star.specs.Lent.{IsStarOf}
 use Rattle.steps.specs.declared.state.Node.{Node}
 use Rattle.steps.specs.declared.state.Status.TheVariants.{Unreached}
 use Rattle.steps.specs.declared.state.RunState.{RunState}
 use Rattle.steps.specs.declared.bids.LeastBid.{LeastBid}
-use Rattle.table.specs.Lent.{table_in}
 use Rattle.steps.specs.Seen.{held, prices_in, kepts_in, memory_in}
 
 -- the node at an index
@@ -50,10 +51,10 @@ pub record KeptIn (tails : List ℕ) (nodes : List Node) : Type 0 where
   pub listed : (u : ℕ) → u < length nodes → (get_or (kepts_in nodes) u 0 ≡ no_arc → ⊥) → get_or (kepts_in nodes) u 0 < length tails
   pub tail_in : (i : ℕ) → i < length tails → get_or tails i 0 < length nodes
 
--- there are as many nodes as the table has, and each kept arc is one of its arcs
-pub record Ready (star : Star) (nodes : List Node) : Type 0 where
-  pub count : length nodes ≡ star.table.n
-  pub kept_in : KeptIn star.table.columns.tails.now nodes
+-- there are as many nodes as the forward star has, and each kept arc is one of its arcs
+pub record Ready (star : ForwardStar) (nodes : List Node) : Type 0 where
+  pub count : length nodes ≡ length star.first.now
+  pub kept_in : KeptIn star.columns.tails.now nodes
 
 -- an arc of the table that leads into node u and leaves a node
 pub record ArcInto (t : Table) (u k : ℕ) : Type 0 where
@@ -88,9 +89,11 @@ pub record Remembering (t : Table) (which : ℕ → Type 0) (remembered remember
   -- and no node begins to remember
   pub nothing : (u : ℕ) → get_or remembered u 0 ≡ no_node → get_or remembered' u 0 ≡ no_node
 
--- so it is, of these nodes, between two states of a run in which the kept arcs are arcs of the table
-abbrev pub Remembers : Table → (which : State → ℕ → Type 0) → (a b : RunState) → Type 0
-Remembers t which a b = KeptArcs t (held a) → Remembering t (which (held a)) (memory_in a.nodes) (memory_in b.nodes) (held a) (held b)
+-- so it is, of these nodes, in each table whose forward star and tails these are, where the kept arcs are arcs of the table
+abbrev pub Remembers : ForwardStar → (which : State → ℕ → Type 0) → (a b : RunState) → Type 0
+Remembers s which a b =
+    (t : Table) → IsStarOf t s → Tails t s.columns.tails.now s.columns.lengths.now → KeptArcs t (held a) →
+    Remembering t (which (held a)) (memory_in a.nodes) (memory_in b.nodes) (held a) (held b)
 
 -- all nodes but one
 abbrev pub but : (v : ℕ) → State → ℕ → Type 0
@@ -101,22 +104,22 @@ abbrev pub those_reached : State → ℕ → Type 0
 those_reached x u = unreached < status_at x u
 
 -- the child that a bid is for
-abbrev pub child_of : Star → LeastBid → ℕ
-child_of star c = get_or star.table.columns.heads.now c.arc 0
+abbrev pub child_of : ForwardStar → LeastBid → ℕ
+child_of star c = get_or star.columns.heads.now c.arc 0
 
 -- a node remembers a child
 abbrev pub remembering : (v child : ℕ) → RunState → RunState
 remembering v j r = record r { nodes = set r.nodes v (record (node_at v r.nodes) { remembered = j }) }
 
 -- AN ITERATION at node v, whose least bid is given
-pub record Remembered (v : ℕ) (least : Option LeastBid) (star : Star) (a b : RunState) : Type 0 where
+pub record Remembered (v origin : ℕ) (least : Option LeastBid) (star : ForwardStar) (a b : RunState) : Type 0 where
   -- a deletion: the node before it forgets
   pub deletes : least ≡ None → memory_in b.nodes ≡ memory_in (forgetting (before a.progress.depth a.path) a.nodes)
   -- a contraction: the node remembers the child of the bid, and the node before it, where it is not the origin, forgets
-  pub contracts : (c : LeastBid) → least ≡ Some c → get_or (prices_in a.nodes) v 0 < c.value → (v ≡ star.table.origin → ⊥) →
+  pub contracts : (c : LeastBid) → least ≡ Some c → get_or (prices_in a.nodes) v 0 < c.value → (v ≡ origin → ⊥) →
       memory_in b.nodes ≡ memory_in (forgetting (before a.progress.depth a.path) (remembering v (child_of star c) a).nodes)
-  pub at_origin : (c : LeastBid) → least ≡ Some c → get_or (prices_in a.nodes) v 0 < c.value → v ≡ star.table.origin →
+  pub at_origin : (c : LeastBid) → least ≡ Some c → get_or (prices_in a.nodes) v 0 < c.value → v ≡ origin →
       memory_in b.nodes ≡ memory_in (remembering v (child_of star c) a).nodes
   -- an extension: the node remembers the child of the bid; then nodes may lose children to a node that is reached
   pub extends : (c : LeastBid) → least ≡ Some c → c.value ≤ get_or (prices_in a.nodes) v 0 →
-      Remembers (table_in star.table) those_reached (remembering v (child_of star c) a) b
+      Remembers star those_reached (remembering v (child_of star c) a) b

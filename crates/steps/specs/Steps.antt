@@ -6,7 +6,8 @@ use Rattle.table.specs.Table.{Table, tail_at, head_at, length_at}
 use Rattle.auction.specs.Auction.{State, Bid, bid, with_bid, lower_bid, to_child, price_at, iteration, improves, unreached, Ended, iterations, was_reached, bound_at}
 use Rattle.auction.specs.Scans.{scans}
 use Rattle.auction.specs.HandOver.{first_missing}
-use Rattle.forward_star.specs.declared.star.Star.{Star}
+use Rattle.forward_star.specs.declared.star.ForwardStar.{ForwardStar}
+use Rattle.forward_star.specs.Lent.{IsStarOf}
 use Rattle.steps.specs.declared.bids.LeastBid.{LeastBid}
 use Rattle.steps.specs.declared.state.Node.{Node}
 use Rattle.steps.specs.declared.state.RunState.{RunState}
@@ -42,19 +43,19 @@ abbrev pub bid_over : (t : Table) → (position : ℕ) → State → maybe.Optio
 bid_over t i x = with_bid (to_child t (tail_at t i) i x) (bid (length_at t i + price_at x (head_at t i)) i) none
 
 -- What an iteration at node v may rely on, whose least bid is given
-pub record CanStep (v : ℕ) (least : Option LeastBid) (star : Star) (a : RunState) : Type 0 where
+pub record CanStep (v origin : ℕ) (least : Option LeastBid) (star : ForwardStar) (a : RunState) : Type 0 where
   -- it is no stop: the origin has a child
-  pub no_stop : least ≡ None → v ≡ star.table.origin → ⊥
+  pub no_stop : least ≡ None → v ≡ origin → ⊥
   -- the arc of the least bid is an arc of the table
-  pub listed : (c : LeastBid) → least ≡ Some c → c.arc < length star.table.columns.heads.now
+  pub listed : (c : LeastBid) → least ≡ Some c → c.arc < length star.columns.heads.now
   -- where the path is to be extended there is room for one node more
   pub room : (c : LeastBid) → least ≡ Some c → c.value ≤ get_or (prices_in a.nodes) v 0 → a.progress.depth < length a.path
   -- the child has a bound
   pub bounded : (c : LeastBid) → least ≡ Some c → get_or (bounds_in a.nodes) (child_of star c) 0 ≤ greatest_sum
 
--- AN ITERATION at node v, whose least bid is given: the next state is held.
-abbrev pub Steps : (v : ℕ) → Option LeastBid → Table → (a b : RunState) → Type 0
-Steps v least t a b = iteration (bid_in least) t v (held a) ≡ some (held b)
+-- AN ITERATION at node v, whose least bid is given: the next state is held, in each table whose forward star this is.
+abbrev pub Steps : (v origin : ℕ) → Option LeastBid → ForwardStar → (a b : RunState) → Type 0
+Steps v origin least s a b = (t : Table) → IsStarOf t s → t.origin ≡ origin → iteration (bid_in least) t v (held a) ≡ some (held b)
 
 -- A RUN HAS ENDED as `e` says; `missing` is the index of the first wanted node that was not reached, or their number where all were; so many scans
 -- were made

@@ -1,14 +1,14 @@
 // The least bid of a node's children.
 ghost use Rattle.std.specs.Prelude.{◌≡◌, List, ℕ, ◌≤◌, ◌<◌, length, get_or};
 ghost use Rattle.table.specs.Table.{Table, head_at, length_at, no_arc};
-ghost use Rattle.table.specs.Lent.{table_in};
 ghost use Rattle.auction.specs.Auction.{best};
+ghost use Rattle.forward_star.specs.Lent.{IsStarOf};
 ghost use Rattle.steps.specs.declared.state.Progress.{Progress};
 ghost use Rattle.steps.specs.Seen.{run_of, held, prices_in, greatest_sum};
 ghost use Rattle.steps.specs.Steps.{bid_in, lower_of, bid_over};
 
 use super::state::Node;
-use forward_star::star::Star;
+use forward_star::star::ForwardStar;
 use table::NO_ARC;
 
 // A bid's value and the position of the child's kept arc.
@@ -47,13 +47,13 @@ fn lower_bid(
 }
 
 // A scan: the least bid of a node's children, the lowest position among equals. Only the node's own arcs are looked at.
-pub fn least_bid(v: usize, star: &Star, nodes: &[Node]) -> Option<LeastBid>
-    requires nodes_len { length nodes.now ≡ star.now.table.n }
-    requires v_in_bounds { (v < star.now.table.n) × ((u : ℕ) → get_or (prices_in nodes.now) u 0 ≤ greatest_sum) }
-    ensures { (path : List ℕ) (g : Progress) → bid_in result ≡ best (table_in star.now.table) v (held (run_of path nodes.now g)) }
+pub fn least_bid(v: usize, star: &ForwardStar, nodes: &[Node]) -> Option<LeastBid>
+    requires nodes_len { length nodes.now ≡ length star.now.first.now }
+    requires v_in_bounds { (v < length star.now.first.now) × ((u : ℕ) → get_or (prices_in nodes.now) u 0 ≤ greatest_sum) }
+    ensures { (t : Table) (path : List ℕ) (g : Progress) → IsStarOf t star.now → bid_in result ≡ best t v (held (run_of path nodes.now g)) }
 {
-    let heads = star.table.columns.heads;
-    let lengths = star.table.columns.lengths;
+    let heads = star.columns.heads;
+    let lengths = star.columns.lengths;
     let next = star.next;
     let mut least = None;
     let mut p = star.first[v];

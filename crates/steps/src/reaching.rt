@@ -1,15 +1,15 @@
 // Reaching a node: its outgoing arcs are offered to their heads, in table order.
 ghost use Rattle.std.specs.Prelude.{◌≡◌, List, ℕ, ◌+◌, ◌≤◌, ◌<◌, length, get_or};
-ghost use Rattle.table.specs.Table.{arc_count, no_arc, no_distance};
-ghost use Rattle.table.specs.Lent.{table_in};
+ghost use Rattle.table.specs.Table.{Table, arc_count, no_arc, no_distance};
 ghost use Rattle.auction.specs.Auction.{improves, offers, reach};
+ghost use Rattle.forward_star.specs.Lent.{IsStarOf};
 ghost use Rattle.steps.specs.declared.state.Progress.{Progress};
 ghost use Rattle.steps.specs.Seen.{bound_of, arc_of, run_of, greatest_sum, bounds_in, statuses_in};
 ghost use Rattle.steps.specs.Memory.{without_tail, KeptIn, Ready, Remembers, but};
 ghost use Rattle.steps.specs.Steps.{Becomes, offered_arc};
 
 use super::state::{NO_NODE, Node, Status};
-use forward_star::star::Star;
+use forward_star::star::ForwardStar;
 use table::NO_ARC;
 
 // Whether a bound offered by the arc at a position is to be kept: it is smaller, or equal and from a lower position. A node that has
@@ -52,17 +52,17 @@ fn offer(head: usize, position: u16, offered: u64, tails: &[u16], nodes: &mut [N
 }
 
 // Offers every arc out of a reached node, whose distance is given, in table order: only the node's own arcs are looked at.
-fn offer_arcs(v: usize, distance: u64, star: &Star, nodes: &mut [Node])
+fn offer_arcs(v: usize, distance: u64, star: &ForwardStar, nodes: &mut [Node])
     requires ready { Ready star.now nodes.old }
-    requires v_in_bounds { (v < star.now.table.n) × (distance ≤ greatest_sum) }
+    requires v_in_bounds { (v < length star.now.first.now) × (distance ≤ greatest_sum) }
     requires distance { (0 < get_or (statuses_in nodes.old) v 0) × (get_or (bounds_in nodes.old) v 0 ≡ distance) }
-    ensures offers { (path : List ℕ) (g : Progress) → Becomes (offers (arc_count (table_in star.now.table)) 0 (table_in star.now.table) v)
-        (run_of path nodes.old g) (run_of path nodes.new g) }
-    ensures remembers { (path : List ℕ) (g : Progress) → Remembers (table_in star.now.table) (but v) (run_of path nodes.old g) (run_of path nodes.new g) }
+    ensures offers { (t : Table) (path : List ℕ) (g : Progress) → IsStarOf t star.now →
+        Becomes (offers (arc_count t) 0 t v) (run_of path nodes.old g) (run_of path nodes.new g) }
+    ensures remembers { (path : List ℕ) (g : Progress) → Remembers star.now (but v) (run_of path nodes.old g) (run_of path nodes.new g) }
 {
-    let tails = star.table.columns.tails;
-    let heads = star.table.columns.heads;
-    let lengths = star.table.columns.lengths;
+    let tails = star.columns.tails;
+    let heads = star.columns.heads;
+    let lengths = star.columns.lengths;
     let next = star.next;
     let mut p = star.first[v];
     while p != NO_ARC {
@@ -75,12 +75,13 @@ fn offer_arcs(v: usize, distance: u64, star: &Star, nodes: &mut [Node])
 }
 
 // Marks a node as reached, which fixes its distance, and offers its arcs.
-pub fn reach(v: usize, star: &Star, nodes: &mut [Node])
+pub fn reach(v: usize, star: &ForwardStar, nodes: &mut [Node])
     requires ready { Ready star.now nodes.old }
-    requires v_in_bounds { (v < star.now.table.n) × (get_or (bounds_in nodes.old) v 0 ≤ greatest_sum) }
-    ensures reaches { (path : List ℕ) (g : Progress) → Becomes (reach (table_in star.now.table) v) (run_of path nodes.old g) (run_of path nodes.new g) }
+    requires v_in_bounds { (v < length star.now.first.now) × (get_or (bounds_in nodes.old) v 0 ≤ greatest_sum) }
+    ensures reaches { (t : Table) (path : List ℕ) (g : Progress) → IsStarOf t star.now →
+        Becomes (reach t v) (run_of path nodes.old g) (run_of path nodes.new g) }
     ensures remembers { (path : List ℕ) (g : Progress) → get_or (statuses_in nodes.old) v 0 ≡ 0 →
-        Remembers (table_in star.now.table) (but v) (run_of path nodes.old g) (run_of path nodes.new g) }
+        Remembers star.now (but v) (run_of path nodes.old g) (run_of path nodes.new g) }
 {
     nodes[v].status = Status::Reached;
     let distance = nodes[v].bound;

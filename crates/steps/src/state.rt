@@ -1,9 +1,8 @@
 // The state of a run: the nodes and the path, which are lent to small functions, and numbers that travel by value.
-ghost use Rattle.std.specs.Prelude.{◌≡◌, ℕ, ◌≤◌, ◌<◌, length, take, ltb, eqb};
+ghost use Rattle.std.specs.Prelude.{◌≡◌, ℕ, ◌≤◌, ◌<◌, length, ltb, eqb};
 ghost use Rattle.table.specs.Table.{Table, most_nodes};
 ghost use Rattle.auction.specs.Auction.{fresh, unreached, deleted};
 ghost use Rattle.steps.specs.Seen.{status_number, first_of, held};
-ghost use Rattle.steps.specs.Memory.{AllForgotten};
 
 use table::{MOST_NODES, NO_ARC, NO_DISTANCE};
 
@@ -86,7 +85,6 @@ impl RunState {
     pub fn fresh(origin: u16) -> RunState
         requires { origin < most_nodes }
         ensures so { (t : Table) → t.origin ≡ origin → t.origin < t.n → t.n ≤ most_nodes → held (first_of t.n result) ≡ fresh t }
-        ensures forgotten { (n : ℕ) → n ≤ most_nodes → AllForgotten (take n result.nodes) }
         ensures long { (length result.path ≡ most_nodes) × (length result.nodes ≡ most_nodes) }
     {
         let mut path = [0; MOST_NODES];

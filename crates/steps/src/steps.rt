@@ -1,8 +1,8 @@
 // An iteration: a deletion, a contraction or an extension at the terminal node.
 ghost use Rattle.std.specs.Prelude.{◌≡◌, List, ℕ, ◌+◌, ◌≤◌, ◌<◌, length, get_or};
 ghost use Rattle.table.specs.Table.{Table};
-ghost use Rattle.table.specs.Lent.{table_in};
 ghost use Rattle.auction.specs.Auction.{deletion, contraction, extension};
+ghost use Rattle.forward_star.specs.Lent.{IsStarOf};
 ghost use Rattle.steps.specs.Seen.{run_of, bounds_in, memory_in, greatest_sum, too_many};
 ghost use Rattle.steps.specs.Memory.{before, forgetting, HasBefore, Ready, Remembers, Remembered, those_reached};
 ghost use Rattle.steps.specs.Steps.{Becomes, CanStep, Steps};
@@ -10,7 +10,7 @@ ghost use Rattle.steps.specs.Steps.{Becomes, CanStep, Steps};
 use super::bids::LeastBid;
 use super::reaching::reach;
 use super::state::{NO_NODE, Node, Progress, Status};
-use forward_star::star::Star;
+use forward_star::star::ForwardStar;
 
 // The node before the terminal one on the path forgets the child that it remembers, which is the terminal node: it scans again.
 fn forget_before(depth: usize, path: &[u16], nodes: &mut [Node])
@@ -41,7 +41,7 @@ fn delete(g: Progress, v: usize, path: &[u16], nodes: &mut [Node]) -> Progress
 fn contract(
     g: Progress,
     v: usize,
-    origin: u16,
+    origin: usize,
     value: u64,
     path: &[u16],
     nodes: &mut [Node],
@@ -57,7 +57,7 @@ fn contract(
         contractions: g.contractions + 1,
         ..g
     };
-    if v == usize::from(origin) {
+    if v == origin {
         return contracted;
     }
     forget_before(g.depth, path, nodes);
@@ -71,15 +71,16 @@ fn contract(
 pub fn extend(
     g: Progress,
     child: u16,
-    star: &Star,
+    star: &ForwardStar,
     path: &mut [u16],
     nodes: &mut [Node],
 ) -> Progress
     requires ready { Ready star.now nodes.old }
-    requires child_in_bounds { (child < star.now.table.n) × (get_or (bounds_in nodes.old) child 0 ≤ greatest_sum) }
+    requires child_in_bounds { (child < length star.now.first.now) × (get_or (bounds_in nodes.old) child 0 ≤ greatest_sum) }
     requires room { (g.depth < length path.old) × (g.extensions < too_many) }
-    ensures extends { Becomes (extension (table_in star.now.table) child) (run_of path.old nodes.old g) (run_of path.new nodes.new result) }
-    ensures remembers { Remembers (table_in star.now.table) those_reached (run_of path.old nodes.old g) (run_of path.new nodes.new result) }
+    ensures extends { (t : Table) → IsStarOf t star.now →
+        Becomes (extension t child) (run_of path.old nodes.old g) (run_of path.new nodes.new result) }
+    ensures remembers { Remembers star.now those_reached (run_of path.old nodes.old g) (run_of path.new nodes.new result) }
 {
     path[g.depth] = child;
     let longer = Progress {
@@ -100,26 +101,27 @@ pub fn step(
     g: Progress,
     v: usize,
     least: Option<LeastBid>,
-    star: &Star,
+    origin: usize,
+    star: &ForwardStar,
     path: &mut [u16],
     nodes: &mut [Node],
 ) -> Progress
     requires ready { Ready star.now nodes.old }
-    requires v_in_bounds { (v < star.now.table.n) × ((1 ≤ g.depth) × (g.contractions + g.extensions + g.deletions < too_many)) }
-    requires can_step { CanStep v least star.now (run_of path.old nodes.old g) }
-    requires has_before { (v ≡ star.now.table.origin → ⊥) → HasBefore g.depth path.old nodes.old }
-    ensures steps { Steps v least (table_in star.now.table) (run_of path.old nodes.old g) (run_of path.new nodes.new result) }
-    ensures remembers { Remembered v least star.now (run_of path.old nodes.old g) (run_of path.new nodes.new result) }
+    requires v_in_bounds { (v < length star.now.first.now) × ((1 ≤ g.depth) × (g.contractions + g.extensions + g.deletions < too_many)) }
+    requires can_step { CanStep v origin least star.now (run_of path.old nodes.old g) }
+    requires has_before { (v ≡ origin → ⊥) → HasBefore g.depth path.old nodes.old }
+    ensures steps { Steps v origin least star.now (run_of path.old nodes.old g) (run_of path.new nodes.new result) }
+    ensures remembers { Remembered v origin least star.now (run_of path.old nodes.old g) (run_of path.new nodes.new result) }
 {
     let Some(bid) = least else {
         return delete(g, v, path, nodes);
     };
-    let heads = star.table.columns.heads;
+    let heads = star.columns.heads;
     let child = heads[usize::from(bid.arc)];
     let price = nodes[v].price;
     nodes[v].remembered = child;
     if price < bid.value {
-        return contract(g, v, star.table.origin, bid.value, path, nodes);
+        return contract(g, v, origin, bid.value, path, nodes);
     }
     extend(g, child, star, path, nodes)
 }

@@ -5,25 +5,24 @@ use native.Mathlib.Omega.{arith}
 use lib.ListN.{length, get_or}
 use borrow.Author.Tests.{lt-ltb}
 use Rattle.std.proofs.lemmas.Bool.Decides.{nat_tests}
-use Rattle.table.specs.Lent.{table_in}
-use Rattle.forward_star.proofs.Along.{Readable, readable}
-use Rattle.forward_star.proofs.Columns.{outgoing_of}
+use Rattle.forward_star.proofs.Along.{Readable, readable_in}
 use Rattle.keeper.proofs.Stepping.{begins, into, elsewhere, ends}
 use Rattle.keeper.proofs.step_length.Goals as goal
 use Rattle.keeper.proofs.step_length.Goals.{In-loop-p, then-columns-i, else-columns-i}
 
 -- inside the loop the arc at p can be read
 inside : (c : In-loop-p) →
-    let s = c.args.star.now in
-    Readable (table_in s.table) s.table.columns.heads.now s.table.columns.lengths.now s.next.now c.loop-p.p
-inside c = readable (outgoing_of c.args.star.now) c.loop-p.invariant.on_list c.loop-p-test.true
+    let s = c.args.linked.now.star in
+    Readable s.columns.heads.now s.columns.lengths.now s.first.now s.next.now c.loop-p.p
+inside c = readable_in c.args.linked.now.listed c.loop-p.invariant.on_list c.loop-p-test.true
 
 pub loop-p-init : goal.loop-p-init
 loop-p-init c =
-    let s = c.args.star.now in
+    let s = c.args.linked.now.star in
+    let of = c.args.linked.now.listed in
     let f : (c.args.from < length s.first.now) × (c.in_ok-p.field-0.now ≡ get_or s.first.now c.args.from 0) =
     grind (arith, nat_tests, c.in_ok-p.ensures.lookup) in
-    rw f.1 (begins (outgoing_of s) c.args.from c.args.to (omega (arith, f.0, s.linked.first_count)))
+    rw f.1 (begins of c.args.from c.args.to (omega (arith, f.0, of.linked.first_count)))
 
 pub bounds-columns-i : goal.bounds-columns-i
 bounds-columns-i c = let r = inside (goal.at.bounds-columns-i c).In-loop-p in omega (arith, r.in_heads)
@@ -37,7 +36,7 @@ loop-p-smaller c =
 
 pub loop-p-preserved : goal.loop-p-preserved
 loop-p-preserved c =
-    let here = outgoing_of c.args.star.now in
+    let here = c.args.linked.now.listed in
     let more = c.loop-p-test.true in
     elim c.if-columns-i.branch [
       | then-columns-i w ↦
@@ -48,5 +47,4 @@ loop-p-preserved c =
 
 pub returns : goal.returns
 returns c =
-    let s = c.args.star.now in
-    ends (outgoing_of s) _ _ c.loop-p.invariant c.loop-p-test.false ∙ rw (lt-ltb _ _ c.loop-p.invariant.on_list.node) refl
+    ends c.args.linked.now.listed _ _ c.loop-p.invariant c.loop-p-test.false ∙ rw (lt-ltb _ _ c.loop-p.invariant.on_list.node) refl

@@ -42,14 +42,14 @@ loop-step-preserved c =
           (goes_on _ _ _ _ c.loop-step.invariant.adding p.0 _ (omega arith) (rw (p.1, p.2) at c.in_ok-step_length.ensures));
     }
 
-pub returns-then-from-star : goal.returns-then-from-star
-returns-then-from-star c =
+pub returns-then-from-linked : goal.returns-then-from-linked
+returns-then-from-linked c =
     ends _ _ _ _ c.loop-step.invariant.adding (omega (arith, c.in-None.ensures.steps)) _ c.in_ok-last.ensures.value
-    (omega (arith, c.args.star.now.linked.first_count))
+    (omega (arith, c.args.linked.now.listed.linked.first_count))
     ∙ lent_few _ _ c.if-list-gt-MOST_NODES.false
 
-pub returns-else-from-star : goal.returns-else-from-star
-returns-else-from-star c =
+pub returns-else-from-linked : goal.returns-else-from-linked
+returns-else-from-linked c =
     ends_outside _ _ _ _ c.loop-step.invariant.adding (omega (arith, c.in-None.ensures.steps)) _ c.in_ok-last.ensures.value
-    (omega (arith, c.args.star.now.linked.first_count))
+    (omega (arith, c.args.linked.now.listed.linked.first_count))
     ∙ lent_few _ _ c.if-list-gt-MOST_NODES.false

@@ -8,5 +8,5 @@ use Rattle.keeper.proofs.total.Given as goal
 abbrev pub invariant-loop-step : goal.invariant-loop-step
 invariant-loop-step l = record {
   pairs : windows_size l.step-iterator ≡ 2;
-  adding : Adding (table_in l.star.table) l.list (windows_rest l.step-iterator) l.total;
+  adding : Adding (table_in l.linked.table) l.list (windows_rest l.step-iterator) l.total;
 }

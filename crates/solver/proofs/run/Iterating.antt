@@ -25,8 +25,8 @@ use Rattle.auction.proofs.Invariant.Sound.{terminal_status}
 use Rattle.auction.proofs.Invariant.Starting.{started_iterations, started_price}
 use Rattle.auction.proofs.Run.{Running, begins, goes_on, done, stuck, stepped}
 use Rattle.auction.proofs.Remembering.{scans_within}
-use Rattle.forward_star.specs.declared.star.Star.{Star}
-use Rattle.forward_star.proofs.Columns.{good_table, nodes_are, origin_is}
+use Rattle.forward_star.specs.declared.linked.LinkedTable.{LinkedTable}
+use Rattle.forward_star.proofs.Columns.{good_table, nodes_are, origin_is, tails_of_star}
 use Rattle.steps.specs.declared.bids.LeastBid.{LeastBid}
 use Rattle.steps.specs.declared.state.RunState.{RunState}
 use Rattle.steps.specs.Seen.{seen, held, prices_in, bounds_in, kepts_in, memory_in, statuses_in, greatest_sum, too_many}
@@ -61,27 +61,27 @@ pub record Next (t : Table) (l' : List ℕ) (c' : ℕ) (x y : State) : Type 0 wh
   pub holding : Holding t (memory (suc (iterations x)) t) l' y
 
 -- AN ITERATION HAS BEEN MADE from state x: the next one is held, by as many nodes
-pub record Made (star : Star) (x : State) (r : RunState) (c : ℕ) : Type 0 where
-  pub to : Next (table_in star.table) (memory_in r.nodes) c x (held r)
-  pub path_long : length r.path ≡ star.table.n
-  pub nodes_long : length r.nodes ≡ star.table.n
+pub record Made (linked : LinkedTable) (x : State) (r : RunState) (c : ℕ) : Type 0 where
+  pub to : Next (table_in linked.table) (memory_in r.nodes) c x (held r)
+  pub path_long : length r.path ≡ linked.table.n
+  pub nodes_long : length r.nodes ≡ linked.table.n
 
 -- the index is that of the first wanted node that is missing in state x
-pub record Missing (star : Star) (w : ℕ) (x : State) : Type 0 where
-  pub low : w ≤ length star.table.wanted.now
-  pub missing : w ≡ first_missing 0 star.table.wanted.now x
+pub record Missing (linked : LinkedTable) (w : ℕ) (x : State) : Type 0 where
+  pub low : w ≤ length linked.table.wanted.now
+  pub missing : w ≡ first_missing 0 linked.table.wanted.now x
 
 -- AT THE LOOP'S HEAD
-pub record Iterating (star : Star) (limit : ℕ) (r : RunState) (w c : ℕ) : Type 0 where
+pub record Iterating (linked : LinkedTable) (limit : ℕ) (r : RunState) (w c : ℕ) : Type 0 where
   -- the index is that of a wanted node, or their number
-  pub low : w ≤ length star.table.wanted.now
+  pub low : w ≤ length linked.table.wanted.now
   -- there is room on the path for each node, and an entry
-  pub path_long : length r.path ≡ star.table.n
-  pub nodes_long : length r.nodes ≡ star.table.n
+  pub path_long : length r.path ≡ linked.table.n
+  pub nodes_long : length r.nodes ≡ linked.table.n
   -- the origin's price is not above the limit
-  pub below : get_or (prices_in r.nodes) star.table.origin 0 ≤ limit
+  pub below : get_or (prices_in r.nodes) linked.table.origin 0 ≤ limit
   -- and a state of the run is held
-  pub round : Round (table_in star.table) star.table.wanted.now limit w c (memory_in r.nodes) (held r)
+  pub round : Round (table_in linked.table) linked.table.wanted.now limit w c (memory_in r.nodes) (held r)
 
 -- where the run ends in a state of it, all that is known there
 ran : {t : Table} {ws : List ℕ} (limit : ℕ) {w c : ℕ} {x : State} → Running t (decided t ws limit) x → (limited t ws limit).last ≡ x → w ≡ first_missing 0 ws x →
@@ -100,28 +100,28 @@ statuses_held : (r : RunState) → (held r).status ≡ statuses_in r.nodes
 unfolding seen state
 statuses_held r = refl
 
-module _ (star : Star) where
+module _ (linked : LinkedTable) where
   abbrev t : Table
-  t = table_in star.table
+  t = table_in linked.table
 
   abbrev ws : List ℕ
-  ws = star.table.wanted.now
+  ws = linked.table.wanted.now
 
-  pub wanted_below : (nodes : ℕ) → nodes ≡ star.table.n → (j : ℕ) → j < length ws → get_or ws j 0 < nodes
-  wanted_below nodes e j h = omega (arith, wanted_in t ws star.table.good j h, nodes_are star.table)
+  pub wanted_below : (nodes : ℕ) → nodes ≡ linked.table.n → (j : ℕ) → j < length ws → get_or ws j 0 < nodes
+  wanted_below nodes e j h = omega (arith, wanted_in t ws linked.table.good j h, nodes_are linked.table)
 
   -- the origin's price as the code reads it
-  price_read : (r : RunState) → price_at (held r) t.origin ≡ get_or (prices_in r.nodes) star.table.origin 0
-  price_read r = price_held r t.origin ∙ ap (λ (v : ℕ). get_or (prices_in r.nodes) v 0) (origin_is star.table)
+  price_read : (r : RunState) → price_at (held r) t.origin ≡ get_or (prices_in r.nodes) linked.table.origin 0
+  price_read r = price_held r t.origin ∙ ap (λ (v : ℕ). get_or (prices_in r.nodes) v 0) (origin_is linked.table)
 
-  pub starts : (r : RunState) {limit w : ℕ} → held r ≡ start t → length r.path ≡ star.table.n → length r.nodes ≡ star.table.n → AllForgotten r.nodes →
-      FirstFrom 0 ws (statuses_in r.nodes) w → Iterating star limit r w 0
+  pub starts : (r : RunState) {limit w : ℕ} → held r ≡ start t → length r.path ≡ linked.table.n → length r.nodes ≡ linked.table.n → AllForgotten r.nodes →
+      FirstFrom 0 ws (statuses_in r.nodes) w → Iterating linked limit r w 0
   unfolding scans history scan_count
   starts r {limit} {w} begun long many forgotten f =
-      let good = good_table star.table in
+      let good = good_table linked.table in
       let first_one : iterations (held r) ≡ 0 = ap iterations begun ∙ started_iterations t good in
       let nothing : (v : ℕ) → v < t.n → get_or (memory_in r.nodes) v 0 ≡ no_node =
-      λ v h. entry (λ m. m.remembered) r.nodes v ∙ forgotten v (omega (arith, nodes_are star.table)) in
+      λ v h. entry (λ m. m.remembered) r.nodes v ∙ forgotten v (omega (arith, nodes_are linked.table)) in
       record {
         low = f.low;
         path_long = long;
@@ -137,7 +137,7 @@ module _ (star : Star) where
         };
       }
 
-  module _ {limit : ℕ} {r : RunState} {w c : ℕ} (i : Iterating star limit r w c) where
+  module _ {limit : ℕ} {r : RunState} {w c : ℕ} (i : Iterating linked limit r w c) where
     abbrev x : State
     x = held r
 
@@ -145,7 +145,7 @@ module _ (star : Star) where
     run = i.round.running
 
     many : length r.nodes ≡ t.n
-    many = i.nodes_long ∙ sym (nodes_are star.table)
+    many = i.nodes_long ∙ sym (nodes_are linked.table)
 
     undecided : w < length ws → decided t ws limit x ≡ false
     unfolding decided above
@@ -154,27 +154,26 @@ module _ (star : Star) where
         (le-ltb limit (price_at x t.origin) (omega (arith, price_read r, i.below)))
 
     -- what the loop's body needs
-    pub now_ready : InRun star.table.n r
-    now_ready = in_run r run star.table.n (nodes_are star.table)
+    pub now_ready : InRun linked.table.n r
+    now_ready = in_run r run linked.table.n (nodes_are linked.table)
 
     pub few_scans : c < too_many
     few_scans =
         let low = (scans_within t run.good _ _ run.steps).1 in
         omega (arith, i.round.scanned, low, run.few, few_in_all t.n run.good.few_nodes)
 
-    pub ready_nodes : Ready star r.nodes
-    ready_nodes = nodes_ready star r run i.nodes_long
+    pub ready_nodes : Ready linked.star r.nodes
+    ready_nodes = nodes_ready linked r run i.nodes_long
 
     module _ (v : ℕ) (ev : v ≡ get_or r.path (r.progress.depth - 1) 0) where
       at : terminal x ≡ v
       at = now_ready.terminal_is ∙ sym ev
 
-      pub node_before : (v ≡ star.table.origin → ⊥) → HasBefore r.progress.depth r.path r.nodes
-      node_before = has_before star r run i.nodes_long v at i.path_long
+      pub node_before : (v ≡ linked.table.origin → ⊥) → HasBefore r.progress.depth r.path r.nodes
+      node_before = has_before linked r run i.nodes_long v at i.path_long
 
-      pub may_step : (least : Option LeastBid) → w < length ws → bid_in least ≡ best t v x → (least ≡ None → v ≡ star.table.origin → ⊥) →
-          CanStep v least star r
-      may_step least h bids go = can_step star r run i.nodes_long v least at bids (undecided h) i.path_long go
+      pub may_step : (o : ℕ) (least : Option LeastBid) → w < length ws → bid_in least ≡ best t v x → (least ≡ None → v ≡ o → ⊥) → CanStep v o least linked.star r
+      may_step o least h bids go = can_step linked r run i.nodes_long v least at bids (undecided h) o i.path_long go
 
       -- a node that remembers a child can go on to it
       entry_at : get_or (memory_in r.nodes) (terminal x) 0 ≡ get_or (memory_in r.nodes) v 0
@@ -190,22 +189,23 @@ module _ (star : Star) where
             ∙ ap (λ (j : ℕ). some (extension t j x)) (entry_at ∙ ec)
 
         pub may_extend : (h : w < length ws) →
-            ((child < star.table.n) × (get_or (bounds_in r.nodes) child 0 ≤ greatest_sum)) × ((r.progress.depth < length r.path) × (r.progress.extensions < too_many))
+            ((child < length linked.star.first.now) × (get_or (bounds_in r.nodes) child 0 ≤ greatest_sum))
+            × ((r.progress.depth < length r.path) × (r.progress.extensions < too_many))
         may_extend h =
             let kept = entry_kept t run.good _ _ run.steps run.invariant (memory_in r.nodes) i.round.holding some_entry in
             let kept_here = ap (kept_at x) (sym (entry_at ∙ ec)) ∙ kept.1 in
             let inside = kept_below child run.invariant.sound.nodes.sizes kept_here in (
-              (omega (arith, inside, nodes_are star.table), bound_low r run child kept.0 kept_here many),
+              (omega (arith, inside, linked.listed.linked.first_count), bound_low r run child kept.0 kept_here many),
               (
-                omega (arith, room_for r run (undecided h) child extends_to_entry, i.path_long, nodes_are star.table),
-                omega (arith, now_ready.few, few_in_all star.table.n now_ready.few_nodes),
+                omega (arith, room_for r run (undecided h) child extends_to_entry, i.path_long, nodes_are linked.table),
+                omega (arith, now_ready.few, few_in_all linked.table.n now_ready.few_nodes),
               ),
             )
 
     -- ONE ITERATION MORE: it is the auction's next, and what the nodes remember and the scans are as they are after it
     module _ (h : w < length ws) where
-      pub continues : {r' : RunState} {w' c' : ℕ} → Made star x r' c' → get_or (prices_in r'.nodes) star.table.origin 0 ≤ limit → Missing star w' (held r') →
-          Iterating star limit r' w' c'
+      pub continues : {r' : RunState} {w' c' : ℕ} → Made linked x r' c' → get_or (prices_in r'.nodes) linked.table.origin 0 ≤ limit → Missing linked w' (held r') →
+          Iterating linked limit r' w' c'
       continues {r'} {w'} {c'} made low there =
           let n = made.to in
           let more = goes_on run (held r') (undecided h) n.is_next in
@@ -222,12 +222,12 @@ module _ (star : Star) where
             };
           }
 
-      module _ {r' : RunState} {c' : ℕ} (made : Made star x r' c') where
+      module _ {r' : RunState} {c' : ℕ} (made : Made linked x r' c') where
         abbrev y : State
         y = held r'
 
         -- the node that is missing then is looked for from the one before on; where the path is not longer it is that one
-        pub looked_for : {w' : ℕ} → FirstFrom w ws (statuses_in r'.nodes) w' → Missing star w' y
+        pub looked_for : {w' : ℕ} → FirstFrom w ws (statuses_in r'.nodes) w' → Missing linked w' y
         looked_for f =
             let after = stepped t run.good x run.invariant y made.to.is_next in
             record {
@@ -237,7 +237,7 @@ module _ (star : Star) where
                   ∙ jump w ws x y i.round.missing i.low (λ j q. status_reached y j (after.stays j (reached_status x j q)));
             }
 
-        pub still_missing : r'.progress.depth ≤ r.progress.depth → Missing star w y
+        pub still_missing : r'.progress.depth ≤ r.progress.depth → Missing linked w y
         still_missing short =
             let here = status_reached x (terminal x) (omega (arith, terminal_status run.invariant.sound)) in
             record {
@@ -249,7 +249,7 @@ module _ (star : Star) where
 
         -- where the path is as long as before the origin's price has become the least bid, and elsewhere it is as it was
         module _ (v : ℕ) (ev : v ≡ get_or r.path (r.progress.depth - 1) 0) (least : Option LeastBid) (bids : bid_in least ≡ best t v x) where
-          lifted : r.progress.depth ≡ r'.progress.depth → (c : LeastBid) → least ≡ Some c → get_or (prices_in r'.nodes) star.table.origin 0 ≡ c.value
+          lifted : r.progress.depth ≡ r'.progress.depth → (c : LeastBid) → least ≡ Some c → get_or (prices_in r'.nodes) linked.table.origin 0 ≡ c.value
           unfolding seen state bid
           lifted same c e =
               let long = path_length r' ∙ sym same ∙ sym (path_length r) in
@@ -261,7 +261,7 @@ module _ (star : Star) where
               sym (price_read r') ∙ to_bid.price_so ∙ sym value
 
           pub still_below : ((c : LeastBid) → least ≡ Some c → limit < c.value → r.progress.depth ≡ r'.progress.depth → ⊥) →
-              get_or (prices_in r'.nodes) star.table.origin 0 ≤ limit
+              get_or (prices_in r'.nodes) linked.table.origin 0 ≤ limit
           still_below d =
               ⊎_elim
               (λ (same : r.progress.depth ≡ r'.progress.depth).
@@ -285,7 +285,8 @@ module _ (star : Star) where
     module _ (v : ℕ) (ev : v ≡ get_or r.path (r.progress.depth - 1) 0) where
       -- by the child that the node remembers
       pub by_memory : (child : ℕ) → get_or (memory_in r.nodes) v 0 ≡ child → (child ≡ no_node → ⊥) → (r' : RunState) →
-          Becomes (extension t child) r r' → Remembers t those_reached r r' → length r'.path ≡ length r.path → length r'.nodes ≡ length r.nodes → Made star x r' c
+          Becomes (extension t child) r r' → Remembers linked.star those_reached r r' → length r'.path ≡ length r.path →
+          length r'.nodes ≡ length r.nodes → Made linked x r' c
       by_memory child ec some_child r' becomes remembers lp ln =
           let e = extends_to_entry v ev child ec some_child ∙ ap some (sym becomes) in
           let has_entry = some_entry v ev child ec some_child in
@@ -296,29 +297,30 @@ module _ (star : Star) where
               scanned = i.round.scanned ∙ sym (scans_no_more t run.good _ x run.steps run.invariant l i.round.holding has_entry);
               holding =
                   holding_recalled t run.good _ x run.steps run.invariant l i.round.holding has_entry
-                  (held r') e (memory_in r'.nodes) (remembers (kept_arcs r run));
+                  (held r') e (memory_in r'.nodes) (remembers t linked.listed (tails_of_star linked) (kept_arcs r run));
             };
             path_long = lp ∙ i.path_long;
             nodes_long = ln ∙ i.nodes_long;
           }
 
       -- which changes no price
-      pub below_by_memory : (child : ℕ) (r' : RunState) → Becomes (extension t child) r r' → get_or (prices_in r'.nodes) star.table.origin 0 ≤ limit
+      pub below_by_memory : (child : ℕ) (r' : RunState) → Becomes (extension t child) r r' → get_or (prices_in r'.nodes) linked.table.origin 0 ≤ limit
       unfolding seen state
       below_by_memory child r' becomes =
           let same : prices_in r'.nodes ≡ prices_in r.nodes = ap (λ (a : State). a.price) becomes ∙ (extension_keeps t child x).1 in
           rw same i.below
 
       -- by a scan, which found the least bid
-      pub by_scan : get_or (memory_in r.nodes) v 0 ≡ no_node → (least : Option LeastBid) → bid_in least ≡ best t v x → (r' : RunState) →
-          Steps v least t r r' → Remembered v least star r r' → length r'.path ≡ length r.path → length r'.nodes ≡ length r.nodes → Made star x r' (c + 1)
-      by_scan no_child least bids r' steps remembered lp ln =
+      pub by_scan : (o : ℕ) → o ≡ linked.table.origin → get_or (memory_in r.nodes) v 0 ≡ no_node → (least : Option LeastBid) → bid_in least ≡ best t v x →
+          (r' : RunState) → Steps v o least linked.star r r' → Remembered v o least linked.star r r' →
+          length r'.path ≡ length r.path → length r'.nodes ≡ length r.nodes → Made linked x r' (c + 1)
+      by_scan o eo no_child least bids r' steps remembered lp ln =
           let y = held r' in
           let l = memory_in r.nodes in
           let here = at v ev in
-          let e = next_is r run v least here bids ∙ steps in
-          let deep : (terminal x ≡ t.origin → ⊥) → 2 ≤ r.progress.depth = λ d. (node_before v ev (λ q. d (here ∙ q ∙ sym (origin_is star.table)))).some_node in
-          let stored = stores star r r' (kept_arcs r run) v least here deep bids remembered in
+          let e = next_is r run v least here bids ∙ steps t linked.listed (origin_is linked.table ∙ sym eo) in
+          let deep : (terminal x ≡ t.origin → ⊥) → 2 ≤ r.progress.depth = λ d. (node_before v ev (λ q. d (here ∙ q ∙ sym (origin_is linked.table)))).some_node in
+          let stored = stores linked r r' (kept_arcs r run) v o eo least here deep bids remembered in
           let no_entry = entry_at v ev ∙ no_child in
           record {
             to = record {
@@ -341,14 +343,14 @@ module _ (star : Star) where
 
     -- the origin has no children,
     pub stops : (v : ℕ) (least : Option LeastBid) → w < length ws → v ≡ get_or r.path (r.progress.depth - 1) 0 → bid_in least ≡ best t v x →
-        least ≡ None → v ≡ star.table.origin → RanWithin t ws limit w c x
+        least ≡ None → v ≡ linked.table.origin → RanWithin t ws limit w c x
     unfolding limited ended
     stops v least h ev bids none_there eo =
-        let e = next_is r run v least (at v ev) bids ∙ ap (λ l. iteration (bid_in l) t v x) none_there ∙ is_stop t v x (eo ∙ sym (origin_is star.table)) in
+        let e = next_is r run v least (at v ev) bids ∙ ap (λ l. iteration (bid_in l) t v x) none_there ∙ is_stop t v x (eo ∙ sym (origin_is linked.table)) in
         ran limit run (ap (λ (e : Ended). e.last) (stuck run (undecided h) e)) i.round.missing i.low i.round.scanned
 
     -- or an iteration that leaves the path as long as it was has lifted the origin's price above the limit
-    pub passes : {r' : RunState} {c' : ℕ} → w < length ws → Made star x r' c' → (v : ℕ) → v ≡ get_or r.path (r.progress.depth - 1) 0 →
+    pub passes : {r' : RunState} {c' : ℕ} → w < length ws → Made linked x r' c' → (v : ℕ) → v ≡ get_or r.path (r.progress.depth - 1) 0 →
         (least : Option LeastBid) → bid_in least ≡ best t v x → (b : LeastBid) → least ≡ Some b → limit < b.value → r.progress.depth ≡ r'.progress.depth →
         RanWithin t ws limit w c' (held r')
     unfolding limited decided above ended

@@ -18,8 +18,8 @@ use Rattle.auction.proofs.Steps.Bids.{Best, best_bid}
 use Rattle.auction.proofs.Steps.Keeps.{extension_keeps}
 use Rattle.auction.proofs.Invariant.Sound.{Chain}
 use Rattle.auction.proofs.Run.{Running, goes_on}
-use Rattle.forward_star.specs.declared.star.Star.{Star}
-use Rattle.forward_star.proofs.Columns.{nodes_are, origin_is, arcs_are, tails_below, outgoing_of}
+use Rattle.forward_star.specs.declared.linked.LinkedTable.{LinkedTable}
+use Rattle.forward_star.proofs.Columns.{nodes_are, origin_is, nodes_listed, star_tails_below, tails_of_star}
 use Rattle.steps.specs.declared.bids.LeastBid.{LeastBid}
 use Rattle.steps.specs.declared.state.RunState.{RunState}
 use Rattle.steps.specs.Seen.{bound_of, nodes_of, seen, held, prices_in, bounds_in, kepts_in, statuses_in, greatest_sum, too_many}
@@ -134,39 +134,39 @@ module _ {t : Table} {stop : State → Bool} (rs : RunState) (r : Running t stop
   next_is v least at bids = rw (at, bids)
 
 -- the same in a table with its forward star
-module _ (star : Star) {stop : State → Bool} (rs : RunState) (r : Running (table_in star.table) stop (held rs)) (many : length rs.nodes ≡ star.table.n) where
+module _ (linked : LinkedTable) {stop : State → Bool} (rs : RunState) (r : Running (table_in linked.table) stop (held rs)) (many : length rs.nodes ≡ linked.table.n) where
   abbrev t : Table
-  t = table_in star.table
+  t = table_in linked.table
 
   kept_read : (v : ℕ) → v < length (kepts_in rs.nodes) → (get_or (kepts_in rs.nodes) v 0 ≡ no_arc → ⊥) →
       kept_at (held rs) v ≡ some (get_or (kepts_in rs.nodes) v 0)
   kept_read v h d =
       seen_kept rs.path (prices_in rs.nodes) (bounds_in rs.nodes) (kepts_in rs.nodes) (statuses_in rs.nodes) rs.progress v h ∙ some_arc _ d
 
-  pub nodes_ready : Ready star rs.nodes
+  pub nodes_ready : Ready linked.star rs.nodes
   nodes_ready =
       record {
-        count = many;
+        count = many ∙ sym (nodes_listed linked);
         kept_in =
             record {
               listed = λ v h d.
                   omega
-                  (arith, r.within.kept_in v (get_or (kepts_in rs.nodes) v 0) (kept_read v (omega (arith, as_many (λ m. m.kept) rs.nodes)) d), arcs_are star.table);
-              tail_in = λ i h. omega (arith, tails_below star.table i h);
+                  (arith, r.within.kept_in v (get_or (kepts_in rs.nodes) v 0) (kept_read v (omega (arith, as_many (λ m. m.kept) rs.nodes)) d), (tails_of_star linked).count);
+              tail_in = λ i h. omega (arith, star_tails_below linked i h, many);
             };
       }
 
   -- the node before the terminal one
-  pub has_before : (v : ℕ) → terminal (held rs) ≡ v → length rs.path ≡ star.table.n → (v ≡ star.table.origin → ⊥) → HasBefore rs.progress.depth rs.path rs.nodes
+  pub has_before : (v : ℕ) → terminal (held rs) ≡ v → length rs.path ≡ linked.table.n → (v ≡ linked.table.origin → ⊥) → HasBefore rs.progress.depth rs.path rs.nodes
   unfolding terminal
   has_before v at long d =
       let deep_path = path_length rs in
-      let two = two_nodes t (held rs) (held rs).path r.invariant.sound.chain (λ e. d (sym at ∙ e ∙ origin_is star.table)) in
+      let two = two_nodes t (held rs) (held rs).path r.invariant.sound.chain (λ e. d (sym at ∙ e ∙ origin_is linked.table)) in
       let deep : 2 ≤ rs.progress.depth = omega (arith, deep_path, two) in
       record {
         some_node = deep;
-        on_path = omega (arith, deep_path, r.within.path_short, long, nodes_are star.table);
-        inside = omega (arith, second_read rs deep, r.within.path_in 1 two, many, nodes_are star.table);
+        on_path = omega (arith, deep_path, r.within.path_short, long, nodes_are linked.table);
+        inside = omega (arith, second_read rs deep, r.within.path_in 1 two, many, nodes_are linked.table);
       }
 
   module _ (v : ℕ) (least : Option LeastBid) (at : terminal (held rs) ≡ v) (bids : bid_in least ≡ best t v (held rs)) (more : stop (held rs) ≡ false) where
@@ -179,17 +179,17 @@ module _ (star : Star) {stop : State → Bool} (rs : RunState) (r : Running (tab
 
     bound_there : (c : LeastBid) → least ≡ Some c → get_or (bounds_in rs.nodes) (head_at t c.arc) 0 ≤ greatest_sum
     unfolding bid
-    bound_there c e = bound_low rs r (head_at t c.arc) c.arc (top c e).child.kept (many ∙ sym (nodes_are star.table))
+    bound_there c e = bound_low rs r (head_at t c.arc) c.arc (top c e).child.kept (many ∙ sym (nodes_are linked.table))
 
-    pub can_step : length rs.path ≡ star.table.n → (least ≡ None → v ≡ star.table.origin → ⊥) → CanStep v least star rs
-    can_step long go =
-        let here = outgoing_of star in
+    pub can_step : (o : ℕ) → length rs.path ≡ linked.table.n → (least ≡ None → v ≡ o → ⊥) → CanStep v o least linked.star rs
+    can_step o long go =
+        let here = linked.listed in
         record {
           no_stop = go;
           listed = λ c e. omega (arith, listed c e, here.head_count);
           room = λ c e h.
               let step = next_is rs r v least at bids ∙ ap (λ l. iteration (bid_in l) t v (held rs)) e
               ∙ is_extension t v (held rs) c.value c.arc (subst (λ (m : ℕ). c.value ≤ m) (sym (price_held rs v)) h) in
-              omega (arith, room_for rs r more (head_at t c.arc) step, long, nodes_are star.table);
+              omega (arith, room_for rs r more (head_at t c.arc) step, long, nodes_are linked.table);
           bounded = λ c e. subst (λ (j : ℕ). get_or (bounds_in rs.nodes) j 0 ≤ greatest_sum) (sym (here.head c.arc (listed c e))) (bound_there c e);
         }

@@ -14,8 +14,8 @@ use Rattle.table.specs.Lent.{table_in}
 use Rattle.auction.specs.Auction.{State, Bid, bid, best, terminal, price_at}
 use Rattle.table.proofs.Basics.{some_none, some_same, not_both}
 use Rattle.auction.proofs.Steps.Bids.{best_bid}
-use Rattle.forward_star.specs.declared.star.Star.{Star}
-use Rattle.forward_star.proofs.Columns.{origin_is, outgoing_of}
+use Rattle.forward_star.specs.declared.linked.LinkedTable.{LinkedTable}
+use Rattle.forward_star.proofs.Columns.{origin_is, tails_of_star}
 use Rattle.steps.specs.declared.bids.LeastBid.{LeastBid}
 use Rattle.steps.specs.declared.state.Node.{Node}
 use Rattle.steps.specs.declared.state.RunState.{RunState}
@@ -52,11 +52,11 @@ pub not_above : (limit : ℕ) (least : Option LeastBid) → is_above limit least
 not_above limit None e c z h = cc
 not_above limit (Some d) e c z h = let same : d.value ≡ c.value = cc in omega (arith, ltb-false limit d.value e)
 
-module _ (star : Star) (rs rs' : RunState) (kept : KeptArcs (table_in star.table) (held rs)) (v : ℕ) (least : Option LeastBid)
-    (at : terminal (held rs) ≡ v) (deep : (terminal (held rs) ≡ (table_in star.table).origin → ⊥) → 2 ≤ rs.progress.depth)
-    (bids : bid_in least ≡ best (table_in star.table) v (held rs)) (rem : Remembered v least star rs rs') where
+module _ (linked : LinkedTable) (rs rs' : RunState) (kept : KeptArcs (table_in linked.table) (held rs)) (v o : ℕ) (eo : o ≡ linked.table.origin)
+    (least : Option LeastBid) (at : terminal (held rs) ≡ v) (deep : (terminal (held rs) ≡ (table_in linked.table).origin → ⊥) → 2 ≤ rs.progress.depth)
+    (bids : bid_in least ≡ best (table_in linked.table) v (held rs)) (rem : Remembered v o least linked.star rs rs') where
   abbrev t : Table
-  t = table_in star.table
+  t = table_in linked.table
 
   abbrev now : State
   now = held rs
@@ -66,12 +66,12 @@ module _ (star : Star) (rs rs' : RunState) (kept : KeptArcs (table_in star.table
     held_bid : (c : LeastBid) × ((least ≡ Some c) × (bid c.value c.arc ≡ a))
     held_bid = the_bid least a (bids ∙ ap (λ (w : ℕ). best t w now) (sym at) ∙ e)
 
-    child_so : child_of star held_bid.0 ≡ head_at t a.by_arc
+    child_so : child_of linked.star held_bid.0 ≡ head_at t a.by_arc
     unfolding bid
     child_so =
         let arc : held_bid.0.arc ≡ a.by_arc = ap (λ (c : Bid). c.by_arc) held_bid.1.1 in
         let listed = (best_bid t (terminal now) now a e).listed in
-        (outgoing_of star).head held_bid.0.arc (omega (arith, arc, listed)) ∙ ap (head_at t) arc
+        linked.listed.head held_bid.0.arc (omega (arith, arc, listed)) ∙ ap (head_at t) arc
 
     value_so : held_bid.0.value ≡ a.value
     unfolding bid
@@ -80,10 +80,10 @@ module _ (star : Star) (rs rs' : RunState) (kept : KeptArcs (table_in star.table
     price_so : price_at now (terminal now) ≡ price_at now v
     price_so = ap (price_at now) at
 
-    remembered_so : memory_in (remembering v (child_of star held_bid.0) rs).nodes ≡ set (memory_in rs.nodes) (terminal now) (head_at t a.by_arc)
+    remembered_so : memory_in (remembering v (child_of linked.star held_bid.0) rs).nodes ≡ set (memory_in rs.nodes) (terminal now) (head_at t a.by_arc)
     remembered_so =
         written (λ m. m.remembered) rs.nodes v _
-        ∙ ap (λ (w : ℕ). set (memory_in rs.nodes) w (child_of star held_bid.0)) (sym at) ∙ ap (set (memory_in rs.nodes) (terminal now)) child_so
+        ∙ ap (λ (w : ℕ). set (memory_in rs.nodes) w (child_of linked.star held_bid.0)) (sym at) ∙ ap (set (memory_in rs.nodes) (terminal now)) child_so
 
   -- the node before the terminal one forgets
   forgets_so : (ns : List Node) → (terminal now ≡ t.origin → ⊥) →
@@ -97,17 +97,17 @@ module _ (star : Star) (rs rs' : RunState) (kept : KeptArcs (table_in star.table
         deleted = λ d e. rem.deletes (no_bid least (bids ∙ ap (λ (w : ℕ). best t w now) (sym at) ∙ e)) ∙ forgets_so rs.nodes d;
         contracted = λ a e less d.
             let c = (held_bid a e).0 in
-            rem.contracts c (held_bid a e).1.0 (omega (arith, price_so a e, price_held rs v, value_so a e, less)) (λ q. d (at ∙ q ∙ sym (origin_is star.table)))
-            ∙ forgets_so (remembering v (child_of star c) rs).nodes d ∙ ap (λ (m : List ℕ). set m (get_or now.path 1 0) no_node) (remembered_so a e);
+            rem.contracts c (held_bid a e).1.0 (omega (arith, price_so a e, price_held rs v, value_so a e, less)) (λ q. d (at ∙ q ∙ eo ∙ sym (origin_is linked.table)))
+            ∙ forgets_so (remembering v (child_of linked.star c) rs).nodes d ∙ ap (λ (m : List ℕ). set m (get_or now.path 1 0) no_node) (remembered_so a e);
         at_origin = λ a e less q.
-            rem.at_origin (held_bid a e).0 (held_bid a e).1.0 (omega (arith, price_so a e, price_held rs v, value_so a e, less)) (sym at ∙ q ∙ origin_is star.table)
+            rem.at_origin (held_bid a e).0 (held_bid a e).1.0 (omega (arith, price_so a e, price_held rs v, value_so a e, less)) (sym at ∙ q ∙ origin_is linked.table ∙ sym eo)
             ∙ remembered_so a e;
         extended = λ a e equal.
             let c = (held_bid a e).0 in
-            let same : held (remembering v (child_of star c) rs) ≡ now = held_with_memory rs.path rs.nodes rs.progress v (child_of star c) in
+            let same : held (remembering v (child_of linked.star c) rs) ≡ now = held_with_memory rs.path rs.nodes rs.progress v (child_of linked.star c) in
             subst (λ (m : List ℕ). Remembering t (those_reached now) m (memory_in rs'.nodes) now (held rs')) (remembered_so a e)
             (subst
-            (λ (y : State). Remembering t (those_reached y) (memory_in (remembering v (child_of star c) rs).nodes) (memory_in rs'.nodes) y (held rs')) same
-            (rem.extends c (held_bid a e).1.0 (omega (arith, price_so a e, price_held rs v, value_so a e, equal))
+            (λ (y : State). Remembering t (those_reached y) (memory_in (remembering v (child_of linked.star c) rs).nodes) (memory_in rs'.nodes) y (held rs')) same
+            (rem.extends c (held_bid a e).1.0 (omega (arith, price_so a e, price_held rs v, value_so a e, equal)) t linked.listed (tails_of_star linked)
             (subst (KeptArcs t) (sym same) kept)));
       }

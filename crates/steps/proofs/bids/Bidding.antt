@@ -20,7 +20,7 @@ use Rattle.steps.specs.declared.state.Node.{Node}
 use Rattle.steps.specs.Memory.{node_at}
 use Rattle.steps.specs.Seen.{arc_of, seen, status_number, run_of, held, prices_in, bounds_in, kepts_in, statuses_in}
 use Rattle.steps.proofs.Nodes.{entry, as_many}
-use Rattle.forward_star.proofs.Outgoing.{star, Outgoing}
+use Rattle.forward_star.specs.Lists.{star, Outgoing}
 use Rattle.steps.specs.Steps.{lower_of, bid_over, bid_in}
 use Rattle.steps.proofs.Arrays.{some_arc, no_kept, seen_kept, seen_status, seen_price}
 use Rattle.forward_star.proofs.Along.{OnList, on_first, on_next}

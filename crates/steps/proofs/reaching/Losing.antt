@@ -17,7 +17,7 @@ use Rattle.auction.specs.Auction.{State, state, kept_at, status_at, is_deleted, 
 use Rattle.auction.proofs.Steps.Bids.{child, child_test}
 use Rattle.steps.specs.declared.state.Progress.{Progress}
 use Rattle.steps.specs.Seen.{arc_of, seen}
-use Rattle.forward_star.proofs.Outgoing.{star, Outgoing, Tails}
+use Rattle.forward_star.specs.Lists.{star, Outgoing, Tails}
 use Rattle.steps.specs.Memory.{ArcInto, KeptArcs, Loses, Remembering, but}
 use Rattle.steps.proofs.Arrays.{some_arc, no_kept, seen_kept, seen_status}
 use Rattle.forward_star.proofs.Along.{OnList}

@@ -14,7 +14,7 @@ use Rattle.auction.specs.Auction.{State, improves, takes, offer, offers, distanc
 use Rattle.table.proofs.Basics.{same_or}
 use Rattle.steps.specs.declared.state.Progress.{Progress}
 use Rattle.steps.specs.Seen.{bound_of, arc_of, seen}
-use Rattle.forward_star.proofs.Outgoing.{star, Outgoing}
+use Rattle.forward_star.specs.Lists.{star, Outgoing}
 use Rattle.steps.proofs.Arrays.{some_bound, some_arc, no_bound, no_kept, seen_bound, seen_kept, seen_status, store_kept, seen_distance}
 use Rattle.forward_star.proofs.Along.{OnList, on_first, on_next}
 use Rattle.steps.proofs.Arcs.{offers_first, offers_next, offers_done}

@@ -6,7 +6,7 @@ use Rattle.solver.proofs.run.Iterating.{Iterating}
 use Rattle.solver.proofs.run.iterate.Given as goal
 
 abbrev pub invariant-loop-w : goal.invariant-loop-w
-invariant-loop-w l = Iterating l.star l.limit (run_of l.path l.nodes l.g) l.w l.scans
+invariant-loop-w l = Iterating l.linked l.limit (run_of l.path l.nodes l.g) l.w l.scans
 
 abbrev pub decreases-loop-w : goal.decreases-loop-w
-decreases-loop-w l = suc (most_iterations l.star.table.n) - (l.g.contractions + l.g.extensions + l.g.deletions)
+decreases-loop-w l = suc (most_iterations l.linked.table.n) - (l.g.contractions + l.g.extensions + l.g.deletions)

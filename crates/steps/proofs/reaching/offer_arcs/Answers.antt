@@ -4,9 +4,7 @@ use Prim.Native.Nat.{◌+◌, ◌<◌}
 use native.Mathlib.Omega.{arith}
 use lib.ListN.{length, get_or}
 use Rattle.table.specs.Table.{no_distance}
-use Rattle.table.specs.Lent.{table_in}
 use Rattle.forward_star.proofs.Along.{Readable, readable}
-use Rattle.forward_star.proofs.Columns.{outgoing_of, nodes_are, tails_below}
 use Rattle.steps.proofs.Nodes.{as_many}
 use Rattle.steps.proofs.reaching.Offered.{now_offered}
 use Rattle.steps.proofs.reaching.Walk.{begins, on_list, goes_on, ends, remembers}
@@ -14,16 +12,12 @@ use Rattle.steps.proofs.reaching.offer_arcs.Goals as goal
 use Rattle.steps.proofs.reaching.offer_arcs.Goals.{In-loop-p, After-from-head, After-from-arc_length}
 
 module _ (c : In-loop-p) where
-  here : Readable (table_in c.args.star.now.table) c.args.star.now.table.columns.heads.now c.args.star.now.table.columns.lengths.now c.args.star.now.next.now
-      c.loop-p.p
-  here = readable (outgoing_of c.args.star.now) (on_list c.args.star.now c.loop-p.invariant) c.loop-p-test.true
+  here : Readable c.args.star.now.columns.heads.now c.args.star.now.columns.lengths.now c.args.star.now.first.now c.args.star.now.next.now c.loop-p.p
+  here = readable c.args.star.now.of_some_table (on_list c.args.star.now c.loop-p.invariant) c.loop-p-test.true
 
 module _ (c : After-from-head) where
-  head : c.from-head.result ≡ get_or c.args.star.now.table.columns.heads.now c.loop-p.p 0
-  head = c.from-head.ensures ∙ ap (λ i. get_or c.args.star.now.table.columns.heads.now i 0) c.from-i.ensures
-
-pub bounds-star-v : goal.bounds-star-v
-bounds-star-v c = let star = c.args.star.now in omega (arith, star.linked.first_count, nodes_are star.table, c.requires.v_in_bounds.0)
+  head : c.from-head.result ≡ get_or c.args.star.now.columns.heads.now c.loop-p.p 0
+  head = c.from-head.ensures ∙ ap (λ i. get_or c.args.star.now.columns.heads.now i 0) c.from-i.ensures
 
 pub loop-p-init : goal.loop-p-init
 loop-p-init c = begins c.args.star.now c.requires.ready c.requires.v_in_bounds.0 c.requires.distance.1
@@ -53,11 +47,11 @@ offer-requires c =
     let r = here places.In-loop-p in
     let inv = c.loop-p.invariant in
     record {
-      head_in_bounds = omega (arith, head places.After-from-head, r.head_in, nodes_are star.table, inv.long, c.requires.ready.count);
+      head_in_bounds = omega (arith, head places.After-from-head, r.head_in, inv.long, c.requires.ready.count);
       offered_lt_no_distance = omega (arith, c.requires.v_in_bounds.1, c.from-arc_length.ensures, c.type_inv.lengths c.from-i.result);
       kept_in = record {
         listed = λ u h. inv.forgetting.kept_in.listed u (omega (arith, as_many (λ m. m.kept) c.loop-p.nodes));
-        tail_in = λ i h. omega (arith, tails_below star.table i h, inv.long, c.requires.ready.count);
+        tail_in = λ i h. omega (arith, c.requires.ready.kept_in.tail_in i h, inv.long);
       };
     }
 
@@ -69,8 +63,8 @@ loop-p-smaller c =
     omega (arith, same, r.rises, r.low)
 
 module _ (c : After-from-arc_length) where
-  long : c.from-arc_length.result ≡ get_or c.args.star.now.table.columns.lengths.now c.loop-p.p 0
-  long = c.from-arc_length.ensures ∙ ap (λ i. get_or c.args.star.now.table.columns.lengths.now i 0) c.from-i.ensures
+  long : c.from-arc_length.result ≡ get_or c.args.star.now.columns.lengths.now c.loop-p.p 0
+  long = c.from-arc_length.ensures ∙ ap (λ i. get_or c.args.star.now.columns.lengths.now i 0) c.from-i.ensures
 
 pub loop-p-preserved : goal.loop-p-preserved
 loop-p-preserved c =
@@ -80,16 +74,16 @@ loop-p-preserved c =
     let ready = c.requires.ready in
     let inv = c.loop-p.invariant in
     let at = head places.After-from-head in
-    let inside : c.from-head.result < length c.loop-p.nodes = omega (arith, r.head_in, nodes_are star.table, inv.long, ready.count) in
+    let inside : c.from-head.result < length c.loop-p.nodes = omega (arith, r.head_in, inv.long, ready.count) in
     let fits : c.args.distance + c.from-arc_length.result < no_distance =
     omega (arith, c.requires.v_in_bounds.1, c.from-arc_length.ensures, c.type_inv.lengths c.from-i.result) in
-    let now = now_offered c.from-head.result c.loop-p.p (c.args.distance + c.from-arc_length.result) star.table.columns.tails.now c.loop-p.nodes inside fits
+    let now = now_offered c.from-head.result c.loop-p.p (c.args.distance + c.from-arc_length.result) star.columns.tails.now c.loop-p.nodes inside fits
     (omega (arith, r.rises, r.low)) in
     goes_on star c.from-i.result c.from-head.result _ inv ready c.from-i.ensures at (ap (λ l. c.args.distance + l) (long places.After-from-arc_length))
-    c.loop-p-test.true (omega (arith, c.requires.v_in_bounds.1)) c.requires.v_in_bounds.0 c.requires.distance.0 inside r.inside (rw c.offer.ensures now)
+    c.loop-p-test.true (omega (arith, c.requires.v_in_bounds.1)) c.requires.v_in_bounds.0 c.requires.distance.0 inside (omega (arith, r.in_heads, star.columns.heads_are)) (rw c.offer.ensures now)
 
 pub returns-clause-offers : goal.returns-clause-offers
-returns-clause-offers c = λ path g. ends c.args.star.now c.loop-p.invariant path g c.loop-p-test.false
+returns-clause-offers c = λ t path g. ends c.args.star.now c.loop-p.invariant path g c.loop-p-test.false t
 
 pub returns-clause-remembers : goal.returns-clause-remembers
 returns-clause-remembers c = λ path g. remembers c.args.star.now c.loop-p.invariant path g

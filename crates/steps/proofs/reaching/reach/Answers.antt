@@ -5,7 +5,6 @@ use Prim.Native.Nat.{ℕ, ◌<◌}
 use native.Mathlib.Omega.{arith}
 use lib.ListN.{length, get_or, set}
 use Rattle.table.specs.Table.{arc_count}
-use Rattle.table.specs.Lent.{table_in}
 use Rattle.auction.specs.Auction.{state, reach, offers, with_status}
 use Rattle.steps.specs.declared.state.Status.TheVariants.{Reached}
 use Rattle.steps.specs.declared.state.Node.{Node}
@@ -31,18 +30,17 @@ offer_arcs-requires-clause-ready c = still_ready c.args.v _ refl c.requires.read
 
 pub returns-clause-reaches : goal.returns-clause-reaches
 unfolding reach with_status seen state
-returns-clause-reaches c = λ path g.
-    let t = table_in c.args.star.now.table in
-    c.offer_arcs.ensures.offers path g ∙ ap (offers (arc_count t) 0 t c.args.v) (held_with_status path c.args.nodes.now g c.args.v Reached)
+returns-clause-reaches c = λ t path g of.
+    c.offer_arcs.ensures.offers t path g of ∙ ap (offers (arc_count t) 0 t c.args.v) (held_with_status path c.args.nodes.now g c.args.v Reached)
 
 pub returns-clause-remembers : goal.returns-clause-remembers
-returns-clause-remembers c = λ path g new arcs.
+returns-clause-remembers c = λ path g new t of tails arcs.
     let a = c.args in
     let ready = c.requires.ready in
     after_alike (alike path a.nodes.now g a.v (omega (arith, ready.count, c.requires.v_in_bounds.0)) new) arcs
     (λ still.
     subst
-    (λ (m : List ℕ). Remembering (table_in a.star.now.table) (but a.v (held (run_of path a.nodes.now g))) m (memory_in c.offer_arcs.new.nodes)
+    (λ (m : List ℕ). Remembering t (but a.v (held (run_of path a.nodes.now g))) m (memory_in c.offer_arcs.new.nodes)
     (held (run_of path (marked a.v a.nodes.now) g)) (held (run_of path c.offer_arcs.new.nodes g)))
     (unwritten (λ m. m.remembered) a.nodes.now a.v _ refl)
-    (c.offer_arcs.ensures.remembers path g still))
+    (c.offer_arcs.ensures.remembers path g t of tails still))

@@ -22,15 +22,15 @@ module _ (c : Then-not-was_reached) where
       omega (arith, s, ltb-false _ _ (sym c.was_reached.ensures ∙ c.if-not-was_reached.true))
 
 pub returns-then-not-was_reached-clause-extends : goal.returns-then-not-was_reached-clause-extends
-returns-then-not-was_reached-clause-extends c =
+returns-then-not-was_reached-clause-extends c = λ t of.
     let a = c.args in
     let ns = a.nodes.now in
     extended_reached a.path.now (prices_in ns) (bounds_in ns) (kepts_in ns) (statuses_in ns) a.g _ a.child c.from-v.result _ c.from-v.ensures
     c.requires.room.0 (new (goal.at.returns-then-not-was_reached-clause-extends c).Then-not-was_reached)
-    (c.reach.ensures.reaches (set a.path.now a.g.depth a.child) (grown a.g))
+    (c.reach.ensures.reaches t (set a.path.now a.g.depth a.child) (grown a.g) of)
 
 pub returns-then-not-was_reached-clause-remembers : goal.returns-then-not-was_reached-clause-remembers
-returns-then-not-was_reached-clause-remembers c = λ arcs.
+returns-then-not-was_reached-clause-remembers c = λ t of tails arcs.
     let a = c.args in
     let ns = a.nodes.now in
     let unreached = new (goal.at.returns-then-not-was_reached-clause-remembers c).Then-not-was_reached in
@@ -39,10 +39,10 @@ returns-then-not-was_reached-clause-remembers c = λ arcs.
     arcs
     (λ still.
     fewer (reached_other a.path.now (prices_in ns) (bounds_in ns) (kepts_in ns) (statuses_in ns) a.g c.from-v.result unreached)
-    (c.reach.ensures.remembers (set a.path.now a.g.depth a.child) (grown a.g) unreached still))
+    (c.reach.ensures.remembers (set a.path.now a.g.depth a.child) (grown a.g) unreached t of tails still))
 
 pub returns-else-not-was_reached-clause-extends : goal.returns-else-not-was_reached-clause-extends
-returns-else-not-was_reached-clause-extends c =
+returns-else-not-was_reached-clause-extends c = λ t of.
     let a = c.args in
     let ns = a.nodes.now in
     let s = entry (λ m. status_number m.status) ns c.from-v.result in
@@ -50,7 +50,7 @@ returns-else-not-was_reached-clause-extends c =
     c.requires.room.0 (λ z. omega (arith, s, ltb-true _ _ (sym c.was_reached.ensures ∙ c.if-not-was_reached.false)))
 
 pub returns-else-not-was_reached-clause-remembers : goal.returns-else-not-was_reached-clause-remembers
-returns-else-not-was_reached-clause-remembers c = λ arcs.
+returns-else-not-was_reached-clause-remembers c = λ t of tails arcs.
     let a = c.args in
     let ns = a.nodes.now in
     unchanged
