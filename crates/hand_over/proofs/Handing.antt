@@ -8,9 +8,8 @@ use native.Mathlib.Omega.{arith}
 use lib.Dec.{ltb, eqb}
 use lib.ListN.{length, get_or}
 use borrow.Author.Tests.{ltb-true, lt-ltb, eq-eqb, ne_eqb}
-use Rattle.table.specs.Table.{Table, down, no_arc, no_distance}
-use Rattle.table.specs.Lent.{table_in}
-use Rattle.table.specs.declared.links.LinkTable.{LinkTable}
+use Rattle.table.specs.Table.{Table, arc_count, down, no_arc, no_distance}
+use Rattle.table.specs.declared.links.Columns.{Columns}
 use Rattle.table.specs.Refusals.{Refusal, refusal, no_refusal}
 use Rattle.auction.specs.Auction.{State, auction, iterations, was_reached, distance, kept_at, is_kept, unreached}
 use Rattle.auction.specs.HandOver.{answer, handed_over, route_refusal, entries, greatest, sum, horizon, reached_count, distances, prices, tree, marks, mark, arc_or_none}
@@ -18,7 +17,6 @@ use Rattle.auction.specs.Plan.{routes_of}
 use Rattle.table.proofs.Basics.{same_or, true_or}
 use Rattle.table.proofs.Present.{present_tail, down_absent, up_present}
 use Rattle.auction.proofs.Sums.{greatest_bound}
-use Rattle.forward_star.proofs.Columns.{arcs_are, tail_held, head_held, length_held, heads_below}
 use Rattle.steps.specs.declared.state.Node.{Node}
 use Rattle.steps.specs.declared.state.Progress.{Progress}
 use Rattle.steps.specs.Seen.{arc_of, run_of, held, prices_in, bounds_in, kepts_in, statuses_in, status_number}
@@ -26,7 +24,7 @@ use Rattle.steps.specs.Memory.{node_at}
 use Rattle.steps.specs.Steps.{Ran}
 use Rattle.steps.proofs.Arrays.{seen_status, seen_distance, seen_kept, some_arc, no_kept}
 use Rattle.steps.proofs.Nodes.{as_many, entry}
-use Rattle.hand_over.specs.ReadOff.{Known, NoneFarther, mark_entry}
+use Rattle.hand_over.specs.ReadOff.{Known, ArcEnds, ArcsHeld, NoneFarther, mark_entry}
 use Rattle.hand_over.proofs.Entries.{entries_same}
 
 -- one entry each, as the code makes it: of a node that was reached, or another
@@ -120,29 +118,28 @@ module _ (path : List ℕ) (ns : List Node) (g : Progress) where
       (same_or k no_arc))
 
   -- the marks of a table's arcs: an absent arc has mark 1, and a present one leaves its tail
-  module _ (l : LinkTable) (many : length ns ≡ l.n) where
-    abbrev t : Table
-    t = table_in l
-
+  module _ (t : Table) (c : Columns) (ends : ArcEnds c ns) (arcs : ArcsHeld t c) where
     reached_there : (v : ℕ) → ltb 0 (get_or (statuses_in ns) v 0) ≡ was_reached x v
     reached_there v = ap (ltb 0) (status_is v) ∙ sym (reached_is v)
 
-    mark_so : (i : ℕ) → i < length l.columns.tails.now → mark_entry l ns i ≡ mark t x i
+    mark_so : (i : ℕ) → i < length c.heads.now → mark_entry c ns i ≡ mark t x i
     unfolding mark
     mark_so i inside =
-        let long = length_held l i inside in
-        let here_length = get_or l.columns.lengths.now i 0 in
+        let listed : i < arc_count t = omega (arith, arcs.count) in
+        let long = arcs.arc_length i listed in
+        let here_length = get_or c.lengths.now i 0 in
         ⊎_elim (λ (z : here_length ≡ down). rw (eq-eqb here_length down z, down_absent t i (long ∙ z)))
         (λ (z : here_length ≡ down → ⊥).
         let here = up_present t i (λ e. z (sym long ∙ e)) in
-        let hd = head_held l i inside in
-        let tl = present_tail t i here ∙ tail_held l i inside in
-        rw (ne_eqb here_length down z, here, hd, tl, reached_there (get_or l.columns.heads.now i 0), reached_there (get_or l.columns.tails.now i 0), kept_so i (get_or l.columns.heads.now i 0) (omega (arith, heads_below l i inside, many)) (λ q. omega (arith, l.columns.few))))
+        let hd = arcs.head i listed in
+        let tl = present_tail t i here ∙ arcs.tail i listed in
+        let kept = kept_so i (get_or c.heads.now i 0) (ends.head_in i inside) (λ q. omega (arith, c.few, c.heads_are)) in
+        rw (ne_eqb here_length down z, here, hd, tl, reached_there (get_or c.heads.now i 0), reached_there (get_or c.tails.now i 0), kept))
         (same_or here_length down)
 
-    pub marks_so : entries (length l.columns.tails.now) 0 (mark_entry l ns) ≡ marks t x
+    pub marks_so : entries (length c.heads.now) 0 (mark_entry c ns) ≡ marks t x
     unfolding marks
-    marks_so = rw (arcs_are l) (entries_same (length l.columns.tails.now) 0 _ _ (λ i h. mark_so i (omega arith)))
+    marks_so = rw arcs.count (entries_same (length c.heads.now) 0 _ _ (λ i h. mark_so i (omega arith)))
 
 -- no distance is above the horizon
 pub below_horizon : (ns : List Node) (h : ℕ) → h ≡ greatest (entries (length ns) 0 (distance_entry 0 ns)) → NoneFarther h ns

@@ -1,8 +1,7 @@
 -- What the hand-over reads off the nodes where a run has ended, and what it relies on. Assumes nothing: these are definitions.
 use Rattle.std.specs.Prelude.{◌≡◌, cond, List, ℕ, ◌-◌, ◌≤◌, ◌<◌, ltb, eqb, length, get_or}
-use Rattle.table.specs.declared.links.LinkTable.{LinkTable}
-use Rattle.table.specs.Lent.{table_in}
-use Rattle.table.specs.Table.{Table, down, no_distance, most_nodes, most_arcs}
+use Rattle.table.specs.declared.links.Columns.{Columns}
+use Rattle.table.specs.Table.{Table, arc_count, arc_at, head_at, length_at, down, no_distance, most_nodes, most_arcs}
 use Rattle.auction.specs.Auction.{State, auction, unreached}
 use Rattle.auction.specs.HandOver.{Answer, mark_number}
 use Rattle.auction.specs.Plan.{routes_of}
@@ -17,6 +16,13 @@ use Rattle.steps.specs.Steps.{Ran}
 abbrev pub Known : List Node → Type 0
 Known nodes = (v : ℕ) → 0 < get_or (statuses_in nodes) v 0 → get_or (bounds_in nodes) v 0 ≡ no_distance → ⊥
 
+-- the ends of every arc are nodes
+pub record ArcEnds (c : Columns) (nodes : List Node) : Type 0 where
+  -- the head of each
+  pub head_in : (i : ℕ) → i < length c.heads.now → get_or c.heads.now i 0 < length nodes
+  -- and the tail of each
+  pub tail_in : (i : ℕ) → i < length c.heads.now → get_or c.tails.now i 0 < length nodes
+
 -- the buffers fit n nodes and m arcs
 pub record Fitting (n m : ℕ) (distances prices tree marks : List ℕ) : Type 0 where
   -- within the limits
@@ -27,6 +33,17 @@ pub record Fitting (n m : ℕ) (distances prices tree marks : List ℕ) : Type 0
   pub prices_long : length prices ≡ n
   pub tree_long : length tree ≡ n
   pub marks_long : length marks ≡ m
+
+-- the columns hold a table's arcs
+pub record ArcsHeld (t : Table) (c : Columns) : Type 0 where
+  -- they are as long as the table
+  pub count : arc_count t ≡ length c.heads.now
+  -- they hold each arc's head
+  pub head : (i : ℕ) → i < arc_count t → head_at t i ≡ get_or c.heads.now i 0
+  -- its tail, also where it is absent
+  pub tail : (i : ℕ) → i < arc_count t → (arc_at t i).tail ≡ get_or c.tails.now i 0
+  -- and its length
+  pub arc_length : (i : ℕ) → i < arc_count t → length_at t i ≡ get_or c.lengths.now i 0
 
 -- no node that was reached is farther than the horizon
 abbrev pub NoneFarther : (horizon : ℕ) → List Node → Type 0
@@ -41,16 +58,15 @@ abbrev pub price_entry : (horizon : ℕ) → List Node → (v : ℕ) → ℕ
 price_entry h nodes v = h - cond (ltb unreached (status_number (node_at v nodes).status)) (node_at v nodes).bound h
 
 -- the mark of the arc at a position; an arc whose link is down has mark 1
-abbrev pub mark_entry : LinkTable → List Node → (i : ℕ) → ℕ
-mark_entry l nodes i =
-    cond (eqb (get_or l.columns.lengths.now i 0) down) 1
-    (mark_number (ltb 0 (get_or (statuses_in nodes) (get_or l.columns.heads.now i 0) 0)) (ltb 0 (get_or (statuses_in nodes) (get_or l.columns.tails.now i 0) 0))
-    (eqb (get_or (kepts_in nodes) (get_or l.columns.heads.now i 0) 0) i))
+abbrev pub mark_entry : Columns → List Node → (i : ℕ) → ℕ
+mark_entry c nodes i =
+    cond (eqb (get_or c.lengths.now i 0) down) 1
+    (mark_number (ltb 0 (get_or (statuses_in nodes) (get_or c.heads.now i 0) 0)) (ltb 0 (get_or (statuses_in nodes) (get_or c.tails.now i 0) 0))
+    (eqb (get_or (kepts_in nodes) (get_or c.heads.now i 0) 0) i))
 
--- THE HAND-OVER: where the run of the table has ended with these nodes, the answer is the definition's
-abbrev pub HandsOver : (end : RunEnd) → LinkTable → List Node → Answer → Type 0
-HandsOver end l nodes answer =
-    let t = table_in l in
-    let ws = l.wanted.now in
-    (path : List ℕ) → Ran t ws (auction t ws) end.missing end.scans (held (run_of path nodes end.progress)) →
-    (auction t ws).routed ≡ eqb end.missing (length ws) → answer ≡ routes_of t ws
+-- THE HAND-OVER: for each table and wanted list whose run has ended with these nodes, the answer is the definition's
+abbrev pub HandsOver : (end : RunEnd) → (wanted : ℕ) → Columns → List Node → Answer → Type 0
+HandsOver end wanted c nodes answer =
+    (t : Table) (ws path : List ℕ) → t.n ≡ length nodes → ArcsHeld t c → length ws ≡ wanted →
+    Ran t ws (auction t ws) end.missing end.scans (held (run_of path nodes end.progress)) →
+    (auction t ws).routed ≡ eqb end.missing wanted → answer ≡ routes_of t ws

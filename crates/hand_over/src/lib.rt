@@ -6,16 +6,15 @@ ghost use Rattle.std.specs.Prelude.{◌≡◌, cond, ℕ, ◌+◌, ◌≤◌, �
 ghost use Rattle.table.specs.Table.{no_arc, most_nodes, most_wanted};
 ghost use Rattle.table.specs.Refusals.{no_refusal, refusal};
 ghost use Rattle.table.specs.Told.{number, told};
-ghost use Rattle.table.specs.Lent.{table_in};
 ghost use Rattle.auction.specs.Auction.{unreached};
 ghost use Rattle.auction.specs.HandOver.{horizon, reached_count, mark_number};
 ghost use Rattle.steps.specs.Seen.{status_number, too_many};
 ghost use Rattle.hand_over.specs.Answered.{answered, nothing_planned};
-ghost use Rattle.hand_over.specs.ReadOff.{Known, Fitting, NoneFarther, ReadOff, HandsOver, price_entry, mark_entry};
+ghost use Rattle.hand_over.specs.ReadOff.{Known, ArcEnds, Fitting, NoneFarther, ReadOff, HandsOver, price_entry, mark_entry};
 
 use steps::state::{Node, RunEnd};
 use table::faults::{Fault, Refusal};
-use table::links::LinkTable;
+use table::links::Columns;
 use table::{DOWN, NO_ARC, NO_DISTANCE};
 
 // Number and place of a refusal, number 0 where there is none; nodes reached, horizon and the counts of the run.
@@ -126,12 +125,11 @@ fn mark(head: bool, tail: bool, kept: bool) -> u8
 }
 
 // The mark of the arc at a position.
-fn mark_at(i: usize, table: &LinkTable, nodes: &[Node]) -> u8
-    requires nodes_len { length nodes.now ≡ table.now.n }
-    requires i_in_bounds { i < length table.now.columns.heads.now }
-    ensures { result ≡ mark_entry table.now nodes.now i }
+fn mark_at(i: usize, columns: Columns, nodes: &[Node]) -> u8
+    requires arc_ends { ArcEnds columns nodes.now }
+    requires i_in_bounds { i < length columns.heads.now }
+    ensures { result ≡ mark_entry columns.entry nodes.now i }
 {
-    let columns = table.columns;
     // set aside from the start: the link is down
     if columns.lengths[i] == DOWN {
         return 1;
@@ -177,28 +175,29 @@ fn told(answer: Result<(), Refusal>) -> (u32, u32)
     }
 }
 
-// The answer and the four buffers, from where the run of a table has ended.
+// The answer and the four buffers, from where a run has ended.
 pub fn hand_over(
     end: RunEnd,
-    table: &LinkTable,
+    wanted: usize,
+    columns: Columns,
     nodes: &[Node],
     distances: &mut [u64],
     prices: &mut [u64],
     tree: &mut [u16],
     marks: &mut [u8],
 ) -> Planned
-    requires nodes_len { length nodes.now ≡ table.now.n }
     requires known { Known nodes.now }
-    requires fitting { Fitting table.now.n (length table.now.columns.heads.now) distances.old prices.old tree.old marks.old }
+    requires arc_ends { ArcEnds columns nodes.now }
+    requires fitting { Fitting (length nodes.now) (length columns.heads.now) distances.old prices.old tree.old marks.old }
     requires few { (end.missing ≤ most_wanted) × (end.progress.contractions + end.progress.extensions + end.progress.deletions < too_many) }
-    ensures { HandsOver end table.now nodes.now (answered result distances.new prices.new tree.new marks.new) }
+    ensures { HandsOver end wanted columns.entry nodes.now (answered result distances.new prices.new tree.new marks.new) }
 {
     let horizon = horizon_of(nodes);
     fill(distances, |v| entry(nodes[v], nodes[v].bound, NO_DISTANCE));
     fill(prices, |v| price_at(v, horizon, nodes));
     fill(tree, |v| entry(nodes[v], nodes[v].kept, NO_ARC));
-    fill(marks, |i| mark_at(i, table, nodes));
-    let (number, place) = told(route(end.missing, table.wanted.len()));
+    fill(marks, |i| mark_at(i, columns, nodes));
+    let (number, place) = told(route(end.missing, wanted));
     let counts = end.progress;
     Planned {
         number,

@@ -23,6 +23,8 @@ use Rattle.auction.proofs.Made.{rooms_so, unrefused}
 use Rattle.table.specs.declared.links.LinkTable.{LinkTable}
 use Rattle.table.specs.Lent.{table_in}
 use Rattle.forward_star.proofs.Columns.{good_table, nodes_are, origin_is, few_nodes}
+use Rattle.forward_star.proofs.Columns.{arcs_are, head_held, tail_held, length_held, heads_below, tails_below}
+use Rattle.steps.specs.declared.state.Node.{Node}
 use Rattle.steps.specs.declared.state.RunState.{RunState}
 use Rattle.steps.specs.Seen.{held, first_of, status_number, prices_in, bounds_in, kepts_in, statuses_in}
 use Rattle.steps.specs.Steps.{Ran}
@@ -31,7 +33,7 @@ use Rattle.solver.specs.Runs.{RanWithin}
 use Rattle.solver.proofs.run.Wanted.{some_missing, none_missing}
 use Rattle.steps.proofs.Nodes.{as_many}
 use Rattle.auction.specs.Plan.{plan_refusal, plan, routes_of, refused_plan}
-use Rattle.hand_over.specs.ReadOff.{Known, Fitting}
+use Rattle.hand_over.specs.ReadOff.{Known, ArcEnds, Fitting, ArcsHeld}
 
 -- AFTER THE RUN: whether a wanted node is missing
 pub all_found : {t : Table} {ws : List ℕ} {e : Ended} {m c : ℕ} {x : State} → Ran t ws e m c x → all_reached ws x ≡ eqb m (length ws)
@@ -75,6 +77,25 @@ module _ (t : Table) (ws : List ℕ) (e : Ended) (m c : ℕ) (r : RunState) (ran
 
 pub place_low : (l : LinkTable) (m : ℕ) → m ≤ length l.wanted.now → m ≤ most_wanted
 place_low l m h = omega (arith, (parts (table_in l) l.wanted.now l.good).few_wanted)
+
+-- the ends of a table's arcs are nodes
+pub ends_so : (l : LinkTable) (nodes : List Node) → length nodes ≡ l.n → ArcEnds l.columns nodes
+ends_so l nodes e =
+    record {
+      head_in = λ i h. omega (arith, heads_below l i (omega (arith, l.columns.heads_are)), e);
+      tail_in = λ i h. omega (arith, tails_below l i (omega (arith, l.columns.heads_are)), e);
+    }
+
+-- and its columns hold its arcs
+pub arcs_held : (l : LinkTable) → ArcsHeld (table_in l) l.columns
+arcs_held l =
+    let count = arcs_are l in
+    record {
+      count = count ∙ l.columns.heads_are;
+      head = λ i h. head_held l i (omega (arith, count));
+      tail = λ i h. tail_held l i (omega (arith, count));
+      arc_length = λ i h. length_held l i (omega (arith, count));
+    }
 
 pub origin_low : (l : LinkTable) → l.origin < l.n
 origin_low l = omega (arith, (good_table l).origin_in, nodes_are l, origin_is l)

@@ -36,7 +36,16 @@ fn plan_table(
         progress,
     } = fresh;
     let end = run(progress, NO_LIMIT, table, &mut path[..n], &mut nodes[..n]);
-    hand_over(end, table, &nodes[..n], distances, prices, tree, marks)
+    hand_over(
+        end,
+        table.wanted.len(),
+        table.columns,
+        &nodes[..n],
+        distances,
+        prices,
+        tree,
+        marks,
+    )
 }
 
 // Plans the routes of a link table from its origin to the wanted nodes: the answer, and a distance, a price and a tree arc for each

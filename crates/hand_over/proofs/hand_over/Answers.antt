@@ -1,15 +1,13 @@
 -- Each part of the answer is the definition's. Assumes nothing.
-use mathlib.Core.Path.{◌≡◌, refl, sym, ◌∙◌}
+use mathlib.Core.Path.{◌≡◌, refl, ◌∙◌}
 use borrow.Author.Rules.{rules}
 use Prim.Native.Nat.{ℕ, ◌<◌}
 use native.Mathlib.Omega.{arith}
 use lib.ListN.{length, get_or}
 use Rattle.table.specs.Table.{no_distance}
-use Rattle.table.specs.Lent.{table_in}
 use Rattle.table.specs.Refusals.{refusal}
 use Rattle.auction.specs.Auction.{state, iterations}
 use Rattle.steps.specs.Seen.{seen}
-use Rattle.forward_star.proofs.Columns.{nodes_are}
 use Rattle.hand_over.specs.ReadOff.{price_entry, mark_entry}
 use Rattle.hand_over.specs.Answered.{answered}
 use Rattle.hand_over.proofs.Handing.{distance_entry, arc_entry, column_so, distances_so, prices_so, tree_so, marks_so, assembled}
@@ -17,28 +15,25 @@ use Rattle.hand_over.proofs.hand_over.Goals as goal
 
 pub returns : goal.returns
 unfolding answered iterations seen state refusal
-returns c = λ path ran routed.
+returns c = λ t ws path nodes held wanted ran routed.
     let a = c.args in
     let ns = a.nodes.now in
-    let l = a.table.now in
     let g = a.end.progress in
-    let nodes = nodes_are l ∙ sym c.requires.nodes_len in
     let horizon = c.horizon_of-horizon.result in
-    let fits = c.requires.fitting in
     let d : (i : ℕ) → i < length ns → get_or c.fill.new.column i 0 ≡ distance_entry no_distance ns i =
     λ i h. search (rules, c.fill.ensures i 0 (omega arith)) in
     let p : (i : ℕ) → i < length ns → get_or c.fill-2.new.column i 0 ≡ price_entry horizon ns i =
     λ i h. search (rules, c.fill-2.ensures i 0 (omega arith)) in
     let k : (i : ℕ) → i < length ns → get_or c.fill-3.new.column i 0 ≡ arc_entry ns i =
     λ i h. search (rules, c.fill-3.ensures i 0 (omega arith)) in
-    let m : (i : ℕ) → i < length l.columns.tails.now → get_or c.fill-4.new.column i 0 ≡ mark_entry l ns i =
-    λ i h. search (rules, c.fill-4.ensures i 0 (omega (arith, l.columns.heads_are))) in
-    assembled (table_in l) l.wanted.now a.end.missing a.end.scans _ ran routed (refusal c.told-number.result.0 c.told-number.result.1) _ _ _ _ _ _ _ _ _ _
-    (c.told-number.ensures ∙ c.route.ensures)
-    (c.count_reached.ensures (table_in l) path g nodes)
-    (c.horizon_of-horizon.ensures.so (table_in l) path g nodes) refl refl refl refl
-    (column_so _ _ _ (omega arith) d ∙ distances_so path ns g c.requires.known (table_in l) nodes)
+    let m : (i : ℕ) → i < length a.columns.heads.now → get_or c.fill-4.new.column i 0 ≡ mark_entry a.columns ns i =
+    λ i h. search (rules, c.fill-4.ensures i 0 (omega arith)) in
+    assembled t ws a.end.missing a.end.scans _ ran (rw wanted routed) (refusal c.told-number.result.0 c.told-number.result.1) _ _ _ _ _ _ _ _ _ _
+    (rw wanted (c.told-number.ensures ∙ c.route.ensures))
+    (c.count_reached.ensures t path g nodes)
+    (c.horizon_of-horizon.ensures.so t path g nodes) refl refl refl refl
+    (column_so _ _ _ (omega arith) d ∙ distances_so path ns g c.requires.known t nodes)
     (column_so _ _ _ (omega arith) p
-    ∙ prices_so path ns g c.requires.known (table_in l) horizon nodes (c.horizon_of-horizon.ensures.so (table_in l) path g nodes))
-    (column_so _ _ _ (omega arith) k ∙ tree_so path ns g (table_in l) nodes)
-    (column_so _ _ _ (omega (arith, l.columns.heads_are)) m ∙ marks_so path ns g l c.requires.nodes_len)
+    ∙ prices_so path ns g c.requires.known t horizon nodes (c.horizon_of-horizon.ensures.so t path g nodes))
+    (column_so _ _ _ (omega arith) k ∙ tree_so path ns g t nodes)
+    (column_so _ _ _ (omega arith) m ∙ marks_so path ns g t a.columns c.requires.arc_ends held)

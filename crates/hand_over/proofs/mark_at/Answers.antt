@@ -7,7 +7,6 @@ use lib.Dec.{ltb}
 use lib.ListN.{get_or}
 use borrow.Author.Tests.{ne_eqb}
 use Rattle.table.specs.Table.{down}
-use Rattle.forward_star.proofs.Columns.{heads_below, tails_below}
 use Rattle.steps.specs.declared.state.Node.{Node}
 use Rattle.steps.specs.Seen.{status_number, statuses_in, kepts_in}
 use Rattle.steps.specs.Memory.{node_at}
@@ -15,14 +14,10 @@ use Rattle.steps.proofs.Nodes.{entry}
 use Rattle.hand_over.proofs.mark_at.Goals as goal
 
 pub bounds-nodes-to : goal.bounds-nodes-to
-bounds-nodes-to c =
-    let l = c.args.table.now in
-    omega (arith, c.from-to.ensures, heads_below l c.args.i (omega (arith, c.requires.i_in_bounds, l.columns.heads_are)), c.requires.nodes_len)
+bounds-nodes-to c = omega (arith, c.from-to.ensures, c.requires.arc_ends.head_in c.args.i c.requires.i_in_bounds)
 
 pub bounds-nodes-from : goal.bounds-nodes-from
-bounds-nodes-from c =
-    let l = c.args.table.now in
-    omega (arith, c.from-from.ensures, tails_below l c.args.i (omega (arith, c.requires.i_in_bounds, l.columns.heads_are)), c.requires.nodes_len)
+bounds-nodes-from c = omega (arith, c.from-from.ensures, c.requires.arc_ends.tail_in c.args.i c.requires.i_in_bounds)
 
 -- whether a node has been reached, as its column says
 reached_so : (nodes : List Node) (v w : ℕ) → v ≡ w → ltb 0 (status_number (node_at v nodes).status) ≡ ltb 0 (get_or (statuses_in nodes) w 0)
@@ -31,7 +26,10 @@ reached_so nodes v w e = ap (ltb 0) (sym (entry (λ m. status_number m.status) n
 pub returns : goal.returns
 returns c =
     let ns = c.args.nodes.now in
-    let kept : c.from.result ≡ get_or (kepts_in ns) (get_or c.args.table.now.columns.heads.now c.args.i 0) 0 =
+    let kept : c.from.result ≡ get_or (kepts_in ns) (get_or c.args.columns.heads.now c.args.i 0) 0 =
     c.from.ensures ∙ sym (entry (λ m. m.kept) ns c.from-to.result) ∙ ap (λ (u : ℕ). get_or (kepts_in ns) u 0) c.from-to.ensures in
-    rw (ne_eqb (get_or c.args.table.now.columns.lengths.now c.args.i 0) down c.if-columns-i.false, ← reached_so ns c.from-to.result _ c.from-to.ensures, ← reached_so ns c.from-from.result _ c.from-from.ensures, ← kept, ← c.was_reached.ensures, ← c.was_reached-2.ensures)
+    let up = ne_eqb (get_or c.args.columns.lengths.now c.args.i 0) down c.if-columns-i.false in
+    let head = reached_so ns c.from-to.result _ c.from-to.ensures in
+    let tail = reached_so ns c.from-from.result _ c.from-from.ensures in
+    rw (up, ← head, ← tail, ← kept, ← c.was_reached.ensures, ← c.was_reached-2.ensures)
     c.mark.ensures
