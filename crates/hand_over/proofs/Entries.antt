@@ -3,7 +3,6 @@ use mathlib.Core.Path.{◌≡◌, refl, sym, ap, ap₂, subst, ◌∙◌}
 use mathlib.Core.List.{List, [], ◌∷◌}
 use Prim.Native.Nat.{ℕ, zero, suc, ◌+◌, ◌-◌, ◌≤◌, ◌<◌, max}
 use native.Mathlib.Omega.{arith}
-use lib.ListN.{length, set, drop, length-set, drop_of_length-le}
 use Rattle.auction.specs.HandOver.{entries, greatest, sum}
 
 pub entries_same : (k a : ℕ) (f g : ℕ → ℕ) → ((v : ℕ) → v < a + k → f v ≡ g v) → entries k a f ≡ entries k a g
@@ -47,41 +46,3 @@ all_entries n p f h =
     let z : p ≡ 0 = omega arith in
     let w : n - 0 ≡ n = omega arith in
     subst (λ (q : ℕ). entries (n - q) q f ≡ entries n 0 f) (sym z) (ap (λ k. entries k 0 f) w)
-
--- A BUFFER whose entries from p on are made
-pub record Filling (n : ℕ) (f : ℕ → ℕ) (out : List ℕ) (p : ℕ) : Type 0 where
-  pub low : p ≤ n
-  pub long : length out ≡ n
-  pub made : drop p out ≡ entries (n - p) p f
-
-drop_set_here : (l : List ℕ) (i a : ℕ) → i < length l → drop i (set l i a) ≡ a ∷ drop (suc i) l
-drop_set_here [] i a h = absurd (omega arith)
-drop_set_here (b ∷ l) zero a h = refl
-drop_set_here (b ∷ l) (suc i) a h = drop_set_here l i a (omega arith)
-
-pub fill_begins : {n : ℕ} {f : ℕ → ℕ} (out : List ℕ) → length out ≡ n → Filling n f out (length out)
-fill_begins {n} {f} out e =
-    record {
-      low = omega arith;
-      long = e;
-      made =
-          let z : length out ≤ length out = omega arith in
-          drop_of_length-le out z ∙ sym (subst (λ (k : ℕ). entries (k - length out) (length out) f ≡ []) e (no_entries (length out) f));
-    }
-
-pub fill_on : {n : ℕ} {f : ℕ → ℕ} {out : List ℕ} {p : ℕ} (a : ℕ) → Filling n f out p → 0 < p → a ≡ f (p - 1) → Filling n f (set out (p - 1) a) (p - 1)
-fill_on {n} {f} {out} {p} a i pos e =
-    let inside : p - 1 < length out = omega (arith, i.low, i.long) in
-    let b : suc (p - 1) ≡ p = omega arith in
-    record {
-      low = omega (arith, i.low);
-      long = length-set out (p - 1) a ∙ i.long;
-      made =
-          drop_set_here out (p - 1) a inside ∙ ap (λ k. a ∷ drop k out) b ∙ ap₂ (λ (x : ℕ) (l : List ℕ). x ∷ l) e i.made
-          ∙ sym (one_more n f p pos i.low);
-    }
-
-pub fill_ends : {n : ℕ} {f : ℕ → ℕ} {out : List ℕ} {p : ℕ} → Filling n f out p → p ≤ 0 → out ≡ entries n 0 f
-fill_ends {n} {f} {out} {p} i h =
-    let z : p ≡ 0 = omega arith in
-    subst (λ (q : ℕ). drop q out ≡ entries (n - p) p f) z i.made ∙ all_entries n p f h

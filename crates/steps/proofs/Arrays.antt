@@ -14,7 +14,7 @@ use Rattle.auction.specs.Auction.{state, price_at, bound_at, kept_at, status_at,
 use Rattle.steps.specs.declared.state.Progress.{Progress}
 use Rattle.steps.specs.Seen.{bound_of, arc_of, nodes_of, seen, run_of, first_of, held, status_number}
 use Rattle.steps.specs.declared.state.Node.{Node}
-use Rattle.steps.specs.Memory.{node_at, AllForgotten}
+use Rattle.steps.specs.Memory.{node_at}
 use Rattle.steps.proofs.Nodes.{written, unwritten}
 
 -- the sentinels
@@ -116,21 +116,3 @@ fresh_seen m t o at g ea eo h l ed ec ee ex =
     let b = fresh_node 0 in
     let below : o < n = omega arith in
     rw (ea, ed, ec, ee, ex, path_begins m n o below l, column_alike m n o a b below l (λ k. k.price) refl, column_but_one m n o a b below l (λ k. k.bound), column_alike m n o a b below l (λ k. k.kept) refl, column_alike m n o a b below l (λ k. status_number k.status) refl, map_set bound_of (replicate n no_distance) o 0, map_replicate bound_of n no_distance, map_replicate arc_of n no_arc, some_bound 0 (λ z. omega arith), no_bound no_distance refl, no_kept no_arc refl, eo)
-
-each_alike : (P : Node → Type 0) (m n : ℕ) (a : Node) → P a → (v : ℕ) → v < length (take n (replicate m a)) → P (node_at v (take n (replicate m a)))
-each_alike P m zero a h v l = absurd (omega arith)
-each_alike P zero (suc n) a h v l = absurd (omega arith)
-each_alike P (suc m) (suc n) a h zero l = h
-each_alike P (suc m) (suc n) a h (suc v) l = each_alike P m n a h v (omega arith)
-
-each_but_one : (P : Node → Type 0) (m n i : ℕ) (a b : Node) → P a → P b → (v : ℕ) → v < length (take n (set (replicate m a) i b)) →
-    P (node_at v (take n (set (replicate m a) i b)))
-each_but_one P m zero i a b ha hb v l = absurd (omega arith)
-each_but_one P zero (suc n) i a b ha hb v l = absurd (omega arith)
-each_but_one P (suc m) (suc n) zero a b ha hb zero l = hb
-each_but_one P (suc m) (suc n) zero a b ha hb (suc v) l = each_alike P m n a ha v (omega arith)
-each_but_one P (suc m) (suc n) (suc i) a b ha hb zero l = ha
-each_but_one P (suc m) (suc n) (suc i) a b ha hb (suc v) l = each_but_one P m n i a b ha hb v (omega arith)
-
-pub fresh_forgotten : (m n at : ℕ) → AllForgotten (take n (set (replicate m (fresh_node no_distance)) at (fresh_node 0)))
-fresh_forgotten m n at = each_but_one (λ a. a.remembered ≡ no_node) m n at (fresh_node no_distance) (fresh_node 0) refl refl

@@ -34,7 +34,6 @@ run-end-requires c =
     record {
       long = (part_long fresh.result.path l.n fresh.ensures.long.0 (few_nodes l), part_long fresh.result.nodes l.n fresh.ensures.long.1 (few_nodes l));
       begun = lent_fresh l fresh.result fresh.ensures.so;
-      forgotten = fresh.ensures.forgotten l.n (few_nodes l);
     }
 
 pub overflow_add-result : goal.overflow_add-result

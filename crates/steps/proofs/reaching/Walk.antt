@@ -7,7 +7,6 @@ use lib.ListN.{length, get_or}
 use Rattle.table.specs.Table.{Table, arc_count, no_arc, no_distance}
 use Rattle.auction.specs.Auction.{offers}
 use Rattle.forward_star.specs.declared.star.ForwardStar.{ForwardStar}
-use Rattle.forward_star.specs.Lists.{Tails}
 use Rattle.forward_star.specs.Lent.{IsStarOf}
 use Rattle.forward_star.proofs.Along.{OnList}
 use Rattle.steps.specs.declared.state.Node.{Node}
