@@ -16,7 +16,6 @@ pub struct FileHeader<'a> {
     pub wanted: &'a [u16],
     pub map: BitMap,
     ghost canonical: { byte_of map ≡ header_bits n origin wanted.now },
-    ghost few: { length wanted.now ≤ most_wanted },
 }
 
 impl<'a> FileHeader<'a> {
@@ -24,7 +23,6 @@ impl<'a> FileHeader<'a> {
 
     // The header of a table of n nodes.
     pub fn new(n: usize, origin: u16, wanted: &'a [u16]) -> FileHeader<'a>
-        requires { length wanted.now ≤ most_wanted }
         ensures nodes { result.n ≡ n }
         ensures origin { result.origin ≡ origin }
         ensures wanted { result.wanted.now ≡ wanted.now }
@@ -44,6 +42,7 @@ impl<'a> FileHeader<'a> {
 
     // How many bytes it has.
     pub fn size(self) -> usize
+        requires { length self.wanted.now ≤ most_wanted }
         ensures same { result ≡ length (bytes_of self.entry) }
         ensures low { result ≤ most_header }
     {

@@ -4,4 +4,4 @@ use Rattle.link_writer.proofs.header.FileHeader.new.Goals as goal
 
 pub invariant_of-result : goal.invariant_of-result
 unfolding header_bits
-invariant_of-result c = record { canonical = rw c.is_all.ensures; few = c.requires }
+invariant_of-result c = record { canonical = rw c.is_all.ensures }
