@@ -7,7 +7,7 @@ ghost use Rattle.table.specs.Told.{number};
 use table::faults::Refusal;
 
 // The refusal's number and place, number 0 where there is none; 1 where the standing list is kept, else 0; and how many nodes of the standing list or of
-// the fresh one are given, 0 on a refusal.
+// the fresh one are given, 0 on a refusal. C reads it, so it is numbers and no Result.
 #[repr(C)]
 #[derive(Clone, Copy)]
 pub struct Kept {

@@ -1,5 +1,5 @@
 // The library for firmware: the eight entry points under C names, nothing else. include/kestrelore.h declares them; each has the contract of the function
-// that it hands on to.
+// that it hands on to. A column or buffer is a parameter of its own, with its length, since C lends them so.
 #![tactic(auto)]
 
 ghost use Rattle.std.specs.Prelude.{◌≡◌};

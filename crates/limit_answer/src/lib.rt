@@ -7,7 +7,8 @@ ghost use Rattle.limit_answer.specs.Answer.{within};
 
 use table::faults::Refusal;
 
-// Number and place of a refusal, number 0 where there is none; 1 where the node is within the limit, else 0; the iterations made.
+// Number and place of a refusal, number 0 where there is none; 1 where the node is within the limit, else 0; the iterations made. C reads
+// it, so it is numbers and no Result.
 #[repr(C)]
 #[derive(Clone, Copy)]
 pub struct Within {

@@ -59,7 +59,8 @@ pub fn read_optional(
     })
 }
 
-// Puts a number of so many bytes at an offset, and gives the next one.
+// Puts a number of so many bytes at an offset, and gives the next one. Offsets are handed on as numbers, as the reader hands them on: a struct with the
+// output would be lent to every put, and say no more.
 pub fn put_field(output: &mut [u8], at: usize, width: usize, value: usize) -> usize
     requires { at + width ≤ length output.old }
     ensures { Put output.old at (bytes width value) result output.new }

@@ -121,7 +121,7 @@ pub fn read_link_file(
     }
 }
 
-// Puts the file's bytes, and gives how many there are.
+// Puts the file's bytes, and gives how many there are. The columns come as C lends them, and are one where they have been tested.
 fn write_file(
     n: usize,
     origin: u16,

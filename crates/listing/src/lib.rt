@@ -6,7 +6,8 @@ ghost use Rattle.table.specs.Told.{number};
 
 use table::faults::Refusal;
 
-// The refusal's number, 0 where there is none; its place, always 0; and how many nodes are listed, 0 on a refusal.
+// The refusal's number, 0 where there is none; its place, always 0; and how many nodes are listed, 0 on a refusal. C reads it, so it is
+// numbers and no Result.
 #[repr(C)]
 #[derive(Clone, Copy)]
 pub struct Listed {

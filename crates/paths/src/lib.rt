@@ -2,7 +2,8 @@
 // crates/listing/specs/Listing.antt says what a listing gives, Collecting.antt beside it what one to a collector does.
 //
 // The path is followed twice, from the node back: once to count its nodes, which finds refusal 14 before anything is written, and once to write them.
-// From the origin they are then turned round; to a collector, for which tails and heads are exchanged, they already stand as they are wanted.
+// From the origin they are then turned round; to a collector, for which tails and heads are exchanged, they already stand as they are wanted. Up to
+// `check_tree` the columns are parameters of their own, as C lends them.
 #![tactic(auto)]
 
 mod tree;

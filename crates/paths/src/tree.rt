@@ -2,7 +2,8 @@
 ghost use Rattle.std.specs.Prelude.{◌≡◌, ◌≤◌, length};
 ghost use Rattle.table.specs.Table.{most_nodes};
 
-// The arcs' tails and heads, a tree column over them with an entry for each node, and the origin that the paths begin at.
+// The arcs' tails and heads, a tree column over them with an entry for each node, and the origin that the paths begin at. Which node is asked of it
+// changes from call to call, so that the node's entry stands in each contract.
 #[derive(Clone, Copy)]
 pub struct Tree<'a> {
     pub origin: u16,

@@ -67,8 +67,8 @@ impl FinishedPlan<'_> {
         }
     }
 
-    // The first line: the refusal's where there is one, so where the number is not 0. It is the only one, but for "no route", on which a plan is made
-    // all the same and its lines follow.
+    // The first line: the refusal's where there is one, so where the number that C reads is not 0. It is the only one, but for "no route", on which a
+    // plan is made all the same and its lines follow.
     fn first_line(&self, out: &mut [u8]) -> Piece
         requires { line_room ≤ length out.old }
         ensures { NextLine Start (printing self.now) out (Some result) }

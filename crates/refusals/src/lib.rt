@@ -94,7 +94,7 @@ fn check_arcs(n: usize, columns: Columns) -> Result<(), Refusal>
     Ok(())
 }
 
-// 1 to 7 in order: the table, with buffers of these lengths lent for the answer.
+// 1 to 7 in order: the table, with buffers of these lengths lent for the answer. Here what C lends one by one becomes a table.
 pub fn check_table<'a>(
     n: u32,
     origin: u16,

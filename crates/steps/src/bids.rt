@@ -46,7 +46,8 @@ fn lower_bid(
     }
 }
 
-// A scan: the least bid of a node's children, the lowest position among equals. Only the node's own arcs are looked at.
+// A scan: the least bid of a node's children, the lowest position among equals. Only the node's own arcs are looked at: the loop follows their list from
+// position to position, which an Iterator of our own would say in more lines, with a law of its own.
 pub fn least_bid(v: usize, star: &ForwardStar, nodes: &[Node]) -> Option<LeastBid>
     requires nodes_len { length nodes.now ≡ length star.now.first.now }
     requires v_in_bounds { (v < length star.now.first.now) × ((u : ℕ) → get_or (prices_in nodes.now) u 0 ≤ greatest_sum) }

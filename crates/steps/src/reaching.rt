@@ -51,7 +51,7 @@ fn offer(head: usize, position: u16, offered: u64, tails: &[u16], nodes: &mut [N
     }
 }
 
-// Offers every arc out of a reached node, whose distance is given, in table order: only the node's own arcs are looked at.
+// Offers every arc out of a reached node, whose distance is given, in table order: only the node's own arcs are looked at, along their list as in a scan.
 fn offer_arcs(v: usize, distance: u64, star: &ForwardStar, nodes: &mut [Node])
     requires ready { Ready star.now nodes.old }
     requires v_in_bounds { (v < length star.now.first.now) × (distance ≤ greatest_sum) }

@@ -6,7 +6,7 @@ ghost use Rattle.steps.specs.Seen.{status_number, first_of, held};
 
 use table::{MOST_NODES, NO_ARC, NO_DISTANCE};
 
-// What a node remembers where it has to scan.
+// What a node remembers where it has to scan; a number and no Option, for the size of a node.
 pub const NO_NODE: u16 = 65535;
 
 // Whether a node has been reached, and deleted since.
@@ -64,7 +64,7 @@ pub struct Progress {
 }
 
 // Where a run has ended: the index of the first wanted node that was not reached, which is their number where all were; the scans and
-// the other counts.
+// the other counts. The index is no Option, since the search for a missing node goes on from it, as the auction's definition of it does.
 #[derive(Clone, Copy)]
 pub struct RunEnd {
     pub missing: usize,
@@ -72,7 +72,9 @@ pub struct RunEnd {
     pub progress: Progress,
 }
 
-// The path from the origin on, with room for the most nodes, as many as the progress says; the nodes; the progress.
+// The path from the origin on, with room for the most nodes, as many as the progress says; the nodes; the progress. Without a heap both have room for
+// every table. The functions of a run take the three one by one, not as one struct by `&mut`: each is lent just what it writes, so that what it cannot
+// write needs no clause, and the counts stay out of memory.
 #[derive(Drop)]
 pub struct RunState {
     pub path: [u16; MOST_NODES],

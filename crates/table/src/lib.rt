@@ -19,6 +19,8 @@ pub const MOST_ARCS: usize = 6000;
 
 pub const MOST_WANTED: usize = 1024;
 
+// What stands in a column for something that is not there. C reads and fills the columns, so it is a number and no Option.
+
 // In a length column: the link is down, so that the arc is absent. The greatest length in use is one less.
 pub const DOWN: u32 = 4294967295;
 
