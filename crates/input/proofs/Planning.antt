@@ -18,14 +18,14 @@ use Rattle.link_format.proofs.Outcomes.{files_refused_by_number}
 use Rattle.link_file.specs.declared.TableRead.{TableRead}
 use Rattle.link_file.specs.Entries.{read_answer, LeftByReading, ReadSays}
 use Rattle.hand_over.specs.declared.Planned.{Planned}
-use Rattle.hand_over.specs.Answered.{answered}
+use Rattle.hand_over.specs.Answered.{answered, nothing_planned}
 use Rattle.planner.specs.Plan.{PlanMade}
 use Rattle.sheet.specs.Sheet.{finished, refused_line, sheet}
 use Rattle.sheet.specs.Printed.{most_input, read_input, plan_of, lines_of}
 use Rattle.sheet.specs.Promises.{RefusalsPrinted}
 use Rattle.sheet.proofs.Promised.{refusals_printed}
 use Rattle.sheet.proofs.Unseen.{unseen}
-use Rattle.input.specs.Input.{ColumnsRoomy, printing_read, refused_file, RefusesWell}
+use Rattle.input.specs.Input.{ColumnsRoomy, printing_read, RefusesWell}
 
 -- a list at the start of a buffer
 pub start_of : (xs buffer : List ℕ) (k : ℕ) → k ≡ length xs → take k (over xs buffer) ≡ xs
@@ -37,14 +37,13 @@ pub part_of : (xs : List ℕ) (k : ℕ) {most : ℕ} → k ≤ most → most ≤
 part_of xs k low long = omega (arith, length-take k xs)
 
 -- READING: too long an input is refused by 2, and the buffers are as they were
-pub input_too_long : (input ts hs ls ws : List ℕ) → most_input < length input →
-    LeftByReading (read_input input) ts hs ls ws ts hs ls ws (record { number = 2; place = most_arcs; n = 0; origin = 0; arcs = 0; wanted = 0 })
-unfolding read_input refusal_of no_content content_of refusal content read_answer tails_of heads_of lengths_of over
-input_too_long input ts hs ls ws h =
-    subst
-    (λ (o : Outcome Content). LeftByReading o ts hs ls ws ts hs ls ws (record { number = 2; place = most_arcs; n = 0; origin = 0; arcs = 0; wanted = 0 }))
+pub input_too_long : (input ts hs ls ws : List ℕ) (r : TableRead) → most_input < length input → r ≡ read_answer (refusal 2 most_arcs) no_content →
+    LeftByReading (read_input input) ts hs ls ws ts hs ls ws r
+unfolding read_input refusal_of no_content content_of content tails_of heads_of lengths_of over
+input_too_long input ts hs ls ws r h e =
+    subst (λ (o : Outcome Content). LeftByReading o ts hs ls ws ts hs ls ws r)
     (sym (ap (λ (b : Bool). cond b (refused 2 most_arcs) (read_file input)) (lt-ltb most_input (length input) h)))
-    (record { answer = refl; tails_are = refl; heads_are = refl; lengths_are = refl; wanted_are = refl })
+    (record { answer = e; tails_are = refl; heads_are = refl; lengths_are = refl; wanted_are = refl })
 
 -- another one is read, with buffers that are long enough
 pub input_read : (input ts hs ls ws ts' hs' ls' ws' : List ℕ) (r : TableRead) → length input ≤ most_input → ColumnsRoomy ts hs ls ws →
@@ -74,12 +73,12 @@ input_refuses_well input = refuses_cond (ltb most_input (length input)) input
 module _ (r : TableRead) (ts₀ hs₀ ls₀ ws₀ ts hs ls ws ds ps tr ms : List ℕ) where
   -- a file that was refused prints its refusal
   pub prints_refusal : (n p : ℕ) → LeftByReading (refused n p) ts₀ hs₀ ls₀ ws₀ ts hs ls ws r → (0 < n) × (n ≡ 8 → ⊥) →
-      sheet (printing_read r (refused_file r.number r.place) ts hs ws ds ps tr ms) ≡ lines_of (refused n p)
-  unfolding refusal_of refusal read_answer printing_read answered refused_file lines_of RefusalsPrinted
+      sheet (printing_read r (nothing_planned r.number r.place) ts hs ws ds ps tr ms) ≡ lines_of (refused n p)
+  unfolding refusal_of refusal read_answer printing_read answered lines_of RefusalsPrinted
   prints_refusal n p l well =
       let number : r.number ≡ n = ap (λ (x : TableRead). x.number) l.answer in
       let place : r.place ≡ p = ap (λ (x : TableRead). x.place) l.answer in
-      refusals_printed (printing_read r (refused_file r.number r.place) ts hs ws ds ps tr ms)
+      refusals_printed (printing_read r (nothing_planned r.number r.place) ts hs ws ds ps tr ms)
       (λ e. omega (arith, well.0, number)) (λ e. well.1 (sym number ∙ e))
       ∙ ap (λ (k : ℕ). refused_line k r.place ∷ []) number
       ∙ ap (λ (k : ℕ). refused_line n k ∷ []) place
@@ -111,7 +110,7 @@ module _ (r : TableRead) (ts₀ hs₀ ls₀ ws₀ ts hs ls ws ds ps tr ms : List
 
   -- whatever reading gave: where it refused, and where it did not
   pub refused_read : (o : Outcome Content) → RefusesWell o → LeftByReading o ts₀ hs₀ ls₀ ws₀ ts hs ls ws r → (r.number ≡ 0 → ⊥) → (a : Planned) →
-      a ≡ refused_file r.number r.place → sheet (printing_read r a ts hs ws ds ps tr ms) ≡ lines_of o
+      a ≡ nothing_planned r.number r.place → sheet (printing_read r a ts hs ws ds ps tr ms) ≡ lines_of o
   unfolding refusal_of no_refusal refusal read_answer RefusesWell
   refused_read (got c next rest) well l d a e = absurd (d (ap (λ (x : TableRead). x.number) l.answer))
   refused_read (refused n p) well l d a e =

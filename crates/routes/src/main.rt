@@ -5,11 +5,12 @@
 
 ghost use Rattle.std.specs.Prelude.{◌≤◌, length};
 ghost use Rattle.sheet_lines.specs.Room.{line_room};
+ghost use Rattle.input.specs.Lent.{Ready};
 ghost use Rattle.printer.specs.Lines.{Prints};
 
-use input::{MOST_INPUT, Room};
+use input::{MOST_INPUT, PlannedInput, Room};
 use printer::{Cursor, FinishedPlan};
-use table::MOST_WANTED;
+use table::{MOST_ARCS, MOST_NODES, MOST_WANTED};
 
 const STANDARD_INPUT: i32 = 0;
 
@@ -29,10 +30,10 @@ fn print_pieces(input: &[u8], plan: &FinishedPlan, out: &mut [u8])
     }
 }
 
-// Reads and plans the input, puts its path lines in order, and prints the sheet.
-fn print_input(input: &[u8]) {
-    let mut room = Room::new();
-    let planned = room.plan_input(input);
+// Puts the path lines of an input's plan in order, and prints its sheet.
+fn print_plan(input: &[u8], planned: PlannedInput, room: &Room)
+    requires { Ready input.now planned room.now }
+{
     let read = planned.read;
     let n = read.n as usize;
     let m = read.arcs as usize;
@@ -52,6 +53,22 @@ fn print_input(input: &[u8]) {
     };
     let mut out = io::large_buffer();
     print_pieces(input, &plan, &mut out);
+}
+
+// Reads and plans the input, and prints its sheet.
+fn print_input(input: &[u8]) {
+    let mut room = Room {
+        tails: &mut [0; MOST_ARCS],
+        heads: &mut [0; MOST_ARCS],
+        lengths: &mut [0; MOST_ARCS],
+        wanted: &mut [0; MOST_WANTED],
+        distances: &mut [0; MOST_NODES],
+        prices: &mut [0; MOST_NODES],
+        tree: &mut [0; MOST_NODES],
+        marks: &mut [0; MOST_ARCS],
+    };
+    let planned = room.plan_input(input);
+    print_plan(input, planned, &room);
 }
 
 // One byte more than the longest input shows that an input is longer.

@@ -4,12 +4,12 @@ use lib.ListN.{take}
 use Rattle.input.proofs.Planning.{part_of, refused_read, planned_parts}
 use Rattle.input.proofs.plan_read.Goals as goal
 
-pub returns-then-read-ne0 : goal.returns-then-read-ne0
-returns-then-read-ne0 c o ts₀ hs₀ ls₀ ws₀ well l =
-    refused_read c.args.read ts₀ hs₀ ls₀ ws₀ _ _ _ _ _ _ _ _ o well l c.if-read-ne0.true c.refused.result c.refused.ensures
+pub returns-then-read-ne0-clause-plans : goal.returns-then-read-ne0-clause-plans
+returns-then-read-ne0-clause-plans c o ts₀ hs₀ ls₀ ws₀ well l =
+    refused_read c.args.read ts₀ hs₀ ls₀ ws₀ _ _ _ _ _ _ _ _ o well l c.if-read-ne0.true c.nothing.result c.nothing.ensures
 
-pub returns : goal.returns
-returns c o ts₀ hs₀ ls₀ ws₀ well l =
+pub returns-clause-plans : goal.returns-clause-plans
+returns-clause-plans c o ts₀ hs₀ ls₀ ws₀ well l =
     let a = c.args in
     let fits = c.requires.counts_fit in
     let room = c.requires.buffers_roomy in

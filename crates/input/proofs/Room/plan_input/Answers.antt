@@ -3,11 +3,11 @@ use Rattle.sheet.specs.Printed.{read_input, printed}
 use Rattle.input.proofs.Planning.{input_refuses_well}
 use Rattle.input.proofs.Room.plan_input.Goals as goal
 
-pub returns : goal.returns
+pub returns-clause-ready : goal.returns-clause-ready
 unfolding printed
-returns c =
+returns-clause-ready c =
     let input = c.args.input.now in
     record {
       counts = c.read_input-read.ensures.fits;
-      prints = c.plan_read.ensures (read_input input) _ _ _ _ (input_refuses_well input) c.read_input-read.ensures.reads;
+      prints = c.plan_read.ensures.plans (read_input input) _ _ _ _ (input_refuses_well input) c.read_input-read.ensures.reads;
     }
