@@ -22,13 +22,19 @@ impl Status {
     pub fn was_reached(self) -> bool
         ensures { result ≡ ltb unreached (status_number self) }
     {
-        !matches!(self, Status::Unreached)
+        match self {
+            Status::Unreached => false,
+            Status::Reached | Status::Deleted => true,
+        }
     }
 
     pub fn is_deleted(self) -> bool
         ensures { result ≡ eqb (status_number self) deleted }
     {
-        matches!(self, Status::Deleted)
+        match self {
+            Status::Unreached | Status::Reached => false,
+            Status::Deleted => true,
+        }
     }
 }
 
