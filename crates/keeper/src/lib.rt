@@ -10,14 +10,12 @@ ghost use Rattle.table.specs.Told.{told};
 ghost use Rattle.keeping.specs.Keeping.{lesser, lent_total, stays, keep, keeps, Part};
 ghost use Rattle.keeper.specs.Totals.{held, step_from, answer, chosen};
 
-use forward_star::link_arcs;
-use forward_star::linked::LinkedTable;
-use forward_star::star::ForwardStar;
+use forward_star::linked::{LinkedTable, with_star};
 use keeping::Kept;
 use refusals::{Rooms, check_table};
 use table::faults::{Fault, Refusal};
 use table::links::LinkTable;
-use table::{MOST_ARCS, MOST_NODES, NO_ARC};
+use table::{MOST_NODES, NO_ARC};
 
 // The lesser of the length met so far, if any, and an arc's.
 fn lesser(shortest: Option<u32>, length: u32) -> Option<u32>
@@ -87,24 +85,7 @@ fn choose(linked: &LinkedTable, standing: &[u16], fresh: &[u16]) -> Result<bool,
 fn compare(table: LinkTable, standing: &[u16], fresh: &[u16]) -> Result<bool, Refusal>
     ensures { answer result standing.now fresh.now ≡ chosen (table_in table.entry) standing.now fresh.now }
 {
-    let n = table.n;
-    let columns = table.columns;
-    let m = columns.tails.len();
-    let mut first = [NO_ARC; MOST_NODES];
-    let mut next = [NO_ARC; MOST_ARCS];
-    link_arcs(
-        columns.tails,
-        columns.lengths,
-        &mut first[..n],
-        &mut next[..m],
-    );
-    let star = ForwardStar {
-        columns,
-        first: &first[..n],
-        next: &next[..m],
-    };
-    let linked = LinkedTable { table, star };
-    choose(&linked, standing, fresh)
+    with_star(&table, &mut |linked| choose(linked, standing, fresh))
 }
 
 // Whether the standing list is kept, or the refusal: 1, 2, 6 and 7, then 15. Node 0 stands for an origin, nothing is wanted, and the buffers fit.

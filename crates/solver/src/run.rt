@@ -7,15 +7,12 @@ ghost use Rattle.steps.specs.Seen.{run_of, held, statuses_in};
 ghost use Rattle.steps.specs.Memory.{AllForgotten};
 ghost use Rattle.solver.specs.Runs.{RanWithin, FirstFrom, is_above};
 
-use forward_star::link_arcs;
-use forward_star::linked::LinkedTable;
-use forward_star::star::ForwardStar;
+use forward_star::linked::{LinkedTable, with_star};
 use steps::bids::{LeastBid, least_bid};
 use steps::reaching::reach;
 use steps::state::{NO_NODE, Node, Progress, RunEnd};
 use steps::steps::{extend, step};
 use table::links::LinkTable;
-use table::{MOST_ARCS, MOST_NODES, NO_ARC};
 
 // A limit that no price is above.
 pub const NO_LIMIT: u64 = u64::MAX;
@@ -130,7 +127,8 @@ fn forget_all(nodes: &mut [Node])
     }
 }
 
-// The whole run within a limit, from the fresh state that is lent to the state where it ends.
+// The whole run within a limit, from the fresh state that is lent to the state where it ends. The nodes forget within the call: where they did so
+// before it, long scans were slower.
 pub fn run(
     begun: Progress,
     limit: u64,
@@ -142,26 +140,11 @@ pub fn run(
     requires begun { held (run_of path.old nodes.old begun) ≡ fresh (table_in table.now) }
     ensures { RanWithin (table_in table.now) table.now.wanted.now limit result.missing result.scans (held (run_of path.new nodes.new result.progress)) }
 {
-    let n = table.n;
-    let columns = table.columns;
-    let m = columns.tails.len();
-    let mut first = [NO_ARC; MOST_NODES];
-    let mut next = [NO_ARC; MOST_ARCS];
-    link_arcs(
-        columns.tails,
-        columns.lengths,
-        &mut first[..n],
-        &mut next[..m],
-    );
-    let star = ForwardStar {
-        columns,
-        first: &first[..n],
-        next: &next[..m],
-    };
-    let linked = LinkedTable {
-        table: *table,
-        star,
-    };
-    forget_all(nodes);
-    run_linked(begun, limit, &linked, path, nodes)
+    with_star(
+        table,
+        &mut |linked| {
+            forget_all(nodes);
+            run_linked(begun, limit, linked, path, nodes)
+        },
+    )
 }

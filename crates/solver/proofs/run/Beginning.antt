@@ -1,10 +1,10 @@
 -- From the fresh state to the start: the origin has the bound 0, and reaching it is the start. Assumes nothing.
-use mathlib.Core.Path.{◌≡◌, sym, ap, subst, ◌∙◌}
+use mathlib.Core.Path.{◌≡◌, sym, ap, ◌∙◌}
 use mathlib.Core.Option.{none}
 use Prim.Native.Nat.{ℕ, ◌≤◌, ◌<◌}
 use native.Mathlib.Omega.{arith}
 use lib.ListN.{length, get_or}
-use Rattle.table.specs.Table.{Table, no_node}
+use Rattle.table.specs.Table.{Table}
 use Rattle.table.specs.Lent.{table_in}
 use Rattle.auction.specs.Auction.{State, bound_at, kept_at, status_at, reach, fresh, start}
 use Rattle.table.proofs.Basics.{some_none}
@@ -12,7 +12,7 @@ use Rattle.auction.proofs.Invariant.Starting.{fresh_status, fresh_kept, fresh_or
 use Rattle.forward_star.specs.declared.linked.LinkedTable.{LinkedTable}
 use Rattle.forward_star.proofs.Columns.{good_table, nodes_are, origin_is, nodes_listed, star_tails_below, tails_of_star}
 use Rattle.steps.specs.declared.state.RunState.{RunState}
-use Rattle.steps.specs.Seen.{held, prices_in, bounds_in, kepts_in, memory_in, statuses_in, greatest_sum}
+use Rattle.steps.specs.Seen.{held, prices_in, bounds_in, kepts_in, statuses_in, greatest_sum}
 use Rattle.steps.specs.Memory.{AllForgotten, Ready, KeptArcs, Remembers, but}
 use Rattle.steps.specs.Steps.{Becomes}
 use Rattle.steps.proofs.Arrays.{seen_bound, seen_kept, seen_status, some_arc}

@@ -4,7 +4,7 @@ use mathlib.Core.Path.{◌≡◌, refl, sym, ap, subst, ◌∙◌}
 use mathlib.Core.Bool.{false}
 use mathlib.Core.List.{List}
 use mathlib.Core.Logic.{⊎_elim}
-use mathlib.Core.Option.{none, some}
+use mathlib.Core.Option.{some}
 use Prim.Native.Nat.{ℕ, suc, ◌+◌, ◌-◌, ◌≤◌, ◌<◌}
 use native.Mathlib.Omega.{arith}
 use lib.ListN.{length, get_or}
@@ -13,7 +13,7 @@ use borrow.Author.Tests.{lt-ltb, le-ltb}
 use Rattle.std.specs.Prelude.{Option, Some, None}
 use Rattle.table.specs.Table.{Table, no_node}
 use Rattle.table.specs.Lent.{table_in}
-use Rattle.auction.specs.Auction.{State, Ended, Bid, state, ended, bid, best, next, terminal, price_at, kept_at, all_reached, iterations, iteration, start, extension}
+use Rattle.auction.specs.Auction.{State, Ended, state, ended, bid, best, next, terminal, price_at, kept_at, all_reached, iterations, iteration, start, extension}
 use Rattle.auction.specs.Scans.{history, scan_count, scans}
 use Rattle.auction.specs.HandOver.{first_missing}
 use Rattle.auction.specs.Limit.{above, decided, limited}
@@ -29,7 +29,7 @@ use Rattle.forward_star.specs.declared.linked.LinkedTable.{LinkedTable}
 use Rattle.forward_star.proofs.Columns.{good_table, nodes_are, origin_is, tails_of_star}
 use Rattle.steps.specs.declared.bids.LeastBid.{LeastBid}
 use Rattle.steps.specs.declared.state.RunState.{RunState}
-use Rattle.steps.specs.Seen.{seen, held, prices_in, bounds_in, kepts_in, memory_in, statuses_in, greatest_sum, too_many}
+use Rattle.steps.specs.Seen.{seen, held, prices_in, bounds_in, memory_in, statuses_in, greatest_sum, too_many}
 use Rattle.steps.specs.Memory.{HasBefore, Ready, AllForgotten, Remembers, Remembered, those_reached}
 use Rattle.steps.specs.Steps.{bid_in, Becomes, CanStep, Steps}
 use Rattle.solver.specs.Runs.{RanWithin, FirstFrom}

@@ -23,7 +23,7 @@ use Rattle.forward_star.proofs.Columns.{nodes_are, origin_is, nodes_listed, star
 use Rattle.steps.specs.declared.bids.LeastBid.{LeastBid}
 use Rattle.steps.specs.declared.state.RunState.{RunState}
 use Rattle.steps.specs.Seen.{bound_of, nodes_of, seen, held, prices_in, bounds_in, kepts_in, statuses_in, greatest_sum, too_many}
-use Rattle.steps.specs.Memory.{HasBefore, Ready, KeptArcs, child_of}
+use Rattle.steps.specs.Memory.{HasBefore, Ready, KeptArcs}
 use Rattle.steps.specs.Steps.{bid_in, CanStep}
 use Rattle.steps.proofs.Arrays.{seen_price, seen_bound, seen_kept, some_arc, some_bound, no_bound}
 use Rattle.steps.proofs.Nodes.{as_many}

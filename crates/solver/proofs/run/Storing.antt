@@ -7,9 +7,9 @@ use Prim.Native.Nat.{ℕ, ◌≤◌, ◌<◌}
 use borrow.Author.Tests.{ltb-true, ltb-false}
 use Rattle.solver.specs.Runs.{is_above}
 use native.Mathlib.Omega.{arith}
-use lib.ListN.{length, get_or, set}
+use lib.ListN.{get_or, set}
 use Rattle.std.specs.Prelude.{Option, Some, None, is_some}
-use Rattle.table.specs.Table.{Table, arc_count, head_at, no_node}
+use Rattle.table.specs.Table.{Table, head_at, no_node}
 use Rattle.table.specs.Lent.{table_in}
 use Rattle.auction.specs.Auction.{State, Bid, bid, best, terminal, price_at}
 use Rattle.table.proofs.Basics.{some_none, some_same, not_both}
@@ -20,7 +20,7 @@ use Rattle.steps.specs.declared.bids.LeastBid.{LeastBid}
 use Rattle.steps.specs.declared.state.Node.{Node}
 use Rattle.steps.specs.declared.state.RunState.{RunState}
 use Rattle.steps.specs.Seen.{held, memory_in}
-use Rattle.steps.specs.Memory.{before, forgetting, remembering, child_of, node_at, KeptArcs, Remembering, Remembered, those_reached}
+use Rattle.steps.specs.Memory.{before, forgetting, remembering, child_of, KeptArcs, Remembering, Remembered, those_reached}
 use Rattle.steps.specs.Steps.{bid_in}
 use Rattle.steps.proofs.Nodes.{written, held_with_memory}
 use Rattle.solver.proofs.run.Ready.{second_read, price_held}

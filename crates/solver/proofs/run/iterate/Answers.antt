@@ -1,11 +1,11 @@
 -- A state of the run is held; each iteration is counted, and the auction's bound on them is the measure. Assumes nothing.
-use mathlib.Core.Path.{◌≡◌, refl, sym, ap, subst, ◌∙◌}
+use mathlib.Core.Path.{◌≡◌, sym, ap, ◌∙◌}
 use mathlib.Core.List.{List}
 use Prim.Native.Nat.{ℕ, suc, ◌+◌, ◌-◌, ◌≤◌, ◌<◌}
 use borrow.Author.Rules.{rules}
 use native.Mathlib.Omega.{arith}
-use lib.ListN.{length, get_or}
-use Rattle.std.specs.Prelude.{Option, Some, None, not}
+use lib.ListN.{get_or}
+use Rattle.std.specs.Prelude.{Option, not}
 use Rattle.table.specs.Table.{Table}
 use Rattle.table.specs.Lent.{table_in}
 use Rattle.forward_star.specs.declared.linked.LinkedTable.{LinkedTable}
