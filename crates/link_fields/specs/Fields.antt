@@ -9,6 +9,7 @@ use Rattle.link_fields.specs.declared.arcs.Arc as Arcs
 use Rattle.link_fields.specs.declared.arcs.Absent.{Absent}
 use Rattle.link_fields.specs.declared.bit_maps.BitMap.{BitMap}
 use Rattle.link_fields.specs.declared.fields.Field.{Field}
+use Rattle.link_fields.specs.declared.fields.Output.{Output}
 
 -- At an offset of a part of the file a reader gets this field's value and goes on at its next offset, wherever in the file the part begins.
 pub record Got (m : Reader ℕ) (part : List ℕ) (from width bound : ℕ) (f : Field) : Type 0 where
@@ -30,12 +31,14 @@ abbrev pub FieldSays : Option Field → Reader ℕ → (part : List ℕ) → (fr
 FieldSays (Some f) m part from w bound = Got m part from w bound f
 FieldSays None m part from w bound = CutInside m part from w
 
--- A piece of the file was put at an offset of the output.
-pub record Put (output : List ℕ) (at : ℕ) (piece : List ℕ) (next : ℕ) (output' : List ℕ) : Type 0 where
-  -- the next offset is behind it
-  pub on : next ≡ at + length piece
+-- A PIECE OF THE FILE IS PUT behind the bytes written so far.
+pub record Puts (piece : List ℕ) (old new : Output) : Type 0 where
+  -- it is the same output
+  pub same : new.bytes.ghost_name ≡ old.bytes.ghost_name
+  -- the next piece goes behind this one
+  pub on : new.end ≡ old.end + length piece
   -- the rest of the output is as it was
-  pub is : output' ≡ sets output at piece
+  pub is : new.bytes.now ≡ sets old.bytes.now old.end piece
 
 -- the byte of a bit map
 abbrev pub byte_of : BitMap → ℕ

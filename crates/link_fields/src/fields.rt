@@ -1,8 +1,8 @@
 // Fields of so many bytes, the lowest byte first.
-ghost use Rattle.std.specs.Prelude.{◌≡◌, ◌+◌, ◌≤◌, max, length};
+ghost use Rattle.std.specs.Prelude.{◌≡◌, ◌+◌, ◌≤◌, [], ◌∷◌, max, length};
 ghost use Rattle.link_format.specs.Format.{length_width, limit, bytes, field_bytes};
 ghost use Rattle.link_format.specs.Reading.{field, optional};
-ghost use Rattle.link_fields.specs.Fields.{FieldSays, Put};
+ghost use Rattle.link_fields.specs.Fields.{FieldSays, Puts};
 
 // The bytes of a bit map, of a node's number or a count, and of a length.
 pub const MAP_WIDTH: usize = 1;
@@ -59,27 +59,44 @@ pub fn read_optional(
     })
 }
 
-// Puts a number of so many bytes at an offset, and gives the next one. Offsets are handed on as numbers, as the reader hands them on: a struct with the
-// output would be lent to every put, and say no more.
-pub fn put_field(output: &mut [u8], at: usize, width: usize, value: usize) -> usize
-    requires { at + width ≤ length output.old }
-    ensures { Put output.old at (bytes width value) result output.new }
-{
-    let mut left = value;
-    for byte in output[at..at + width].iter_mut() {
-        *byte = (left % BYTE_LIMIT) as u8;
-        left /= BYTE_LIMIT;
-    }
-    at + width
+// The output, and how many bytes of it are written so far.
+#[derive(Drop)]
+pub struct Output<'a> {
+    pub bytes: &'a mut [u8],
+    pub end: usize,
 }
 
-// Puts a field where it stands. An Option in place of the last two would be made of them at each call.
-pub fn put_optional(output: &mut [u8], at: usize, width: usize, stands: bool, value: usize) -> usize
-    requires { at + length (field_bytes stands width value) ≤ length output.old }
-    ensures { Put output.old at (field_bytes stands width value) result output.new }
-{
-    if stands {
-        return put_field(output, at, width, value);
+impl<'a> Output<'a> {
+    // Puts a byte behind what is written.
+    pub fn byte(&mut self, value: u8)
+        requires { self.old.end + 1 ≤ length self.old.bytes.now }
+        ensures { Puts (value ∷ []) self.old self.new }
+    {
+        self.bytes[self.end] = value;
+        self.end += 1;
     }
-    at
+
+    // Puts a number of so many bytes.
+    pub fn field(&mut self, width: usize, value: usize)
+        requires { self.old.end + width ≤ length self.old.bytes.now }
+        ensures { Puts (bytes width value) self.old self.new }
+    {
+        let next = self.end + width;
+        let mut left = value;
+        for byte in self.bytes[self.end..next].iter_mut() {
+            *byte = (left % BYTE_LIMIT) as u8;
+            left /= BYTE_LIMIT;
+        }
+        self.end = next;
+    }
+
+    // Puts a field where it stands. An Option in place of the last two would be made of them at each call.
+    pub fn optional(&mut self, width: usize, stands: bool, value: usize)
+        requires { self.old.end + length (field_bytes stands width value) ≤ length self.old.bytes.now }
+        ensures { Puts (field_bytes stands width value) self.old self.new }
+    {
+        if stands {
+            self.field(width, value);
+        }
+    }
 }

@@ -2,7 +2,7 @@
 use mathlib.Core.Bool.{true, false}
 use mathlib.Core.List.{List, ◌++◌}
 use mathlib.Core.Option.{none}
-use mathlib.Core.Path.{◌≡◌, refl, ◌∙◌}
+use mathlib.Core.Path.{◌≡◌, ◌∙◌}
 use Prim.Native.Nat.{ℕ, ◌+◌, ◌≤◌, ◌<◌}
 use borrow.Author.Tests.{ne_eqb, lt-ltb, le-ltb}
 use lib.Dec.{eqb}
@@ -13,9 +13,7 @@ use Rattle.table.specs.Table.{arcs_of, most_wanted}
 use Rattle.link_format.specs.Buffers.{over, file_of, writing, put_bytes}
 use Rattle.link_format.specs.Format.{content, header_bytes, records_bytes, file_bytes}
 use Rattle.link_file.specs.Entries.{write_answer, WriteSays}
-use Rattle.link_fields.specs.Fields.{Put}
 use Rattle.link_file.proofs.ReaderWays.{sets_over}
-use Rattle.link_writer.proofs.Pieces.{put_then}
 use Rattle.link_file.specs.Says.{file_answer}
 use Rattle.std.specs.Prelude.{Ok}
 use Rattle.table.specs.Told.{number, tells}
@@ -55,14 +53,12 @@ module _ (n o : ℕ) (ts hs ls ws out : List ℕ) where
         unfolding writing
         accepts room = rw (fine, equal, le-ltb most_wanted (length ws) few, le-ltb (length out) (length (file_of n o ts hs ls ws)) room)
 
-        pub all_written : {at size : ℕ} {out₁ out₂ : List ℕ} → size ≡ length (file_of n o ts hs ls ws) → length (file_of n o ts hs ls ws) ≤ length out
-            → Put out 0 (header_bytes n o ws) at out₁ → out₂ ≡ sets out₁ at (records_bytes none (arcs_of ts hs ls))
-            → WriteSays n o ts hs ls ws out out₂ (file_answer (Ok size))
+        pub all_written : {size : ℕ} {last out' : List ℕ} → size ≡ length (file_of n o ts hs ls ws) → length (file_of n o ts hs ls ws) ≤ length out
+            → last ≡ sets out 0 (header_bytes n o ws ++ records_bytes none (arcs_of ts hs ls)) → out' ≡ last
+            → WriteSays n o ts hs ls ws out out' (file_answer (Ok size))
         unfolding put_bytes write_answer no_refusal refusal file_of file_bytes content
-        all_written {at} {size} {out₁} {out₂} is room head records =
-            let whole : Put out 0 (header_bytes n o ws ++ records_bytes none (arcs_of ts hs ls)) (at + length (records_bytes none (arcs_of ts hs ls))) out₂ =
-            put_then head (record { on = refl; is = records }) in
+        all_written is room put given_back =
             record {
               answer = rw (accepts room, is);
-              output_is = rw (accepts room) (whole.is ∙ sets_over (header_bytes n o ws ++ records_bytes none (arcs_of ts hs ls)) out room);
+              output_is = rw (accepts room) (given_back ∙ put ∙ sets_over (header_bytes n o ws ++ records_bytes none (arcs_of ts hs ls)) out room);
             }

@@ -10,6 +10,7 @@ ghost use Rattle.link_format.specs.Format.{most_file};
 ghost use Rattle.link_file.specs.Entries.{read_answer, ReadsFile, write_answer, WritesFile};
 ghost use Rattle.link_file.specs.Says.{table_answer, file_answer};
 
+use link_fields::fields::Output;
 use link_reader::header::{Header, fill_wanted, read_header};
 use link_reader::records::{count_records, fill_records};
 use link_writer::header::FileHeader;
@@ -144,8 +145,12 @@ fn write_file(
     if output.len() < size {
         return Err(Fault::Room.at(0));
     }
-    let at = header.write(output);
-    write_records(output, at, columns);
+    let mut written = Output {
+        bytes: output,
+        end: 0,
+    };
+    header.write(&mut written);
+    write_records(&mut written, columns);
     Ok(size)
 }
 

@@ -3,10 +3,10 @@ ghost use Rattle.std.specs.Prelude.{◌≡◌, ◌+◌, ◌≤◌, length, ◌==
 ghost use Rattle.std.specs.List.{list_all, enumerate_from};
 ghost use Rattle.table.specs.Table.{most_wanted};
 ghost use Rattle.link_format.specs.Format.{most_header, all_nodes, header_bits, nodes_bytes, wanted_bytes};
-ghost use Rattle.link_fields.specs.Fields.{byte_of, Put};
+ghost use Rattle.link_fields.specs.Fields.{byte_of, Puts};
 
 use link_fields::bit_maps::BitMap;
-use link_fields::fields::{MAP_WIDTH, NODE_WIDTH, put_field, put_optional};
+use link_fields::fields::{MAP_WIDTH, NODE_WIDTH, Output};
 
 // What the header of a file is to say, with its canonical bit map.
 #[derive(Clone, Copy)]
@@ -51,16 +51,15 @@ impl<'a> FileHeader<'a> {
         MAP_WIDTH + NODE_WIDTH + origin + list
     }
 
-    // Puts it at the start of the output, and gives the next offset.
-    pub fn write(self, output: &mut [u8]) -> usize
-        requires { length (bytes_of self) ≤ length output.old }
-        ensures { Put output.old 0 (bytes_of self.entry) result output.new }
+    // Puts it behind what is written.
+    pub fn write(self, output: &mut Output)
+        requires { output.old.end + length (bytes_of self) ≤ length output.old.bytes.now }
+        ensures { Puts (bytes_of self.entry) output.old output.new }
     {
-        output[0] = u8::from(self.map);
-        let at = put_field(output, MAP_WIDTH, NODE_WIDTH, self.n);
-        let origin = usize::from(self.origin);
-        let at = put_optional(output, at, NODE_WIDTH, self.map.second, origin);
-        write_wanted(output, at, self.map.third, self.wanted)
+        output.byte(u8::from(self.map));
+        output.field(NODE_WIDTH, self.n);
+        output.optional(NODE_WIDTH, self.map.second, usize::from(self.origin));
+        write_wanted(output, self.map.third, self.wanted);
     }
 }
 
@@ -82,25 +81,22 @@ fn is_all(n: usize, wanted: &[u16]) -> bool
 }
 
 // Puts the wanted nodes.
-fn write_nodes(output: &mut [u8], start: usize, wanted: &[u16]) -> usize
-    requires { start + length (nodes_bytes wanted.now) ≤ length output.old }
-    ensures { Put output.old start (nodes_bytes wanted.now) result output.new }
+fn write_nodes(output: &mut Output, wanted: &[u16])
+    requires { output.old.end + length (nodes_bytes wanted.now) ≤ length output.old.bytes.now }
+    ensures { Puts (nodes_bytes wanted.now) output.old output.new }
 {
-    let mut at = start;
     for node in wanted {
-        at = put_field(output, at, NODE_WIDTH, usize::from(*node));
+        output.field(NODE_WIDTH, usize::from(*node));
     }
-    at
 }
 
 // Puts the wanted list where it stands: its count and its nodes.
-fn write_wanted(output: &mut [u8], at: usize, stands: bool, wanted: &[u16]) -> usize
-    requires { at + length (wanted_bytes stands wanted.now) ≤ length output.old }
-    ensures { Put output.old at (wanted_bytes stands wanted.now) result output.new }
+fn write_wanted(output: &mut Output, stands: bool, wanted: &[u16])
+    requires { output.old.end + length (wanted_bytes stands wanted.now) ≤ length output.old.bytes.now }
+    ensures { Puts (wanted_bytes stands wanted.now) output.old output.new }
 {
-    if !stands {
-        return at;
+    if stands {
+        output.field(NODE_WIDTH, wanted.len());
+        write_nodes(output, wanted);
     }
-    let nodes_at = put_field(output, at, NODE_WIDTH, wanted.len());
-    write_nodes(output, nodes_at, wanted)
 }

@@ -1,14 +1,13 @@
 // Writing the records of arcs.
 ghost use Rattle.std.specs.Prelude.{◌≡◌, ◌*◌, ◌+◌, ◌≤◌, ◌<◌, length};
 ghost use Rattle.std.proofs.Math.Option.{none};
-ghost use Rattle.std.proofs.lemmas.List.Edits.{sets};
 ghost use Rattle.table.specs.Table.{most_arcs};
 ghost use Rattle.link_format.specs.Format.{most_record, record_bytes, records_bytes};
-ghost use Rattle.link_fields.specs.Fields.{arc_of, arc_before, Put};
+ghost use Rattle.link_fields.specs.Fields.{arc_of, arc_before, Puts};
 ghost use Rattle.link_writer.specs.Says.{arc_in, arcs_in};
 
 use link_fields::arcs::Arc;
-use link_fields::fields::{LENGTH_WIDTH, MAP_WIDTH, NODE_WIDTH, put_optional};
+use link_fields::fields::{LENGTH_WIDTH, MAP_WIDTH, NODE_WIDTH, Output};
 use table::links::Columns;
 
 // The arc at a position of the columns.
@@ -51,28 +50,26 @@ pub fn records_size(columns: Columns) -> usize
 }
 
 // Puts one record.
-fn write_record(output: &mut [u8], at: usize, previous: Option<Arc>, arc: Arc) -> usize
-    requires { at + length (record_bytes (arc_before previous) (arc_of arc)) ≤ length output.old }
-    ensures { Put output.old at (record_bytes (arc_before previous) (arc_of arc)) result output.new }
+fn write_record(output: &mut Output, previous: Option<Arc>, arc: Arc)
+    requires { output.old.end + length (record_bytes (arc_before previous) (arc_of arc)) ≤ length output.old.bytes.now }
+    ensures { Puts (record_bytes (arc_before previous) (arc_of arc)) output.old output.new }
 {
     let map = arc.bit_map(previous);
-    output[at] = u8::from(map);
-    let at = at + MAP_WIDTH;
-    let at = put_optional(output, at, NODE_WIDTH, map.first, usize::from(arc.tail));
-    let at = put_optional(output, at, NODE_WIDTH, map.second, usize::from(arc.head));
-    put_optional(output, at, LENGTH_WIDTH, map.third, arc.length as usize)
+    output.byte(u8::from(map));
+    output.optional(NODE_WIDTH, map.first, usize::from(arc.tail));
+    output.optional(NODE_WIDTH, map.second, usize::from(arc.head));
+    output.optional(LENGTH_WIDTH, map.third, arc.length as usize);
 }
 
 // Puts all records.
-pub fn write_records(output: &mut [u8], start: usize, columns: Columns)
-    requires { start + length (records_bytes none (arcs_in columns)) ≤ length output.old }
-    ensures { output.new ≡ sets output.old start (records_bytes none (arcs_in columns.entry)) }
+pub fn write_records(output: &mut Output, columns: Columns)
+    requires { output.old.end + length (records_bytes none (arcs_in columns)) ≤ length output.old.bytes.now }
+    ensures { Puts (records_bytes none (arcs_in columns.entry)) output.old output.new }
 {
-    let mut at = start;
     let mut previous = None;
     for i in 0..columns.tails.len() {
         let arc = arc_at(columns, i);
-        at = write_record(output, at, previous, arc);
+        write_record(output, previous, arc);
         previous = Some(arc);
     }
 }

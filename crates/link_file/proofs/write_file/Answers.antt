@@ -1,7 +1,9 @@
 -- `write_file` meets its contract: each `return` is one way out of writing a file. Assumes nothing.
-use Rattle.std.proofs.Common.{sym, ◌∙◌, arith, ◌≡◌, ◌+◌, length}
+use Rattle.std.proofs.Common.{sym, rules, ◌∙◌, arith, ◌≡◌, ◌+◌, length}
+use Rattle.table.specs.Refusals.{count_bad}
 use Rattle.link_format.specs.Buffers.{file_of}
 use Rattle.link_fields.proofs.Checks.{failed, passed, passed_on}
+use Rattle.link_fields.proofs.fields.Putting.{kept, put_then}
 use Rattle.link_file.proofs.WriterWays.{file_size, none_written, refuses_count, refuses_columns, refuses_wanted, refuses_room, all_written}
 use Rattle.link_file.proofs.write_file.Goals as goal
 use Rattle.link_file.proofs.write_file.Goals.{After-records_size}
@@ -45,12 +47,18 @@ returns-then-output-size-clause-answer c =
     none_written _ _ _ _ _ _ _ _
     (refuses_room _ _ _ _ _ _ _ fine equal c.if-wanted-gt-MOST_WANTED.false (omega (arith, size, c.if-output-size.true)) ∙ sym c.at-then-output-size.ensures)
 
+-- where the header was put
+pub write_records-requires : goal.write_records-requires
+write_records-requires c = omega (arith, kept c.write.ensures)
+
+-- where the records were put
 pub returns-clause-answer : goal.returns-clause-answer
 returns-clause-answer c =
-    let fine = passed _ 1 0 (omega arith) c.in_ok-check_count.ensures in
+    let fine = passed (count_bad c.args.n) 1 0 (omega arith) c.in_ok-check_count.ensures in
     let equal = passed _ 2 0 (omega arith) c.in_ok-columns.ensures.told in
     let size = size_is (goal.at.returns-clause-answer c).After-records_size in
     let header = c.new-header.ensures in
     let columns = c.in_ok-columns.ensures.same in
     all_written _ _ _ _ _ _ _ fine equal c.if-wanted-gt-MOST_WANTED.false size (omega (arith, size, c.if-output-size.false))
-    (rw (header.nodes, header.origin, header.wanted) at c.write-at.ensures) (rw (columns.0, columns.1, columns.2) at c.write_records.ensures)
+    (rw (header.nodes, header.origin, header.wanted, columns.0, columns.1, columns.2) at (put_then c.write.ensures c.write_records.ensures).is)
+    (search rules)

@@ -6,12 +6,10 @@ use Prim.Native.Nat.{ℕ, ◌+◌, ◌*◌, ◌≤◌, ◌<◌}
 use native.Mathlib.Numerals.{add-one}
 use native.Mathlib.Omega.{arith}
 use lib.ListN.{length, drop, length-append, drop_of_length-le}
-use lib.Seq.{sets, drop-cons}
+use lib.Seq.{drop-cons}
 use Rattle.table.specs.Table.{Arc, arcs_of}
 use Rattle.table.specs.declared.links.Columns as table
 use Rattle.link_format.specs.Format.{most_record, record_bytes, records_bytes}
-use Rattle.link_fields.specs.Fields.{Put}
-use Rattle.link_fields.proofs.Columns.{Column, column_piece}
 use Rattle.link_writer.specs.Says.{arc_in, arcs_in}
 
 -- the arcs from a position on
@@ -29,12 +27,12 @@ module _ (c : table.Columns) where
   left_none i h = rw (drop_of_length-le c.tails.now h)
 
   -- what is left to write: a record, and those behind it; or none
-  bytes_more : (before : Option Arc) {i : ℕ} {a : Arc} → i < length c.tails.now → a ≡ arc_in c i
+  pub bytes_more : (before : Option Arc) {i : ℕ} {a : Arc} → i < length c.tails.now → a ≡ arc_in c i
       → records_bytes before (arcs_left c i) ≡ record_bytes before a ++ records_bytes (some a) (arcs_left c (i + 1))
   unfolding records_bytes
   bytes_more before h e = rw (e, left_more h)
 
-  bytes_none : (before : Option Arc) (i : ℕ) → length c.tails.now ≤ i → records_bytes before (arcs_left c i) ≡ []
+  pub bytes_none : (before : Option Arc) (i : ℕ) → length c.tails.now ≤ i → records_bytes before (arcs_left c i) ≡ []
   unfolding records_bytes
   bytes_none before i h = rw (left_none i h)
 
@@ -56,24 +54,3 @@ module _ {c : table.Columns} {size i : ℕ} {before : Option Arc} (s : Sizing c 
 
   pub sizing_done : length c.tails.now ≤ i → size ≡ length (records_bytes none (arcs_in c))
   sizing_done end = omega (arith, s.same, ap length (bytes_none c before i end))
-
--- Writing the records: what is left has room, and gives the output with all of them.
-pub record Writing (c : table.Columns) (output₀ : List ℕ) (start : ℕ) (output : List ℕ) (at : ℕ) (before : Option Arc) (i : ℕ) : Type 0 where
-  pub room : at + length (records_bytes before (arcs_left c i)) ≤ length output₀
-  pub column : Column output₀ start (records_bytes none (arcs_in c)) output at (records_bytes before (arcs_left c i))
-
-module _ {c : table.Columns} {output₀ : List ℕ} {start : ℕ} {output : List ℕ} {at i : ℕ} {before : Option Arc} (w : Writing c output₀ start output at before i) where
-  module _ (h : i < length c.tails.now) (a : Arc) (e : a ≡ arc_in c i) where
-    pub record_room : at + length (record_bytes before a) ≤ length output
-    record_room =
-        omega (arith, w.room, w.column.kept, ap length (bytes_more c before h e), length-append (record_bytes before a) (records_bytes (some a) (arcs_left c (i + 1))))
-
-    pub writing_next : {next : ℕ} {output' : List ℕ} → Put output at (record_bytes before a) next output' → Writing c output₀ start output' next (some a) (i + 1)
-    writing_next {next} {output'} put =
-        record {
-          room = omega (arith, w.room, put.on, ap length (bytes_more c before h e), length-append (record_bytes before a) (records_bytes (some a) (arcs_left c (i + 1))));
-          column = rw (put.is, put.on) (column_piece (record_bytes before a) (records_bytes (some a) (arcs_left c (i + 1))) (rw (bytes_more c before h e) at w.column));
-        }
-
-  pub writing_done : length c.tails.now ≤ i → output ≡ sets output₀ start (records_bytes none (arcs_in c))
-  writing_done end = rw (bytes_none c before i end) at w.column.same

@@ -1,14 +1,15 @@
 -- `records::write_record` meets its contract: the bit map and its fields are put one after the other, each with its room. Assumes nothing.
-use Rattle.std.proofs.Common.{◌≡◌, ◌∷◌, ◌++◌, List, ℕ, ◌∙◌}
+use Rattle.std.proofs.Common.{◌≡◌, [], ◌∷◌, ◌++◌, List, ℕ, ◌∙◌}
 use Rattle.table.specs.Table.{arc}
 use Rattle.link_format.specs.Format.{field_bytes, record_bytes}
-use Rattle.link_fields.specs.Fields.{arc_of, arc_before}
-use Rattle.link_writer.proofs.Pieces.{Room, byte_room, first_room, second_room, third_room, all_put}
+use Rattle.link_fields.specs.Fields.{arc_of, arc_before, Puts}
+use Rattle.link_fields.specs.declared.fields.Output.{Output}
+use Rattle.link_fields.proofs.fields.Putting.{Putting, none_put, part_room, part_put, rest_room, rest_put}
 use Rattle.link_writer.proofs.records.Bytes.{record_pieces}
 use Rattle.link_writer.proofs.records.write_record.Goals as goal
 use Rattle.link_writer.proofs.records.write_record.Goals.{After-from}
 
--- after the bit map: the record's pieces, and their room
+-- the record's pieces, which are left to put
 module _ (c : After-from) where
   abbrev tail : List ℕ
   tail = field_bytes c.bit_map-map.result.first 2 c.args.arc.tail
@@ -19,32 +20,49 @@ module _ (c : After-from) where
   abbrev long : List ℕ
   long = field_bytes c.bit_map-map.result.third 4 c.args.arc.length
 
-  pieces : record_bytes (arc_before c.args.previous) (arc_of c.args.arc) ≡ c.from.result ∷ (tail ++ (head ++ long))
+  abbrev whole : List ℕ
+  whole = record_bytes (arc_before c.args.previous) (arc_of c.args.arc)
+
+  pieces : whole ≡ c.from.result ∷ (tail ++ (head ++ long))
   unfolding arc
   pieces = record_pieces _ (arc_of c.args.arc) _ c.bit_map-map.ensures ∙ rw c.from.ensures
 
-  room : Room c.args.output.now c.args.at c.from.result tail head long
-  room = record { there = rw pieces at c.requires }
+  to_put : Putting whole (c.from.result ∷ (tail ++ (head ++ long))) c.args.output.now c.args.output.now
+  to_put = rw pieces (none_put _ _ (rw pieces at c.requires))
 
-pub bounds-output-at : goal.bounds-output-at
-bounds-output-at c = byte_room (room c)
+  -- what is left behind the bit map, and behind the tail
+  module _ {out : Output} (map_put : Puts (c.from.result ∷ []) c.args.output.now out) where
+    after_map : Putting whole (tail ++ (head ++ long)) c.args.output.now out
+    after_map = part_put (c.from.result ∷ []) _ to_put map_put
 
-pub put_optional-at-requires : goal.put_optional-at-requires
-put_optional-at-requires c = rw c.from-2.ensures (first_room (room (goal.at.put_optional-at-requires c).After-from))
+    after_tail : {out₁ : Output} → Puts tail out out₁ → Putting whole (head ++ long) c.args.output.now out₁
+    after_tail = part_put tail _ after_map
 
--- after the tail
-pub put_optional-at-requires-2 : goal.put_optional-at-requires-2
-put_optional-at-requires-2 c =
-    rw c.from-3.ensures (second_room (room (goal.at.put_optional-at-requires-2 c).After-from) (rw c.from-2.ensures at c.put_optional-at.ensures))
+pub byte-requires : goal.byte-requires
+byte-requires c = part_room (c.from.result ∷ []) _ (to_put (goal.at.byte-requires c).After-from)
 
--- after the head
-pub put_optional-requires : goal.put_optional-requires
-put_optional-requires c =
-    third_room (room (goal.at.put_optional-requires c).After-from) (rw c.from-2.ensures at c.put_optional-at.ensures) (rw c.from-3.ensures at c.put_optional-at-2.ensures)
+pub optional-requires : goal.optional-requires
+optional-requires c =
+    let here = (goal.at.optional-requires c).After-from in
+    rw c.from-2.ensures (part_room (tail here) _ (after_map here c.byte.ensures))
 
--- after the length: the whole record
+pub optional-requires-2 : goal.optional-requires-2
+optional-requires-2 c =
+    let here = (goal.at.optional-requires-2 c).After-from in
+    rw c.from-3.ensures (part_room (head here) _ (after_tail here c.byte.ensures (rw c.from-2.ensures at c.optional.ensures)))
+
+pub optional-requires-3 : goal.optional-requires-3
+optional-requires-3 c =
+    let here = (goal.at.optional-requires-3 c).After-from in
+    rest_room
+    (part_put (head here) _ (after_tail here c.byte.ensures (rw c.from-2.ensures at c.optional.ensures))
+    (rw c.from-3.ensures at c.optional-2.ensures))
+
+-- the length is put too: the whole record
 pub returns : goal.returns
 returns c =
     let here = (goal.at.returns c).After-from in
-    rw (pieces here)
-    (all_put (room here) (rw c.from-2.ensures at c.put_optional-at.ensures) (rw c.from-3.ensures at c.put_optional-at-2.ensures) c.put_optional.ensures)
+    rest_put
+    (part_put (head here) _ (after_tail here c.byte.ensures (rw c.from-2.ensures at c.optional.ensures))
+    (rw c.from-3.ensures at c.optional-2.ensures))
+    c.optional-3.ensures

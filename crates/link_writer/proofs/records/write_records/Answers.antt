@@ -1,12 +1,21 @@
--- `records::write_records` meets its contract: the loop's invariant is `Writing`. Assumes nothing.
-use Rattle.link_writer.proofs.records.Runs.{record_room, writing_next, writing_done}
+-- `records::write_records` meets its contract: the records of the arcs behind those passed are left to put. Assumes nothing.
+use Rattle.link_fields.specs.Fields.{arc_before}
+use Rattle.link_fields.proofs.fields.Putting.{none_put, part_room, part_put, all_put}
+use Rattle.link_writer.proofs.records.Runs.{bytes_more, bytes_none}
 use Rattle.link_writer.proofs.records.write_records.Goals as goal
 
-pub write_record-at-requires : goal.write_record-at-requires
-write_record-at-requires c = record_room c.loop-i.invariant c.loop-i-test.true _ c.arc_at-arc.ensures
+pub loop-i-init : goal.loop-i-init
+loop-i-init c = none_put _ _ c.requires
+
+pub write_record-requires : goal.write_record-requires
+write_record-requires c =
+    let l = c.loop-i in
+    part_room _ _ (rw (bytes_more c.args.columns (arc_before l.previous) c.loop-i-test.true c.arc_at-arc.ensures) at l.invariant)
 
 pub loop-i-preserved : goal.loop-i-preserved
-loop-i-preserved c = writing_next c.loop-i.invariant c.loop-i-test.true _ c.arc_at-arc.ensures c.write_record-at.ensures
+loop-i-preserved c =
+    let l = c.loop-i in
+    part_put _ _ (rw (bytes_more c.args.columns (arc_before l.previous) c.loop-i-test.true c.arc_at-arc.ensures) at l.invariant) c.write_record.ensures
 
 pub returns : goal.returns
-returns c = writing_done c.loop-i.invariant c.loop-i-test.false
+returns c = all_put (rw (bytes_none c.args.columns (arc_before c.loop-i.previous) c.loop-i.i c.loop-i-test.false) at c.loop-i.invariant)

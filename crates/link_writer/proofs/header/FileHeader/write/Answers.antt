@@ -1,14 +1,16 @@
 -- `FileHeader::write` meets its contract: the bit map and the fields are put one after the other, each with its room. Assumes nothing.
-use Rattle.std.proofs.Common.{arith, ◌≡◌, ◌≤◌, ◌∷◌, ◌++◌, List, ℕ, length, ◌∙◌}
+use Rattle.std.proofs.Common.{arith, ◌≡◌, [], ◌∷◌, ◌++◌, List, ℕ, ◌∙◌}
 use Rattle.link_format.specs.Format.{bytes, field_bytes, wanted_bytes}
 use Rattle.link_format.proofs.Numbers.{length_bytes}
 use Rattle.link_writer.specs.Says.{bytes_of}
-use Rattle.link_writer.proofs.Pieces.{Room, byte_room, first_room, second_room, third_room, all_put}
+use Rattle.link_fields.specs.Fields.{Puts}
+use Rattle.link_fields.specs.declared.fields.Output.{Output}
+use Rattle.link_fields.proofs.fields.Putting.{Putting, none_put, part_room, part_put, rest_room, rest_put}
 use Rattle.link_writer.proofs.header.Bytes.{header_pieces}
 use Rattle.link_writer.proofs.header.FileHeader.write.Goals as goal
 use Rattle.link_writer.proofs.header.FileHeader.write.Goals.{After-from}
 
--- after the bit map: the header's pieces, and their room
+-- the header's pieces, which are left to put
 module _ (c : After-from) where
   abbrev count : List ℕ
   count = bytes 2 c.args.self.n
@@ -22,26 +24,39 @@ module _ (c : After-from) where
   pieces : bytes_of c.args.self ≡ c.from.result ∷ (count ++ (origin ++ list))
   pieces = header_pieces c.args.self ∙ rw c.from.ensures
 
-  room : Room c.args.output.now 0 c.from.result count origin list
-  room = let whole : length (c.from.result ∷ (count ++ (origin ++ list))) ≤ length c.args.output.now = rw pieces at c.requires in record { there = omega arith }
+  to_put : Putting (bytes_of c.args.self) (c.from.result ∷ (count ++ (origin ++ list))) c.args.output.now c.args.output.now
+  to_put = rw pieces (none_put _ _ (rw pieces at c.requires))
 
-pub bounds-output-0 : goal.bounds-output-0
-bounds-output-0 c = byte_room (room c)
+  -- what is left behind the bit map, and behind the node count
+  module _ {out : Output} (map_put : Puts (c.from.result ∷ []) c.args.output.now out) where
+    after_map : Putting (bytes_of c.args.self) (count ++ (origin ++ list)) c.args.output.now out
+    after_map = part_put (c.from.result ∷ []) _ to_put map_put
 
-pub put_field-at-requires : goal.put_field-at-requires
-put_field-at-requires c = omega (arith, first_room (room (goal.at.put_field-at-requires c).After-from), length_bytes 2 c.args.self.n)
+    after_count : {out₁ : Output} → Puts count out out₁ → Putting (bytes_of c.args.self) (origin ++ list) c.args.output.now out₁
+    after_count = part_put count _ after_map
 
--- where the node count was put
-pub put_optional-at-requires : goal.put_optional-at-requires
-put_optional-at-requires c = rw c.from-origin.ensures (second_room (room (goal.at.put_optional-at-requires c).After-from) c.put_field-at.ensures)
+pub byte-requires : goal.byte-requires
+byte-requires c = part_room (c.from.result ∷ []) _ (to_put (goal.at.byte-requires c).After-from)
 
--- where the origin was put
+pub field-requires : goal.field-requires
+field-requires c =
+    let here = (goal.at.field-requires c).After-from in
+    omega (arith, length_bytes 2 c.args.self.n, part_room (count here) _ (after_map here c.byte.ensures))
+
+pub optional-requires : goal.optional-requires
+optional-requires c =
+    let here = (goal.at.optional-requires c).After-from in
+    rw c.from-2.ensures (part_room (origin here) _ (after_count here c.byte.ensures c.field.ensures))
+
 pub write_wanted-requires : goal.write_wanted-requires
 write_wanted-requires c =
-    third_room (room (goal.at.write_wanted-requires c).After-from) c.put_field-at.ensures (rw c.from-origin.ensures at c.put_optional-at.ensures)
+    let here = (goal.at.write_wanted-requires c).After-from in
+    rest_room (part_put (origin here) _ (after_count here c.byte.ensures c.field.ensures) (rw c.from-2.ensures at c.optional.ensures))
 
--- where the wanted list was put: the whole header
+-- the wanted list is put too: the whole header
 pub returns : goal.returns
 returns c =
     let here = (goal.at.returns c).After-from in
-    rw (pieces here) (all_put (room here) c.put_field-at.ensures (rw c.from-origin.ensures at c.put_optional-at.ensures) c.write_wanted.ensures)
+    rest_put
+    (part_put (origin here) _ (after_count here c.byte.ensures c.field.ensures) (rw c.from-2.ensures at c.optional.ensures))
+    c.write_wanted.ensures
