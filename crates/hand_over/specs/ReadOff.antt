@@ -5,6 +5,7 @@ use Rattle.table.specs.Table.{Table, arc_count, arc_at, head_at, length_at, down
 use Rattle.auction.specs.Auction.{State, auction, unreached}
 use Rattle.auction.specs.HandOver.{Answer, mark_number}
 use Rattle.auction.specs.Plan.{routes_of}
+use Rattle.hand_over.specs.declared.Buffers.{Buffers}
 use Rattle.steps.specs.declared.state.Node.{Node}
 use Rattle.steps.specs.declared.state.Progress.{Progress}
 use Rattle.steps.specs.declared.state.RunEnd.{RunEnd}
@@ -24,15 +25,23 @@ pub record ArcEnds (c : Columns) (nodes : List Node) : Type 0 where
   pub tail_in : (i : ℕ) → i < length c.heads.now → get_or c.tails.now i 0 < length nodes
 
 -- the buffers fit n nodes and m arcs
-pub record Fitting (n m : ℕ) (distances prices tree marks : List ℕ) : Type 0 where
+pub record Fitting (n m : ℕ) (b : Buffers) : Type 0 where
   -- within the limits
   pub few_nodes : n ≤ most_nodes
   pub few_arcs : m ≤ most_arcs
   -- an entry for each node, a mark for each arc
-  pub distances_long : length distances ≡ n
-  pub prices_long : length prices ≡ n
-  pub tree_long : length tree ≡ n
-  pub marks_long : length marks ≡ m
+  pub distances_long : length b.distances.now ≡ n
+  pub prices_long : length b.prices.now ≡ n
+  pub tree_long : length b.tree.now ≡ n
+  pub marks_long : length b.marks.now ≡ m
+
+-- the buffers are the same as before: none of the four is exchanged for another
+abbrev pub SameBuffers : (old new : Buffers) → Type 0
+SameBuffers old new =
+    (new.distances.ghost_name ≡ old.distances.ghost_name)
+    × (new.prices.ghost_name ≡ old.prices.ghost_name)
+    × (new.tree.ghost_name ≡ old.tree.ghost_name)
+    × (new.marks.ghost_name ≡ old.marks.ghost_name)
 
 -- the columns hold a table's arcs
 pub record ArcsHeld (t : Table) (c : Columns) : Type 0 where

@@ -9,8 +9,8 @@ ghost use Rattle.table.specs.Told.{number, told};
 ghost use Rattle.auction.specs.Auction.{unreached};
 ghost use Rattle.auction.specs.HandOver.{horizon, reached_count, mark_number};
 ghost use Rattle.steps.specs.Seen.{status_number, too_many};
-ghost use Rattle.hand_over.specs.Answered.{answered, nothing_planned};
-ghost use Rattle.hand_over.specs.ReadOff.{Known, ArcEnds, Fitting, NoneFarther, ReadOff, HandsOver, price_entry, mark_entry};
+ghost use Rattle.hand_over.specs.Answered.{answered_in, nothing_planned};
+ghost use Rattle.hand_over.specs.ReadOff.{Known, ArcEnds, Fitting, SameBuffers, NoneFarther, ReadOff, HandsOver, price_entry, mark_entry};
 
 use steps::state::{Node, RunEnd};
 use table::faults::{Fault, Refusal};
@@ -57,6 +57,15 @@ impl From<Refusal> for Planned {
     {
         Planned::nothing(refusal.fault.number(), refusal.place)
     }
+}
+
+// The four buffers that are lent for an answer: a distance, a price and a tree arc for each node, a mark for each arc.
+#[derive(Drop)]
+pub struct Buffers<'a> {
+    pub distances: &'a mut [u64],
+    pub prices: &'a mut [u64],
+    pub tree: &'a mut [u16],
+    pub marks: &'a mut [u8],
 }
 
 // One entry for a node that was reached, another for one that was not.
@@ -181,22 +190,23 @@ pub fn hand_over(
     wanted: usize,
     columns: Columns,
     nodes: &[Node],
-    distances: &mut [u64],
-    prices: &mut [u64],
-    tree: &mut [u16],
-    marks: &mut [u8],
+    buffers: &mut Buffers,
 ) -> Planned
     requires known { Known nodes.now }
     requires arc_ends { ArcEnds columns nodes.now }
-    requires fitting { Fitting (length nodes.now) (length columns.heads.now) distances.old prices.old tree.old marks.old }
+    requires fitting { Fitting (length nodes.now) (length columns.heads.now) buffers.old }
     requires few { (end.missing ≤ most_wanted) × (end.progress.contractions + end.progress.extensions + end.progress.deletions < too_many) }
-    ensures { HandsOver end wanted columns.entry nodes.now (answered result distances.new prices.new tree.new marks.new) }
+    ensures same { SameBuffers buffers.old buffers.new }
+    ensures answer { HandsOver end wanted columns.entry nodes.now (answered_in result buffers.new) }
 {
     let horizon = horizon_of(nodes);
-    fill(distances, |v| entry(nodes[v], nodes[v].bound, NO_DISTANCE));
-    fill(prices, |v| price_at(v, horizon, nodes));
-    fill(tree, |v| entry(nodes[v], nodes[v].kept, NO_ARC));
-    fill(marks, |i| mark_at(i, columns, nodes));
+    fill(
+        buffers.distances,
+        |v| entry(nodes[v], nodes[v].bound, NO_DISTANCE),
+    );
+    fill(buffers.prices, |v| price_at(v, horizon, nodes));
+    fill(buffers.tree, |v| entry(nodes[v], nodes[v].kept, NO_ARC));
+    fill(buffers.marks, |i| mark_at(i, columns, nodes));
     let (number, place) = told(route(end.missing, wanted));
     let counts = end.progress;
     Planned {

@@ -33,6 +33,9 @@ use Rattle.solver.specs.Runs.{RanWithin}
 use Rattle.solver.proofs.run.Wanted.{some_missing, none_missing}
 use Rattle.steps.proofs.Nodes.{as_many}
 use Rattle.auction.specs.Plan.{plan_refusal, plan, routes_of, refused_plan}
+use Rattle.hand_over.specs.declared.Buffers.{Buffers}
+use Rattle.hand_over.specs.declared.Planned.{Planned}
+use Rattle.hand_over.specs.Answered.{answered, answered_in}
 use Rattle.hand_over.specs.ReadOff.{Known, ArcEnds, Fitting, ArcsHeld}
 
 -- AFTER THE RUN: whether a wanted node is missing
@@ -133,17 +136,23 @@ module _ (n o : ℕ) (ts hs ls ws ds ps tr ms : List ℕ) where
   unfolding plan refusal
   planned f a e z r = rw (← e, eq-eqb f.number 0 z) r
 
-  -- where none applies the buffers fit
-  pub fine : Below (2 ^ 32) ls → (plan_refusal n o ts hs ls ws ds ps tr ms).number ≡ 0 → Fitting n (length hs) ds ps tr ms
-  unfolding plan_refusal
-  fine low e =
-      let u = unrefused n o ts hs ls ws _ low e in
-      let fit = rooms_so n (length ts) (length ds) (length ps) (length tr) (length ms) u.rooms_good in
-      record {
-        few_nodes = u.few_nodes;
-        few_arcs = omega (arith, u.few_arcs, u.heads_count);
-        distances_long = fit.0;
-        prices_long = fit.1;
-        tree_long = fit.2;
-        marks_long = fit.3 ∙ u.heads_count;
-      }
+-- where none applies the buffers fit
+pub fine : (n o : ℕ) (ts hs ls ws : List ℕ) (b : Buffers) → Below (2 ^ 32) ls →
+    (plan_refusal n o ts hs ls ws b.distances.now b.prices.now b.tree.now b.marks.now).number ≡ 0 → Fitting n (length hs) b
+unfolding plan_refusal
+fine n o ts hs ls ws b low e =
+    let u = unrefused n o ts hs ls ws _ low e in
+    let fit = rooms_so n (length ts) (length b.distances.now) (length b.prices.now) (length b.tree.now) (length b.marks.now) u.rooms_good in
+    record {
+      few_nodes = u.few_nodes;
+      few_arcs = omega (arith, u.few_arcs, u.heads_count);
+      distances_long = fit.0;
+      prices_long = fit.1;
+      tree_long = fit.2;
+      marks_long = fit.3 ∙ u.heads_count;
+    }
+
+-- the answer with what is held when the buffers are given back
+pub given_back : {ds ps tr ms : List ℕ} {a : Answer} (r : Planned) (b : Buffers) → answered_in r b ≡ a →
+    ds ≡ b.distances.now → ps ≡ b.prices.now → tr ≡ b.tree.now → ms ≡ b.marks.now → answered r ds ps tr ms ≡ a
+given_back r b e ds ps tr ms = rw (ds, ps, tr, ms) e

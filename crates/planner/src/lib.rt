@@ -6,11 +6,11 @@ ghost use Rattle.std.specs.Prelude.{◌≡◌, cond, [], ◌∷◌, ℕ, ◌==�
 ghost use Rattle.table.specs.Lent.{table_in};
 ghost use Rattle.auction.specs.Plan.{routes_of};
 ghost use Rattle.limit_answer.specs.Answer.{limit_of, AnswersLimit};
-ghost use Rattle.hand_over.specs.Answered.{answered};
-ghost use Rattle.hand_over.specs.ReadOff.{Fitting};
+ghost use Rattle.hand_over.specs.Answered.{answered_in};
+ghost use Rattle.hand_over.specs.ReadOff.{Fitting, SameBuffers};
 ghost use Rattle.planner.specs.Plan.{Plans, PlansToCollector};
 
-use hand_over::{Planned, hand_over};
+use hand_over::{Buffers, Planned, hand_over};
 use limit_answer::Within;
 use refusals::{Rooms, check_table};
 use solver::run::{NO_LIMIT, run};
@@ -18,15 +18,10 @@ use steps::state::RunState;
 use table::links::LinkTable;
 
 // The plan of a table that is not refused.
-fn plan_table(
-    table: &LinkTable,
-    distances: &mut [u64],
-    prices: &mut [u64],
-    tree: &mut [u16],
-    marks: &mut [u8],
-) -> Planned
-    requires { Fitting table.now.n (length table.now.columns.heads.now) distances.old prices.old tree.old marks.old }
-    ensures { answered result distances.new prices.new tree.new marks.new ≡ routes_of (table_in table.now) table.now.wanted.now }
+fn plan_table(table: &LinkTable, buffers: &mut Buffers) -> Planned
+    requires { Fitting table.now.n (length table.now.columns.heads.now) buffers.old }
+    ensures same { SameBuffers buffers.old buffers.new }
+    ensures answer { answered_in result buffers.new ≡ routes_of (table_in table.now) table.now.wanted.now }
 {
     let n = table.n;
     let fresh = RunState::fresh(table.origin);
@@ -36,16 +31,7 @@ fn plan_table(
         progress,
     } = fresh;
     let end = run(progress, NO_LIMIT, table, &mut path[..n], &mut nodes[..n]);
-    hand_over(
-        end,
-        table.wanted.len(),
-        table.columns,
-        &nodes[..n],
-        distances,
-        prices,
-        tree,
-        marks,
-    )
+    hand_over(end, table.wanted.len(), table.columns, &nodes[..n], buffers)
 }
 
 // Plans the routes of a link table from its origin to the wanted nodes: the answer, and a distance, a price and a tree arc for each
@@ -71,7 +57,15 @@ pub fn plan_routes(
         marks: marks.len(),
     };
     match check_table(n, origin, tails, heads, lengths, wanted, lent) {
-        Ok(table) => plan_table(&table, distances, prices, tree, marks),
+        Ok(table) => {
+            let mut buffers = Buffers {
+                distances,
+                prices,
+                tree,
+                marks,
+            };
+            plan_table(&table, &mut buffers)
+        }
         Err(refusal) => Planned::from(refusal),
     }
 }

@@ -13,9 +13,9 @@ use Rattle.hand_over.specs.Answered.{answered}
 use Rattle.hand_over.proofs.Handing.{distance_entry, arc_entry, column_so, distances_so, prices_so, tree_so, marks_so, assembled}
 use Rattle.hand_over.proofs.hand_over.Goals as goal
 
-pub returns : goal.returns
+pub returns-clause-answer : goal.returns-clause-answer
 unfolding answered iterations seen state refusal
-returns c = λ t ws path nodes held wanted ran routed.
+returns-clause-answer c = λ t ws path nodes held wanted ran routed.
     let a = c.args in
     let ns = a.nodes.now in
     let g = a.end.progress in

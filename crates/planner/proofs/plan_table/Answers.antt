@@ -55,12 +55,12 @@ pub hand_over-requires-clause-few : goal.hand_over-requires-clause-few
 unfolding iterations seen state
 hand_over-requires-clause-few c = (place_low c.args.table.now _ c.run-end.ensures.inside, c.run-end.ensures.few)
 
-pub returns : goal.returns
-returns c =
-    let at = (goal.at.returns c).After-run-end in
+pub returns-clause-answer : goal.returns-clause-answer
+returns-clause-answer c =
+    let at = (goal.at.returns-clause-answer c).After-run-end in
     let l = c.args.table.now in
     let rest = drop l.n c.fresh-fresh.result.nodes in
-    c.hand_over.ensures (table_in l) l.wanted.now c.run-end.new.path (nodes_are l ∙ sym (handed_nodes at rest)) (arcs_held l) refl
+    c.hand_over.ensures.answer (table_in l) l.wanted.now c.run-end.new.path (nodes_are l ∙ sym (handed_nodes at rest)) (arcs_held l) refl
     (subst
     (λ (ns : List Node). Ran (table_in l) l.wanted.now (auction (table_in l) l.wanted.now) c.run-end.result.missing c.run-end.result.scans
     (held (run_of c.run-end.new.path ns c.run-end.result.progress))) (sym (same_nodes at rest))
