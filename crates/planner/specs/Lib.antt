@@ -1,2 +1,3 @@
+pub mod Ends
 pub mod Plan
 pub mod Promise

@@ -8,20 +8,21 @@ ghost use Rattle.auction.specs.Plan.{routes_of};
 ghost use Rattle.limit_answer.specs.Answer.{limit_of, AnswersLimit};
 ghost use Rattle.hand_over.specs.Answered.{answered_in};
 ghost use Rattle.hand_over.specs.ReadOff.{Fitting, SameBuffers};
+ghost use Rattle.planner.specs.Ends.{RunEnds};
 ghost use Rattle.planner.specs.Plan.{Plans, PlansToCollector};
 
 use hand_over::{Buffers, Planned, hand_over};
 use limit_answer::Within;
 use refusals::{Rooms, check_table};
 use solver::run::{NO_LIMIT, run};
-use steps::state::RunState;
+use steps::state::{Node, RunEnd, RunState};
 use table::links::LinkTable;
 
-// The plan of a table that is not refused.
-fn plan_table(table: &LinkTable, buffers: &mut Buffers) -> Planned
-    requires { Fitting table.now.n (length table.now.columns.heads.now) buffers.old }
-    ensures same { SameBuffers buffers.old buffers.new }
-    ensures answer { answered_in result buffers.new ≡ routes_of (table_in table.now) table.now.wanted.now }
+// Runs a table that is not refused within a limit, from the fresh state, and has an answer made of where the run ends and of the nodes that it leaves. What
+// makes the answer is lent: of what a closure that is given away had written to, nothing would be known.
+fn run_fresh<T, F: FnMut(RunEnd, &[Node]) -> T>(table: &LinkTable, limit: u64, answer: &mut F) -> T
+    requires { (end : _) (nodes : _) → RunEnds table.now limit end nodes.now → F.pre answer.old end nodes }
+    ensures { (end : _) × (nodes : _) × RunEnds table.now limit end nodes.now × F.step answer.old end nodes result answer.new }
 {
     let n = table.n;
     let fresh = RunState::fresh(table.origin);
@@ -30,8 +31,21 @@ fn plan_table(table: &LinkTable, buffers: &mut Buffers) -> Planned
         mut nodes,
         progress,
     } = fresh;
-    let end = run(progress, NO_LIMIT, table, &mut path[..n], &mut nodes[..n]);
-    hand_over(end, table.wanted.len(), table.columns, &nodes[..n], buffers)
+    let end = run(progress, limit, table, &mut path[..n], &mut nodes[..n]);
+    answer(end, &nodes[..n])
+}
+
+// The plan of a table that is not refused.
+fn plan_table(table: &LinkTable, buffers: &mut Buffers) -> Planned
+    requires { Fitting table.now.n (length table.now.columns.heads.now) buffers.old }
+    ensures same { SameBuffers buffers.old buffers.new }
+    ensures answer { answered_in result buffers.new ≡ routes_of (table_in table.now) table.now.wanted.now }
+{
+    run_fresh(
+        table,
+        NO_LIMIT,
+        &mut |end, nodes| { hand_over(end, table.wanted.len(), table.columns, nodes, buffers) },
+    )
 }
 
 // Plans the routes of a link table from its origin to the wanted nodes: the answer, and a distance, a price and a tree arc for each
@@ -95,21 +109,19 @@ pub fn plan_to_collector(
 fn limit_table(table: &LinkTable, limit: u64) -> Within
     ensures { (v : ℕ) → table.now.wanted.now ≡ v ∷ [] → result ≡ limit_of (table_in table.now) v limit }
 {
-    let n = table.n;
-    let fresh = RunState::fresh(table.origin);
-    let RunState {
-        mut path,
-        mut nodes,
-        progress,
-    } = fresh;
-    let end = run(progress, limit, table, &mut path[..n], &mut nodes[..n]);
-    let counts = end.progress;
-    Within {
-        number: 0,
-        place: 0,
-        within: u32::from(end.missing == table.wanted.len()),
-        iterations: counts.contractions + counts.extensions + counts.deletions,
-    }
+    run_fresh(
+        table,
+        limit,
+        &mut |end, _| {
+            let counts = end.progress;
+            Within {
+                number: 0,
+                place: 0,
+                within: u32::from(end.missing == table.wanted.len()),
+                iterations: counts.contractions + counts.extensions + counts.deletions,
+            }
+        },
+    )
 }
 
 // Whether a node is within a limit: whether some walk from the origin to it is no longer. The run ends as soon as the node is reached or
