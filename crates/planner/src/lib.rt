@@ -18,8 +18,8 @@ use solver::run::{NO_LIMIT, run};
 use steps::state::{Node, RunEnd, RunState};
 use table::links::LinkTable;
 
-// Runs a table that is not refused within a limit, from the fresh state, and has an answer made of where the run ends and of the nodes that it leaves. What
-// makes the answer is lent: of what a closure that is given away had written to, nothing would be known.
+// Runs a table that is not refused within a limit, from the fresh state, and has an answer made of where the run ends and of the nodes
+// that it leaves. What makes the answer is lent: of what a closure that is given away had written to, nothing would be known.
 fn run_fresh<T, F: FnMut(RunEnd, &[Node]) -> T>(table: &LinkTable, limit: u64, answer: &mut F) -> T
     requires { (end : _) (nodes : _) → RunEnds table.now limit end nodes.now → F.pre answer.old end nodes }
     ensures { (end : _) × (nodes : _) × RunEnds table.now limit end nodes.now × F.step answer.old end nodes result answer.new }
