@@ -1,12 +1,12 @@
 -- Storing a list into a buffer, one element or one piece at a time. Assumes nothing.
 use mathlib.Core.List.{List, [], ◌∷◌, ◌++◌, append-nil, append_assoc}
-use mathlib.Core.Path.{◌≡◌, refl, sym, ◌∙◌}
+use mathlib.Core.Path.{◌≡◌, refl, ◌∙◌}
 use Prim.Native.Nat.{ℕ, suc, ◌+◌, ◌≤◌}
 use native.Mathlib.Nat.{add-zero}
 use native.Mathlib.Numerals.{add-one}
 use native.Mathlib.Omega.{arith}
 use lib.ListN.{length, take, set, length-set, drop, length-drop, drop_of_length-le}
-use lib.Seq.{sets, length-sets, sets-eq, drop-drop, length-take-le}
+use lib.Seq.{sets, sets-eq, drop-drop, length-take-le}
 use borrow.Rule.Slice.PartMut.{mid_of, put_mid}
 
 -- two pieces stored one after the other
@@ -25,11 +25,6 @@ pub column_next : {first : List ℕ} {start : ℕ} {all buffer : List ℕ} {i x 
     → Column first start all (set buffer i x) (i + 1) left
 column_next {first} {start} {all} {buffer} {i} {x} {left} k =
     record { kept = length-set buffer i x ∙ k.kept; same = rw (add-one i) k.same }
-
-pub column_piece : {first : List ℕ} {start : ℕ} {all buffer : List ℕ} {i : ℕ} (piece left : List ℕ) → Column first start all buffer i (piece ++ left)
-    → Column first start all (sets buffer i piece) (i + length piece) left
-column_piece {first} {start} {all} {buffer} {i} piece left k =
-    record { kept = length-sets buffer i piece ∙ k.kept; same = sym (sets_append piece left buffer i) ∙ k.same }
 
 -- a list stored over a whole part of the buffer
 part_stored : (vs l : List ℕ) (a k : ℕ) → a + k ≤ length l → length vs ≡ k → put_mid a k l (sets (mid_of a k l) 0 vs) ≡ sets l a vs
