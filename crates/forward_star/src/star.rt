@@ -3,7 +3,8 @@ ghost use Rattle.forward_star.specs.Lists.{star, SomeTable};
 
 use table::links::Columns;
 
-// The forward star of some table, with the column of tails: for each node its first outgoing arc, for each arc the next one that leaves the same node.
+// The forward star of some table, with the column of tails: for each node its first outgoing arc, for each arc the next one that leaves the same node. Both
+// are positions, since there is no heap for a list of each node's own.
 #[derive(Clone, Copy)]
 pub struct ForwardStar<'a> {
     pub columns: Columns<'a>,

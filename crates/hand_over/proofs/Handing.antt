@@ -19,12 +19,12 @@ use Rattle.table.proofs.Present.{present_tail, down_absent, up_present}
 use Rattle.auction.proofs.Sums.{greatest_bound}
 use Rattle.steps.specs.declared.state.Node.{Node}
 use Rattle.steps.specs.declared.state.Progress.{Progress}
-use Rattle.steps.specs.Seen.{arc_of, run_of, held, prices_in, bounds_in, kepts_in, statuses_in, status_number}
+use Rattle.steps.specs.Seen.{arc_of, bounds_in, kepts_in, statuses_in, status_number}
 use Rattle.steps.specs.Memory.{node_at}
 use Rattle.steps.specs.Steps.{Ran}
 use Rattle.steps.proofs.Arrays.{seen_status, seen_distance, seen_kept, some_arc, no_kept}
 use Rattle.steps.proofs.Nodes.{as_many, entry}
-use Rattle.hand_over.specs.ReadOff.{Known, ArcEnds, ArcsHeld, NoneFarther, mark_entry}
+use Rattle.hand_over.specs.ReadOff.{Known, ArcEnds, ArcsHeld, NoneFarther, state_in, mark_entry}
 use Rattle.hand_over.proofs.Entries.{entries_same}
 
 -- one entry each, as the code makes it: of a node that was reached, or another
@@ -41,9 +41,9 @@ abbrev pub arc_entry : List Node → (v : ℕ) → ℕ
 arc_entry ns v = chosen (node_at v ns) (node_at v ns).kept no_arc
 
 -- as the definition has it
-module _ (path : List ℕ) (ns : List Node) (g : Progress) where
+module _ (ns : List Node) (path price : List ℕ) (g : Progress) where
   abbrev x : State
-  x = held (run_of path ns g)
+  x = state_in ns path price g
 
   status_is : (v : ℕ) → get_or (statuses_in ns) v 0 ≡ status_number (node_at v ns).status
   status_is v = entry (λ m. status_number m.status) ns v
@@ -51,11 +51,11 @@ module _ (path : List ℕ) (ns : List Node) (g : Progress) where
   reached_is : (v : ℕ) → was_reached x v ≡ ltb unreached (status_number (node_at v ns).status)
   unfolding was_reached
   reached_is v =
-      ap (ltb 0) (seen_status path (prices_in ns) (bounds_in ns) (kepts_in ns) (statuses_in ns) g v ∙ status_is v)
+      ap (ltb 0) (seen_status path price (bounds_in ns) (kepts_in ns) (statuses_in ns) g v ∙ status_is v)
 
   kept_is : (v : ℕ) → v < length ns → kept_at x v ≡ arc_of (node_at v ns).kept
   kept_is v h =
-      seen_kept path (prices_in ns) (bounds_in ns) (kepts_in ns) (statuses_in ns) g v (omega (arith, as_many (λ m. m.kept) ns))
+      seen_kept path price (bounds_in ns) (kepts_in ns) (statuses_in ns) g v (omega (arith, as_many (λ m. m.kept) ns))
       ∙ ap arc_of (entry (λ m. m.kept) ns v)
 
   module _ (known : Known ns) where
@@ -68,7 +68,7 @@ module _ (path : List ℕ) (ns : List Node) (g : Progress) where
         let there = known v (omega (arith, status_is v, ltb-true 0 _ e)) in
         rw e
         (sym bound
-        ∙ sym (seen_distance path (prices_in ns) (bounds_in ns) (kepts_in ns) (statuses_in ns) g v (omega (arith, as_many (λ m. m.bound) ns)) there)))
+        ∙ sym (seen_distance path price (bounds_in ns) (kepts_in ns) (statuses_in ns) g v (omega (arith, as_many (λ m. m.bound) ns)) there)))
         (λ (e : ltb unreached (status_number (node_at v ns).status) ≡ false). rw e)
         (true_or (ltb unreached (status_number (node_at v ns).status))))
 

@@ -9,9 +9,13 @@ use Rattle.hand_over.specs.declared.Buffers.{Buffers}
 use Rattle.steps.specs.declared.state.Node.{Node}
 use Rattle.steps.specs.declared.state.Progress.{Progress}
 use Rattle.steps.specs.declared.state.RunEnd.{RunEnd}
-use Rattle.steps.specs.Seen.{status_number, run_of, held, bounds_in, kepts_in, statuses_in}
+use Rattle.steps.specs.Seen.{status_number, seen, bounds_in, kepts_in, statuses_in}
 use Rattle.steps.specs.Memory.{node_at}
 use Rattle.steps.specs.Steps.{Ran}
+
+-- THE STATE that these nodes hold, whatever the path, the prices and the progress: their own prices are not read
+abbrev pub state_in : List Node → (path price : List ℕ) → Progress → State
+state_in nodes path price g = seen path price (bounds_in nodes) (kepts_in nodes) (statuses_in nodes) g
 
 -- every node that was reached has a distance, as where a run has ended
 abbrev pub Known : List Node → Type 0
@@ -58,9 +62,9 @@ pub record ArcsHeld (t : Table) (c : Columns) : Type 0 where
 abbrev pub NoneFarther : (horizon : ℕ) → List Node → Type 0
 NoneFarther h nodes = (v : ℕ) → v < length nodes → 0 < get_or (statuses_in nodes) v 0 → get_or (bounds_in nodes) v 0 ≤ h
 
--- READ OFF: for each table with as many nodes, whatever the path and the progress, this is what `f` gives
+-- READ OFF: for each table with as many nodes, whatever the path, the prices and the progress, this is what `f` gives
 abbrev pub ReadOff : {A : Type 0} → (f : Table → State → A) → List Node → A → Type 0
-ReadOff f nodes a = (t : Table) (path : List ℕ) (g : Progress) → t.n ≡ length nodes → a ≡ f t (held (run_of path nodes g))
+ReadOff f nodes a = (t : Table) (path price : List ℕ) (g : Progress) → t.n ≡ length nodes → a ≡ f t (state_in nodes path price g)
 
 -- a node's price; that of a node that was not reached is 0
 abbrev pub price_entry : (horizon : ℕ) → List Node → (v : ℕ) → ℕ
@@ -73,9 +77,10 @@ mark_entry c nodes i =
     (mark_number (ltb 0 (get_or (statuses_in nodes) (get_or c.heads.now i 0) 0)) (ltb 0 (get_or (statuses_in nodes) (get_or c.tails.now i 0) 0))
     (eqb (get_or (kepts_in nodes) (get_or c.heads.now i 0) 0) i))
 
--- THE HAND-OVER: for each table and wanted list whose run has ended with these nodes, the answer is the definition's
+-- THE HAND-OVER: for each table and wanted list whose run has ended with these nodes, whatever the path and the prices, the answer is
+-- the definition's
 abbrev pub HandsOver : (end : RunEnd) → (wanted : ℕ) → Columns → List Node → Answer → Type 0
 HandsOver end wanted c nodes answer =
-    (t : Table) (ws path : List ℕ) → t.n ≡ length nodes → ArcsHeld t c → length ws ≡ wanted →
-    Ran t ws (auction t ws) end.missing end.scans (held (run_of path nodes end.progress)) →
+    (t : Table) (ws path price : List ℕ) → t.n ≡ length nodes → ArcsHeld t c → length ws ≡ wanted →
+    Ran t ws (auction t ws) end.missing end.scans (state_in nodes path price end.progress) →
     (auction t ws).routed ≡ eqb end.missing wanted → answer ≡ routes_of t ws

@@ -17,7 +17,8 @@ use table::faults::{Fault, Refusal};
 use table::links::Columns;
 use table::{DOWN, NO_ARC, NO_DISTANCE};
 
-// Number and place of a refusal, number 0 where there is none; nodes reached, horizon and the counts of the run.
+// Number and place of a refusal, number 0 where there is none; nodes reached, horizon and the counts of the run. C reads it, so it is
+// numbers and no Result.
 #[repr(C)]
 #[derive(Clone, Copy)]
 pub struct Planned {
@@ -33,7 +34,7 @@ pub struct Planned {
 }
 
 impl Planned {
-    // The answer where nothing is planned.
+    // The answer where nothing is planned. It takes numbers: those of a refused file are C's already.
     pub fn nothing(number: u32, place: u32) -> Planned
         ensures { result ≡ nothing_planned number place }
     {
@@ -116,7 +117,8 @@ fn count_reached(nodes: &[Node]) -> u32
     count
 }
 
-// An arc's mark, by whether its head and its tail have been reached and whether it is its head's kept arc.
+// An arc's mark, by whether its head and its tail have been reached and whether it is its head's kept arc. C reads marks as bytes, so
+// they are the numbers 0 to 3.
 #[tactic(auto, unfolding(auction::specs::HandOver::mark_number))]
 fn mark(head: bool, tail: bool, kept: bool) -> u8
     ensures { result ≡ mark_number head tail kept }
@@ -173,7 +175,7 @@ fn route(missing: usize, wanted: usize) -> Result<(), Refusal>
     Err(Fault::NoRoute.at(missing))
 }
 
-// A refusal's number and place, 0 and 0 where there is none.
+// A refusal's number and place, 0 and 0 where there is none: the answer to C has them as numbers.
 #[tactic(auto, unfolding(table::specs::Refusals::no_refusal))]
 fn told(answer: Result<(), Refusal>) -> (u32, u32)
     ensures { refusal result.0 result.1 ≡ told answer }

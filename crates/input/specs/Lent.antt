@@ -1,4 +1,4 @@
--- What reading and planning do in the room that is lent. Assumes nothing: these are definitions.
+-- What reading and planning do in the workspace that is lent. Assumes nothing: these are definitions.
 use Rattle.std.specs.Prelude.{◌≡◌, List, ℕ, length}
 use Rattle.std.specs.Borrow.{MutBor}
 use Rattle.link_file.specs.declared.TableRead.{TableRead}
@@ -7,7 +7,7 @@ use Rattle.link_file.specs.Promises.{CountsFit}
 use Rattle.sheet.specs.Sheet.{sheet}
 use Rattle.sheet.specs.Printed.{read_input, printed}
 use Rattle.input.specs.declared.PlannedInput.{PlannedInput}
-use Rattle.input.specs.declared.Room.{Room}
+use Rattle.input.specs.declared.Workspace.{Workspace}
 use Rattle.input.specs.Input.{printing_read}
 
 -- a slice that was lent: what it holds may be another, the slice is not
@@ -17,8 +17,8 @@ pub record SameSlice (old new : MutBor (List ℕ)) : Type 0 where
   -- it is as long
   pub long : length new.now ≡ length old.now
 
--- a room that was lent: each of its eight slices is the same
-pub record SameRoom (old new : Room) : Type 0 where
+-- a workspace that was lent: each of its eight slices is the same
+pub record SameWorkspace (old new : Workspace) : Type 0 where
   -- the columns
   pub tails_same : SameSlice old.tails new.tails
   pub heads_same : SameSlice old.heads new.heads
@@ -31,13 +31,13 @@ pub record SameRoom (old new : Room) : Type 0 where
   pub marks_same : SameSlice old.marks new.marks
 
 -- what reading the input did to the columns
-abbrev pub ReadsInput : (input : List ℕ) → (old new : Room) → TableRead → Type 0
+abbrev pub ReadsInput : (input : List ℕ) → (old new : Workspace) → TableRead → Type 0
 ReadsInput input o n r =
     LeftByReading (read_input input) o.tails.now o.heads.now o.lengths.now o.wanted.now n.tails.now n.heads.now n.lengths.now n.wanted.now r
 
--- THE CONTRACT of plan_input, of the room that it leaves
-pub record Ready (input : List ℕ) (r : PlannedInput) (o : Room) : Type 0 where
-  -- the counts are within the room
+-- THE CONTRACT of plan_input, of the workspace that it leaves
+pub record Ready (input : List ℕ) (r : PlannedInput) (o : Workspace) : Type 0 where
+  -- the counts are within what is lent
   pub counts : CountsFit r.read
   -- the sheet of the answer, the columns and the buffers is what is printed of the input
   pub prints :

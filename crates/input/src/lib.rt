@@ -21,8 +21,8 @@ pub struct PlannedInput {
 }
 
 // Plans what was read: of each column the start that reading filled, with as much of each buffer as the table needs. The refusal of a file, where its
-// number is not 0, is the answer. The eight come as slices, the columns by `&mut` too and left as they are: of a field's slice that was lent by `&` no
-// proof knows afterwards what it holds.
+// number is not 0, as the reader's entry tells C, is the answer. The eight come as slices, the columns by `&mut` too and left as they are: of a field's
+// slice that was lent by `&` no proof knows afterwards what it holds.
 fn plan_read(
     read: TableRead,
     tails: &mut [u16],
@@ -62,7 +62,7 @@ fn plan_read(
 
 // The columns of a table and the buffers of a plan, lent with room for every table.
 #[derive(Drop)]
-pub struct Room<'a> {
+pub struct Workspace<'a> {
     pub tails: &'a mut [u16],
     pub heads: &'a mut [u16],
     pub lengths: &'a mut [u32],
@@ -75,14 +75,14 @@ pub struct Room<'a> {
     ghost buffers_roomy: { BuffersRoomy distances.now prices.now tree.now marks.now },
 }
 
-impl Room<'_> {
-    ghost use Rattle.input.specs.Lent.{ReadsInput, SameRoom, Ready};
+impl Workspace<'_> {
+    ghost use Rattle.input.specs.Lent.{ReadsInput, SameWorkspace, Ready};
 
     // Reads the input as a link file. One that is too long to be a link file is refused as one with too many arcs, and not read.
     fn read_input(&mut self, input: &[u8]) -> TableRead
         ensures reads { ReadsInput input.now self.old self.new result }
         ensures fits { CountsFit result }
-        ensures same { SameRoom self.old self.new }
+        ensures same { SameWorkspace self.old self.new }
     {
         if MOST_INPUT < input.len() {
             return TableRead::from(Fault::Columns.at(MOST_ARCS));
@@ -93,7 +93,7 @@ impl Room<'_> {
     // Reads the input and plans its table. What is left in the columns and buffers is what the sheet is printed from.
     pub fn plan_input(&mut self, input: &[u8]) -> PlannedInput
         ensures ready { Ready input.now result self.new }
-        ensures same { SameRoom self.old self.new }
+        ensures same { SameWorkspace self.old self.new }
     {
         let read = self.read_input(input);
         PlannedInput {

@@ -1,7 +1,7 @@
 -- What is answered: a refusal, or one of the two lists, whole. Assumes nothing.
 use mathlib.Core.Path.{◌≡◌, refl, sym, ap, subst, ◌∙◌}
 use mathlib.Core.Bool.{Bool, true, false, cond}
-use mathlib.Core.List.{List}
+use mathlib.Core.List.{List, []}
 use mathlib.Core.Option.{none, some}
 use Prim.Native.Nat.{ℕ, ◌≤◌}
 use lib.ListN.{length}
@@ -71,6 +71,12 @@ pub whole : (b : Bool) (standing fresh : Bor (List ℕ)) (k : Kept) → answer (
 unfolding kept given is_standing
 whole true standing fresh k e = rw (← e) (record { nodes = sym (take-length standing.now); begins = refl })
 whole false standing fresh k e = rw (← e) (record { nodes = sym (take-length fresh.now); begins = refl })
+
+-- and of a refusal an empty part of the fresh list
+pub nothing_given : (y : Refusal) (standing fresh empty : Bor (List ℕ)) (k : Kept) → kept (number y.fault) y.place 0 0 ≡ k → empty.now ≡ [] →
+    empty.ref_ptr ≡ fresh.ref_ptr → Part k standing fresh empty
+unfolding kept given is_standing
+nothing_given y standing fresh empty k e without same = rw (← e) (record { nodes = without; begins = same })
 
 -- and nothing is told beside it
 pub nothing_told : (b : Bool) (standing fresh : List ℕ) (k : Kept) → answer (Ok b) standing fresh ≡ k → no_refusal ≡ refusal k.number k.place

@@ -2,7 +2,7 @@
 // input.
 #![tactic(auto)]
 
-ghost use Rattle.std.specs.Prelude.{◌≡◌, IfOk};
+ghost use Rattle.std.specs.Prelude.{◌≡◌};
 ghost use Rattle.std.proofs.Math.Option.{some};
 ghost use Rattle.table.specs.Lent.{table_in};
 ghost use Rattle.table.specs.Refusals.{refusal};
@@ -17,15 +17,15 @@ use table::faults::{Fault, Refusal};
 use table::links::LinkTable;
 use table::{MOST_NODES, NO_ARC};
 
-// The lesser of the length met so far, if any, and an arc's.
+// The lesser of the length met so far, if any, and an arc's, for which std has no one method.
 fn lesser(shortest: Option<u32>, length: u32) -> Option<u32>
     ensures { held result ≡ lesser (held shortest) (some length) }
 {
     Some(shortest.map_or(length, |least| least.min(length)))
 }
 
-// The length of the shortest arc from one node to another, where there is one. Only the arcs out of the first node are looked at, and what is no node has
-// none.
+// The length of the shortest arc from one node to another, where there is one. Only the arcs out of the first node are looked at, along its list as in a scan of
+// crate steps, and what is no node has none.
 fn step_length(linked: &LinkedTable, from: u16, to: u16) -> Option<u32>
     ensures { held result ≡ step_from (table_in linked.now.table) from to }
 {
@@ -62,7 +62,8 @@ fn total(linked: &LinkedTable, list: &[u16]) -> Option<u64>
     }
 }
 
-// Whether the standing list is kept beside a fresh list of this total.
+// Whether the standing list is kept beside a fresh list of this total. The two lists are told apart by name at each call; up to `keeps_standing` what C lends
+// comes one by one.
 fn stays(linked: &LinkedTable, standing: &[u16], fresh: &[u16], most: u64) -> bool
     requires { held (Some most) ≡ lent_total (table_in linked.now.table) fresh.now }
     ensures { result ≡ stays (table_in linked.now.table) standing.now fresh.now }
@@ -133,7 +134,8 @@ pub fn decide(
     }
 }
 
-// Gives the standing list or the fresh one, as `decide` says: one of the two lists that are lent, and never a copy; or the refusal.
+// Gives the standing list or the fresh one, as `decide` says: a part of one of the two lists that are lent, and never a copy. A refusal gives an empty part
+// of the fresh list, so that the list stands beside the Result and not in it.
 pub fn keep_path<'a>(
     n: u32,
     tails: &[u16],
@@ -141,13 +143,13 @@ pub fn keep_path<'a>(
     lengths: &[u32],
     standing: &'a [u16],
     fresh: &'a [u16],
-) -> Result<&'a [u16], Refusal>
-    ensures part { IfOk result (λ part. Part (keeps n tails heads lengths standing fresh) standing.entry fresh.entry part) }
-    ensures told { told result ≡ (let k = keeps n tails heads lengths standing fresh in refusal k.number k.place) }
+) -> (&'a [u16], Result<(), Refusal>)
+    ensures part { Part (keeps n tails heads lengths standing fresh) standing.entry fresh.entry result.0 }
+    ensures told { told result.1 ≡ (let k = keeps n tails heads lengths standing fresh in refusal k.number k.place) }
 {
-    if keeps_standing(n, tails, heads, lengths, standing, fresh)? {
-        Ok(standing)
-    } else {
-        Ok(fresh)
+    match keeps_standing(n, tails, heads, lengths, standing, fresh) {
+        Ok(true) => (standing, Ok(())),
+        Ok(false) => (fresh, Ok(())),
+        Err(refusal) => (&fresh[..0], Err(refusal)),
     }
 }

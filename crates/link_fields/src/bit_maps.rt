@@ -21,6 +21,7 @@ impl From<BitMap> for u8 {
     }
 }
 
+// A bit map has no TryFrom of a byte, since which bits may stand depends on whether the byte is a header's or a record's.
 impl BitMap {
     // The bit map in a byte with no other bits.
     fn in_byte(byte: u8) -> BitMap

@@ -21,7 +21,9 @@ pub struct Field {
     pub next: usize,
 }
 
-// The field of so many bytes at an offset of a part of the file, unless the part ends inside it.
+// The field of so many bytes at an offset of a part of the file, unless the part ends inside it. The number is made by a loop, and not by std's
+// `from_le_bytes`, because the width is a parameter: one field with one proof serves all widths. The part and the offset are handed on side by side,
+// and no slice that begins at the field, since places are offsets of the file.
 pub fn read_field(part: &[u8], from: usize, width: usize) -> Option<Field>
     requires { (from ≤ length part.now) × (width ≤ length_width) }
     ensures { FieldSays result (field width) part.now from width (limit width) }
@@ -59,7 +61,7 @@ pub fn read_optional(
     })
 }
 
-// The output, and how many bytes of it are written so far.
+// The output, and how many bytes of it are written so far. Without a heap there is no Vec: each put asks for the room of what it puts.
 #[derive(Drop)]
 pub struct Output<'a> {
     pub bytes: &'a mut [u8],
@@ -76,7 +78,7 @@ impl<'a> Output<'a> {
         self.end += 1;
     }
 
-    // Puts a number of so many bytes.
+    // Puts a number of so many bytes, by a loop and not by std's `to_le_bytes`, because the width is a parameter, as in `read_field`.
     pub fn field(&mut self, width: usize, value: usize)
         requires { self.old.end + width ≤ length self.old.bytes.now }
         ensures { Puts (bytes width value) self.old self.new }

@@ -1,5 +1,6 @@
 // The link file of a table: reader and writer, over the parts of crates `link_reader` and `link_writer`. Crate `link_format` says what bytes a table has and
-// what reading bytes gives; specs/Entries.antt says what the two entries answer.
+// what reading bytes gives; specs/Entries.antt says what the two entries answer. Their parameters are C's, one by one; `read_table` fills
+// the buffers among them.
 #![tactic(auto)]
 
 ghost use Rattle.std.specs.Prelude.{◌≡◌, ◌≤◌, IfOk};

@@ -75,10 +75,10 @@ pub record WantedGot (file : List ℕ) (from : ℕ) (listed : Bool) (n : ℕ) (w
   pub few : w.count ≤ most_wanted
   -- whether it is all nodes
   pub same : w.all ≡ all_nodes n (wanted_in file w.listed_at n w.count)
-  -- the next offset is near and inside the file, and so are the nodes that are listed
+  -- the next offset is near and inside the file, and the nodes that are listed end there
   pub near : w.next ≤ from + node_width + node_width * most_wanted
   pub inside : w.next ≤ length file
-  pub room : IfSome w.listed_at (λ at. at + node_width * w.count ≤ length file)
+  pub ends : IfSome w.listed_at (λ at. at + node_width * w.count ≡ w.next)
 
 -- the wanted list of a header
 abbrev pub wanted_of : (file : List ℕ) → Header → List ℕ
@@ -92,7 +92,7 @@ pub record HeaderGot (file : List ℕ) (h : Header) : Type 0 where
   -- both counts are in range
   pub nodes : h.n ≤ most_nodes
   pub few : h.wanted ≤ most_wanted
-  -- the first record is near and inside the file, and so are the nodes that are listed
+  -- the first record is near and inside the file, and the nodes that are listed end where it begins
   pub short : h.next ≤ most_header
   pub inside : h.next ≤ length file
-  pub room : IfSome h.listed_at (λ at. at + node_width * h.wanted ≤ length file)
+  pub ends : IfSome h.listed_at (λ at. at + node_width * h.wanted ≡ h.next)

@@ -1,4 +1,5 @@
-// Reading the header: the node count, the origin and the wanted list.
+// Reading the header: the node count, the origin and the wanted list. Each field's answer is taken apart by `let .. else`, as the rules ask, and a
+// cut gets the file's length there.
 ghost use Rattle.std.specs.Prelude.{◌≡◌, ◌+◌, ◌*◌, ◌≤◌, length, drop};
 ghost use Rattle.std.proofs.lemmas.List.Edits.{sets};
 ghost use Rattle.table.specs.Table.{most_nodes, most_wanted};
@@ -121,7 +122,8 @@ pub fn read_header(file: &[u8]) -> Result<Header, Refusal>
     })
 }
 
-// The wanted nodes that a header lists, at the start of a buffer.
+// The wanted nodes that a header lists, at the start of a buffer. They are read once more, as nothing may be filled before the whole file is known to
+// be good; the offset is that of the file.
 fn fill_nodes(file: &[u8], from: usize, count: usize, wanted: &mut [u16])
     requires count_in_bounds { from + node_width * count ≤ length file.now }
     requires count_le_most_wanted { (count ≤ most_wanted) × (most_wanted ≤ length wanted.old) }

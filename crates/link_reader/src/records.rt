@@ -1,4 +1,4 @@
-// Reading the records of arcs.
+// Reading the records of arcs. Each field's answer is taken apart by `let .. else`, as the rules ask, and a cut gets the file's length there.
 ghost use Rattle.std.specs.Prelude.{◌≡◌, ◌≤◌, ◌<◌, length};
 ghost use Rattle.std.proofs.lemmas.List.Edits.{sets};
 ghost use Rattle.link_format.specs.Format.{tails_of, heads_of, lengths_of, most_header, most_file};

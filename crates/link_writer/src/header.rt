@@ -1,4 +1,5 @@
-// Writing the header: the node count, the origin and the wanted list.
+// Writing the header: the node count, the origin and the wanted list. `size` and `write` stand beside one another because the size is known before
+// the first byte is put: a refusal leaves the output as it was.
 ghost use Rattle.std.specs.Prelude.{◌≡◌, ◌+◌, ◌≤◌, length, ◌==◌};
 ghost use Rattle.std.specs.List.{list_all, enumerate_from};
 ghost use Rattle.table.specs.Table.{most_wanted};
@@ -90,7 +91,7 @@ fn write_nodes(output: &mut Output, wanted: &[u16])
     }
 }
 
-// Puts the wanted list where it stands: its count and its nodes.
+// Puts the wanted list where it stands: its count and its nodes. For the flag see `Output::optional`.
 fn write_wanted(output: &mut Output, stands: bool, wanted: &[u16])
     requires { output.old.end + length (wanted_bytes stands wanted.now) ≤ length output.old.bytes.now }
     ensures { Puts (wanted_bytes stands wanted.now) output.old output.new }

@@ -1,4 +1,5 @@
-// Writing the records of arcs.
+// Writing the records of arcs. `record_size` and `write_record` stand beside one another, and so do `records_size` and `write_records`, because the
+// size is known before the first byte is put: a refusal leaves the output as it was.
 ghost use Rattle.std.specs.Prelude.{◌≡◌, ◌*◌, ◌+◌, ◌≤◌, ◌<◌, length};
 ghost use Rattle.std.proofs.Math.Option.{none};
 ghost use Rattle.table.specs.Table.{most_arcs};

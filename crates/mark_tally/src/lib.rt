@@ -14,7 +14,7 @@ pub struct Tally {
 }
 
 impl Tally {
-    // One arc more, by its mark. There are no other marks than these four; another byte is not counted.
+    // One arc more, by its mark, a byte as C reads it. There are no other marks than these four; another byte is not counted.
     #[tactic(auto, unfolding(crate::specs::Tally::tally_of, auction::specs::HandOver::how_many))]
     fn count(&mut self, mark: u8)
         requires { Roomy self.old }

@@ -1,5 +1,5 @@
 // Planning: the refusals of a table, the run, and the four buffers that are handed over; the same to a collector, with tails and heads exchanged; and the
-// run within a limit, which hands over an answer alone.
+// run within a limit, which hands over an answer alone. What C lends comes one by one, up to `check_table` and `Buffers`.
 #![tactic(auto)]
 
 ghost use Rattle.std.specs.Prelude.{◌≡◌, cond, [], ◌∷◌, ℕ, ◌==◌, length};

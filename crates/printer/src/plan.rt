@@ -2,7 +2,7 @@
 use hand_over::Planned;
 
 // A plan that is finished, lent to be printed: its answer, its table's origin, tails and heads, the nodes that have a path line, in order, and the
-// buffers that were filled.
+// buffers that were filled. Nothing is asked of them: a sheet is printed of whatever they hold.
 #[derive(Clone, Copy)]
 pub struct FinishedPlan<'a> {
     pub answer: Planned,

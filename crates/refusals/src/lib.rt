@@ -11,7 +11,7 @@ use table::faults::{Fault, Refusal};
 use table::links::{Columns, LinkTable};
 use table::{MOST_WANTED, check_columns, check_count};
 
-// The lengths of the four buffers of an answer.
+// The lengths of the four buffers of an answer; lengths alone, since who asks for a limit lends no buffers.
 #[derive(Clone, Copy, PartialEq, Eq)]
 pub struct Rooms {
     pub distances: usize,

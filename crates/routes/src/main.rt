@@ -8,10 +8,11 @@ ghost use Rattle.sheet_lines.specs.Room.{line_room};
 ghost use Rattle.input.specs.Lent.{Ready};
 ghost use Rattle.printer.specs.Lines.{Prints};
 
-use input::{MOST_INPUT, PlannedInput, Room};
+use input::{MOST_INPUT, PlannedInput, Workspace};
 use printer::{Cursor, FinishedPlan};
 use table::{MOST_ARCS, MOST_NODES, MOST_WANTED};
 
+// The system's numbers of the two streams.
 const STANDARD_INPUT: i32 = 0;
 
 const STANDARD_OUTPUT: i32 = 1;
@@ -31,33 +32,33 @@ fn print_pieces(input: &[u8], plan: &FinishedPlan, out: &mut [u8])
 }
 
 // Puts the path lines of an input's plan in order, and prints its sheet.
-fn print_plan(input: &[u8], planned: PlannedInput, room: &Room)
-    requires { Ready input.now planned room.now }
+fn print_plan(input: &[u8], planned: PlannedInput, lent: &Workspace)
+    requires { Ready input.now planned lent.now }
 {
     let read = planned.read;
     let n = read.n as usize;
     let m = read.arcs as usize;
     let w = read.wanted as usize;
     let mut order = [0u16; MOST_WANTED];
-    let k = path_order::order_paths(&room.distances[..n], &room.wanted[..w], &mut order);
+    let k = path_order::order_paths(&lent.distances[..n], &lent.wanted[..w], &mut order);
     let plan = FinishedPlan {
         answer: planned.answer,
         origin: read.origin,
-        tails: &room.tails[..m],
-        heads: &room.heads[..m],
+        tails: &lent.tails[..m],
+        heads: &lent.heads[..m],
         order: &order[..k],
-        distances: &room.distances[..n],
-        prices: &room.prices[..n],
-        tree: &room.tree[..n],
-        marks: &room.marks[..m],
+        distances: &lent.distances[..n],
+        prices: &lent.prices[..n],
+        tree: &lent.tree[..n],
+        marks: &lent.marks[..m],
     };
     let mut out = io::large_buffer();
     print_pieces(input, &plan, &mut out);
 }
 
-// Reads and plans the input, and prints its sheet.
+// Reads and plans the input, and prints its sheet. Without a heap there is room for every table.
 fn print_input(input: &[u8]) {
-    let mut room = Room {
+    let mut lent = Workspace {
         tails: &mut [0; MOST_ARCS],
         heads: &mut [0; MOST_ARCS],
         lengths: &mut [0; MOST_ARCS],
@@ -67,8 +68,8 @@ fn print_input(input: &[u8]) {
         tree: &mut [0; MOST_NODES],
         marks: &mut [0; MOST_ARCS],
     };
-    let planned = room.plan_input(input);
-    print_plan(input, planned, &room);
+    let planned = lent.plan_input(input);
+    print_plan(input, planned, &lent);
 }
 
 // One byte more than the longest input shows that an input is longer.

@@ -14,10 +14,10 @@ use mark_tally::Tally;
 use text::Line;
 
 // What every line has room in: a number takes at most 20 bytes, and a path at most 1,024 numbers, each after a space. Each function asks for that
-// room itself: a type that had it would hold the `&mut`, and its callers would make one for every call.
+// room itself, as each begins a line of its own in what is lent. A line's words stand in its function, where they read as the line does.
 pub const LINE_ROOM: usize = 32768;
 
-// The line of a refusal: its number and its place.
+// The line of a refusal: its number and its place, as they are printed.
 pub fn put_refused(number: u32, place: u32, out: &mut [u8]) -> usize
     requires { line_room ≤ length out.old }
     ensures { PutsLine (refused_line number place) out result }

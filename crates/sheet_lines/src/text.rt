@@ -11,7 +11,7 @@ use table::NO_ARC;
 // The most digits a number has.
 const MOST_DIGITS: usize = 20;
 
-// The buffer, and how many bytes of it the line has so far.
+// The buffer, and how many bytes of it the line has so far; there is no heap for a Vec. Each method asks for the room of what it puts.
 #[derive(Drop)]
 pub struct Line<'a> {
     pub out: &'a mut [u8],

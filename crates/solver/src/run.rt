@@ -14,10 +14,10 @@ use steps::state::{NO_NODE, Node, Progress, RunEnd};
 use steps::steps::{extend, step};
 use table::links::LinkTable;
 
-// A limit that no price is above.
+// A limit that no price is above; a number, so that the loop has one test for a plan and for a limit.
 pub const NO_LIMIT: u64 = u64::MAX;
 
-// The index of the first wanted node, from an index on, that has not been reached.
+// The index of the first wanted node, from an index on, that has not been reached, or their number: the search goes on from it.
 fn first_unreached(from: usize, wanted: &[u16], nodes: &[Node]) -> usize
     requires { (from ≤ length wanted.now) × ((k : ℕ) → k < length wanted.now → get_or wanted.now k 0 < length nodes.now) }
     ensures { FirstFrom from wanted.now (statuses_in nodes.now) result }

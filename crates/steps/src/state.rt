@@ -6,7 +6,7 @@ ghost use Rattle.steps.specs.Seen.{status_number, first_of, held};
 
 use table::{MOST_NODES, NO_ARC, NO_DISTANCE};
 
-// What a node remembers where it has to scan; a number and no Option, for the size of a node.
+// What a node remembers where it has to scan; a number, as the node's other entries that may be missing (see `Node`).
 pub const NO_NODE: u16 = 65535;
 
 // Whether a node has been reached, and deleted since.
@@ -18,7 +18,7 @@ pub enum Status {
 }
 
 impl Status {
-    // A deleted node has been reached before.
+    // A deleted node has been reached before. By its arms, and not by a derived ==, since the contract says which number of the auction each status is.
     pub fn was_reached(self) -> bool
         ensures { result ≡ ltb unreached (status_number self) }
     {
@@ -39,7 +39,8 @@ impl Status {
 }
 
 // A node: its price, its bound, the position of its kept arc, the child that it remembers and its status. Positions and nodes that are not there are told
-// by NO_ARC, NO_DISTANCE and NO_NODE, as in the columns that are handed over: an Option would make each node a third larger.
+// by NO_ARC, NO_DISTANCE and NO_NODE, as in the columns that are handed over, which are filled from here: an Option would be taken apart into the same
+// numbers there.
 #[derive(Clone, Copy)]
 pub struct Node {
     pub price: u64,
@@ -70,7 +71,7 @@ pub struct Progress {
 }
 
 // Where a run has ended: the index of the first wanted node that was not reached, which is their number where all were; the scans and
-// the other counts. The index is no Option, since the search for a missing node goes on from it, as the auction's definition of it does.
+// the other counts. The index is no Option: the auction's definition has their number too, and each caller asks whether it is their number.
 #[derive(Clone, Copy)]
 pub struct RunEnd {
     pub missing: usize,
@@ -80,7 +81,8 @@ pub struct RunEnd {
 
 // The path from the origin on, with room for the most nodes, as many as the progress says; the nodes; the progress. Without a heap both have room for
 // every table. The functions of a run take the three one by one, not as one struct by `&mut`: each is lent just what it writes, so that what it cannot
-// write needs no clause, and the counts stay out of memory.
+// write needs no clause. What a step relies on of them (that the node before the terminal one can be looked up, that numbers are small) is of values that
+// change from step to step, so it stands in the contracts.
 #[derive(Drop)]
 pub struct RunState {
     pub path: [u16; MOST_NODES],

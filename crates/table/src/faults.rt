@@ -45,7 +45,7 @@ impl Fault {
         self as u32
     }
 
-    // The refusal at a place, which is 0 where none is named.
+    // The refusal at a place, which is 0 where the rules name none.
     pub fn at(self, place: usize) -> Refusal
         requires { place < 2 ^ 32 }
         ensures { tells result ≡ refusal (number self) place }

@@ -2,7 +2,7 @@
 ghost use Rattle.std.specs.Prelude.{◌≡◌, true, ◌≤◌, length};
 ghost use Rattle.table.specs.Table.{most_arcs, table_of, is_table};
 
-// The columns, as many heads and lengths as tails, and no more than a table has.
+// The columns, as C lends them: as many heads and lengths as tails, and no more than a table has.
 #[derive(Clone, Copy)]
 pub struct Columns<'a> {
     pub tails: &'a [u16],

@@ -25,7 +25,7 @@ loop-v-preserved c =
     (omega (arith, l.invariant.0, c.entry-count.ensures, one), omega (arith, more, c.entry-count.ensures))
 
 pub returns : goal.returns
-returns c = λ t path g e.
+returns c = λ t path price g e.
     let ns = c.args.nodes.now in
     let l = c.loop-v in
-    l.invariant.1 ∙ ap sum (all_entries (length ns) l.v (reached_entry ns) c.loop-v-test.false) ∙ count_so path ns g t e
+    l.invariant.1 ∙ ap sum (all_entries (length ns) l.v (reached_entry ns) c.loop-v-test.false) ∙ count_so ns path price g t e

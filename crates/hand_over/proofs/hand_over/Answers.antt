@@ -15,7 +15,7 @@ use Rattle.hand_over.proofs.hand_over.Goals as goal
 
 pub returns-clause-answer : goal.returns-clause-answer
 unfolding answered iterations seen state refusal
-returns-clause-answer c = λ t ws path nodes held wanted ran routed.
+returns-clause-answer c = λ t ws path price nodes held wanted ran routed.
     let a = c.args in
     let ns = a.nodes.now in
     let g = a.end.progress in
@@ -30,10 +30,10 @@ returns-clause-answer c = λ t ws path nodes held wanted ran routed.
     λ i h. search (rules, c.fill-4.ensures i 0 (omega arith)) in
     assembled t ws a.end.missing a.end.scans _ ran (rw wanted routed) (refusal c.told-number.result.0 c.told-number.result.1) _ _ _ _ _ _ _ _ _ _
     (rw wanted (c.told-number.ensures ∙ c.route.ensures))
-    (c.count_reached.ensures t path g nodes)
-    (c.horizon_of-horizon.ensures.so t path g nodes) refl refl refl refl
-    (column_so _ _ _ (omega arith) d ∙ distances_so path ns g c.requires.known t nodes)
+    (c.count_reached.ensures t path price g nodes)
+    (c.horizon_of-horizon.ensures.so t path price g nodes) refl refl refl refl
+    (column_so _ _ _ (omega arith) d ∙ distances_so ns path price g c.requires.known t nodes)
     (column_so _ _ _ (omega arith) p
-    ∙ prices_so path ns g c.requires.known t horizon nodes (c.horizon_of-horizon.ensures.so t path g nodes))
-    (column_so _ _ _ (omega arith) k ∙ tree_so path ns g t nodes)
-    (column_so _ _ _ (omega arith) m ∙ marks_so path ns g t a.columns c.requires.arc_ends held)
+    ∙ prices_so ns path price g c.requires.known t horizon nodes (c.horizon_of-horizon.ensures.so t path price g nodes))
+    (column_so _ _ _ (omega arith) k ∙ tree_so ns path price g t nodes)
+    (column_so _ _ _ (omega arith) m ∙ marks_so ns path price g t a.columns c.requires.arc_ends held)

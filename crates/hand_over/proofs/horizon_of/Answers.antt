@@ -28,8 +28,8 @@ all : (c : After-loop-v) → c.loop-v.horizon ≡ greatest (entries (length c.ar
 all c = c.loop-v.invariant.1 ∙ ap greatest (all_entries (length c.args.nodes.now) c.loop-v.v (distance_entry 0 c.args.nodes.now) c.loop-v-test.false)
 
 pub returns-clause-so : goal.returns-clause-so
-returns-clause-so c = λ t path g e.
-    all (goal.at.returns-clause-so c).After-loop-v ∙ horizon_so path c.args.nodes.now g c.requires t e
+returns-clause-so c = λ t path price g e.
+    all (goal.at.returns-clause-so c).After-loop-v ∙ horizon_so c.args.nodes.now path price g c.requires t e
 
 pub returns-clause-above : goal.returns-clause-above
 returns-clause-above c = below_horizon c.args.nodes.now _ (all (goal.at.returns-clause-above c).After-loop-v)

@@ -36,7 +36,7 @@ wanted_absent file from n fits few =
       few = few;
       near = omega arith;
       inside = fits;
-      room = tt;
+      ends = tt;
     }
 
 module _ (file : List ℕ) (from n : ℕ) where
@@ -69,7 +69,7 @@ module _ (file : List ℕ) (from n : ℕ) where
             few = few;
             near = omega (arith, got_nodes.on, counted.near);
             inside = got_nodes.inside;
-            room = omega (arith, got_nodes.on, got_nodes.inside);
+            ends = on;
           }
 
 pub header_empty : (file : List ℕ) → length file ≡ 0 → read_header 0 file ≡ refused 9 0
@@ -126,5 +126,5 @@ module _ (file : List ℕ) (some : 0 < length file) where
                   few = wanted.few;
                   short = omega (arith, nodes.near, origin.near, wanted.near);
                   inside = wanted.inside;
-                  room = wanted.room;
+                  ends = wanted.ends;
                 }

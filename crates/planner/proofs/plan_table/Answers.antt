@@ -6,7 +6,7 @@ use Rattle.std.proofs.Common.{rules}
 use Rattle.table.specs.Lent.{table_in}
 use Rattle.auction.specs.Auction.{iterations, state}
 use Rattle.forward_star.proofs.Columns.{nodes_are}
-use Rattle.steps.specs.Seen.{seen, run_of}
+use Rattle.steps.specs.Seen.{seen, run_of, prices_in}
 use Rattle.hand_over.specs.Answered.{answered_in}
 use Rattle.hand_over.specs.ReadOff.{Fitting, HandsOver}
 use Rattle.planner.proofs.Planning.{ran_unlimited, routed_so, known_so, place_low, ends_so, arcs_held, given_back}
@@ -35,5 +35,5 @@ returns-clause-answer c =
     let left = c.run_fresh.new.answer.1.now in
     let over : HandsOver end (length l.wanted.now) l.columns nodes (answered_in c.run_fresh.result left) = search rules in
     given_back c.run_fresh.result left
-    (over (table_in l) l.wanted.now ends.path (nodes_are l ∙ sym ends.many) (arcs_held l) refl ran (routed_so l.good ran))
+    (over (table_in l) l.wanted.now ends.path (prices_in nodes) (nodes_are l ∙ sym ends.many) (arcs_held l) refl ran (routed_so l.good ran))
     (search rules) (search rules) (search rules) (search rules)

@@ -1,4 +1,4 @@
--- `input::Room::read_input` meets its contract: too long an input is refused, and another one is read. Assumes nothing.
+-- `input::Workspace::read_input` meets its contract: too long an input is refused, and another one is read. Assumes nothing.
 use mathlib.Core.Path.{ap, ◌∙◌}
 use Rattle.std.proofs.Common.{rules}
 use Rattle.table.specs.Table.{Below}
@@ -8,7 +8,7 @@ use Rattle.link_format.specs.Format.{content}
 use Rattle.link_file.specs.Entries.{read_answer}
 use Rattle.link_file.proofs.EntryTrips.{answers_fit}
 use Rattle.input.proofs.Planning.{input_too_long, input_read}
-use Rattle.input.proofs.Room.read_input.Goals as goal
+use Rattle.input.proofs.Workspace.read_input.Goals as goal
 
 pub returns-then-input-gt-MOST_INPUT-clause-reads : goal.returns-then-input-gt-MOST_INPUT-clause-reads
 returns-then-input-gt-MOST_INPUT-clause-reads c =

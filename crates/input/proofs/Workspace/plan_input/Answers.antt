@@ -1,7 +1,7 @@
--- `input::Room::plan_input` meets its contract: what was read is planned, and what is printed of it is printed of the input. Assumes nothing.
+-- `input::Workspace::plan_input` meets its contract: what was read is planned, and what is printed of it is printed of the input. Assumes nothing.
 use Rattle.sheet.specs.Printed.{read_input, printed}
 use Rattle.input.proofs.Planning.{input_refuses_well}
-use Rattle.input.proofs.Room.plan_input.Goals as goal
+use Rattle.input.proofs.Workspace.plan_input.Goals as goal
 
 pub returns-clause-ready : goal.returns-clause-ready
 unfolding printed
