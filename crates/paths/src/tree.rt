@@ -20,7 +20,7 @@ impl Tree<'_> {
     ghost use Rattle.paths.specs.Trees.{tree_of, path_to, size};
 
     // The node before a node, where the node's entry leads back: it is an arc that leads into the node, out of a node below n.
-    pub fn node_before(&self, node: u16) -> Option<u16>
+    pub(crate) fn node_before(&self, node: u16) -> Option<u16>
         requires { node < length self.now.column.now }
         ensures { result ≡ (if leads_back (tree_of self.now) node then Some (node_before (tree_of self.now) node) else None) }
     {
@@ -34,7 +34,7 @@ impl Tree<'_> {
     }
 
     // How many nodes the path to a node has, where the tree column leads back to the origin.
-    pub fn count_nodes(&self, node: u16) -> Option<usize>
+    pub(crate) fn count_nodes(&self, node: u16) -> Option<usize>
         requires { node < length self.now.column.now }
         ensures { result ≡ size (path_to self.now node) }
     {
@@ -49,7 +49,7 @@ impl Tree<'_> {
     }
 
     // Writes the path's nodes, from the node back to the origin.
-    pub fn write_back(&self, node: u16, nodes: &mut [u16])
+    pub(crate) fn write_back(&self, node: u16, nodes: &mut [u16])
         requires node_in_bounds { node < length self.now.column.now }
         requires count { size (path_to self.now node) ≡ Some (length nodes.old) }
         ensures { nodes.new ≡ reverse (nodes_of (path_to self.now node)) }

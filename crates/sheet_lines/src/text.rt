@@ -1,4 +1,5 @@
-// A line that is put together at the start of a buffer, from texts and numbers: no contract says which bytes std's fmt writes.
+// A line that is put together at the start of a buffer, from texts and numbers. What std's fmt writes is promised where it says Ok, and no contract says that
+// it does. An `Output` of a link file is something else: of a line only what the buffer begins with is told (`Extends`), and the rest may be anything.
 ghost use Rattle.std.specs.Prelude.{◌≡◌, ◌++◌, ◌+◌, ◌≤◌, length};
 ghost use Rattle.table.specs.Table.{most_nodes};
 ghost use Rattle.sheet.specs.Text.{decimal};
@@ -20,7 +21,7 @@ pub struct Line<'a> {
 
 impl<'a> Line<'a> {
     // Puts a text behind what the line has.
-    pub fn text(&mut self, text: &[u8])
+    pub(crate) fn text(&mut self, text: &[u8])
         requires { self.old.end + length text.now ≤ length self.old.out.now }
         ensures puts { Puts text.now self.old self.new }
         ensures long { self.new.end ≡ self.old.end + length text.now }
@@ -30,8 +31,8 @@ impl<'a> Line<'a> {
         self.end = next;
     }
 
-    // Puts a number in decimal.
-    pub fn number(&mut self, n: u64)
+    // Puts a number in decimal: the kit's digits, of which it answers how many there are.
+    pub(crate) fn number(&mut self, n: u64)
         requires { self.old.end + most_digits ≤ length self.old.out.now }
         ensures puts { Puts (decimal n) self.old self.new }
         ensures long { self.new.end ≤ self.old.end + most_digits }
@@ -42,7 +43,7 @@ impl<'a> Line<'a> {
     }
 
     // Puts a text and then a number in decimal.
-    pub fn field(&mut self, name: &[u8], n: u64)
+    pub(crate) fn field(&mut self, name: &[u8], n: u64)
         requires { self.old.end + (length name.now + most_digits) ≤ length self.old.out.now }
         ensures puts { Extends (λ with. with ++ name.now ++ decimal n) self.old self.new }
         ensures long { self.new.end ≤ self.old.end + (length name.now + most_digits) }
@@ -53,7 +54,7 @@ impl<'a> Line<'a> {
 
     // Puts an arc's position, or "-" where there is no arc.
     #[tactic(auto, unfolding(sheet::specs::Sheet::arc_text))]
-    pub fn arc(&mut self, arc: u16)
+    pub(crate) fn arc(&mut self, arc: u16)
         requires { self.old.end + most_digits ≤ length self.old.out.now }
         ensures puts { Puts (arc_text arc) self.old self.new }
         ensures long { self.new.end ≤ self.old.end + most_digits }
@@ -66,7 +67,7 @@ impl<'a> Line<'a> {
     }
 
     // Puts the numbers of nodes, each after a space.
-    pub fn spaced(&mut self, nodes: &[u16])
+    pub(crate) fn spaced(&mut self, nodes: &[u16])
         requires nodes_len_bound { length nodes.now ≤ most_nodes }
         requires most_path_in_bounds { self.old.end + most_path ≤ length self.old.out.now }
         ensures puts { PutsSpaced nodes.now self.old self.new }
