@@ -11,7 +11,7 @@ ghost use Rattle.forward_star.specs.Lists.{Tails, Linked};
 use table::DOWN;
 
 // Links the arcs that leave the same node in table order, from the last arc to the first. An arc whose link is down is left out.
-// The heads are not read, so what is taken is the two columns that are.
+// The heads are not read, so what is taken is the two columns that are. The loop is over positions, since a position is what is stored.
 pub fn link_arcs(tails: &[u16], lengths: &[u32], first: &mut [u16], next: &mut [u16])
     requires next_len { (length next.old ≡ length tails.now) × ((length lengths.now ≡ length tails.now) × (length tails.now ≤ most_arcs)) }
     requires tails_in { (i : ℕ) → i < length tails.now → get_or tails.now i 0 < length first.old }

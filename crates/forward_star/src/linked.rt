@@ -18,7 +18,8 @@ pub struct LinkedTable<'a> {
     ghost listed: { IsStarOf (table_in table) star },
 }
 
-// Links the arcs of a table, and hands it on with its forward star. Without a heap the lists have room for every table. The call is through a `&mut`, so that what it changes is known after it.
+// Links the arcs of a table, and hands it on with its forward star. Without a heap the lists have room for every table. The call is through a
+// `&mut`, so that what it changes is known after it.
 pub fn with_star<T, F: FnMut(&LinkedTable) -> T>(table: &LinkTable, then: &mut F) -> T
     requires { (l : LinkedTable) → l.table ≡ table.now → TakesAt F.FnMut then.old l }
     ensures { (l : LinkedTable) × (l.table ≡ table.now) × CalledAt F.FnMut then.old l result then.new }

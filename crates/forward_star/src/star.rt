@@ -4,7 +4,7 @@ ghost use Rattle.forward_star.specs.Lists.{star, SomeTable};
 use table::links::Columns;
 
 // The forward star of some table, with the column of tails: for each node its first outgoing arc, for each arc the next one that leaves the same node. Both
-// are positions, since there is no heap for a list of each node's own.
+// are positions, since there is no heap for a list of each node's own, and NO_ARC where there is none: an Option of a position takes twice its room.
 #[derive(Clone, Copy)]
 pub struct ForwardStar<'a> {
     pub columns: Columns<'a>,

@@ -20,8 +20,8 @@ pub struct PlannedInput {
     pub answer: Planned,
 }
 
-// Plans what was read: of each column the start that reading filled, with as much of each buffer as the table needs. The refusal of a file, where its
-// number is not 0, as the reader's entry tells C, is the answer. The eight come as slices, the columns by `&mut` too and left as they are: of a field's
+// Plans what was read: of each column the start that reading filled, with as much of each buffer as the table needs. The refusal of a file is the answer: its
+// number is not 0, since `read` is what `read_link_file` answers, to C and here. The eight come as slices, the columns by `&mut` too and left as they are: of a field's
 // slice that was lent by `&` no proof knows afterwards what it holds.
 fn plan_read(
     read: TableRead,
@@ -60,7 +60,8 @@ fn plan_read(
     )
 }
 
-// The columns of a table and the buffers of a plan, lent with room for every table.
+// The columns of a table and the buffers of a plan, lent with room for every table. The four buffers are no `Buffers`: with room for every table they are
+// longer than an answer, and `plan_routes` takes of each the part that fits.
 #[derive(Drop)]
 pub struct Workspace<'a> {
     pub tails: &'a mut [u16],

@@ -106,7 +106,7 @@ fn keeps_standing(
 }
 
 // Decides which of two lists of nodes is kept: the standing one where it is still a walk between the fresh one's first and last node and its total is no
-// greater, otherwise the fresh one. The answer says how many nodes of which list are given.
+// greater, otherwise the fresh one. The answer says how many nodes of which list are given; each arm is a whole answer.
 pub fn decide(
     n: u32,
     tails: &[u16],

@@ -10,8 +10,8 @@ use table::MOST_NODES;
 
 impl FinishedPlan<'_> {
     // The next piece of the sheet, from a cursor on, at the start of a buffer with room for a line: line after line, while there is room for any
-    // line. None where there is no line any more. Lines are of any
-    // length, so that no index is counted; without a heap a path is listed in an array of its own.
+    // line. None where there is no line any more. Lines are of any length, so that the loop counts none; without a heap a path is listed in an
+    // array of its own.
     pub fn next_piece(&self, cursor: Cursor, out: &mut [u8]) -> Option<Piece>
         requires { line_room ≤ length out.old }
         ensures { Continues (printing self.now) cursor result out.new }

@@ -29,7 +29,8 @@ pub enum Cursor {
     End,
 }
 
-// One line or more, put at the start of a buffer: how many bytes they have, and the cursor of the line behind them.
+// One line or more, put at the start of a buffer: how many bytes they have, and the cursor of the line behind them. A count and no slice, since the next
+// line goes behind them in the same buffer.
 #[derive(Clone, Copy)]
 pub struct Piece {
     pub count: usize,

@@ -12,7 +12,7 @@ use input::{MOST_INPUT, PlannedInput, Workspace};
 use printer::{Cursor, FinishedPlan};
 use table::{MOST_ARCS, MOST_NODES, MOST_WANTED};
 
-// The system's numbers of the two streams.
+// The system's numbers of the two streams, as the kit's `io` takes them.
 const STANDARD_INPUT: i32 = 0;
 
 const STANDARD_OUTPUT: i32 = 1;

@@ -1,4 +1,5 @@
-// The run: iterations until every wanted node has been reached, the origin's price is above a limit, or the origin has no children.
+// The run: iterations until every wanted node has been reached, the origin's price is above a limit, or the origin has no children. The path and the nodes
+// are lent one by one, as in a step (see `RunState`), so that each function asks for their length itself.
 ghost use Rattle.std.specs.Prelude.{◌≡◌, List, ℕ, ◌≤◌, ◌<◌, length, get_or};
 ghost use Rattle.table.specs.Lent.{table_in};
 ghost use Rattle.auction.specs.Auction.{fresh, start};
@@ -17,7 +18,8 @@ use table::links::LinkTable;
 // A limit that no price is above; a number, so that the loop has one test for a plan and for a limit.
 pub const NO_LIMIT: u64 = u64::MAX;
 
-// The index of the first wanted node, from an index on, that has not been reached, or their number: the search goes on from it.
+// The index of the first wanted node, from an index on, that has not been reached, or their number. The index is the answer, and no
+// Option: the search goes on from it.
 fn first_unreached(from: usize, wanted: &[u16], nodes: &[Node]) -> usize
     requires { (from ≤ length wanted.now) × ((k : ℕ) → k < length wanted.now → get_or wanted.now k 0 < length nodes.now) }
     ensures { FirstFrom from wanted.now (statuses_in nodes.now) result }

@@ -18,7 +18,8 @@ pub struct LeastBid {
     pub arc: u16,
 }
 
-// The lower of the bids met so far and the one over the arc at a position, where that leads to a child.
+// The lower of the bids met so far and the one over the arc at a position, where that leads to a child. Not by an order of bids: among equals the one that
+// was met first stays, whatever its position.
 fn lower_bid(
     least: Option<LeastBid>,
     position: u16,
@@ -47,7 +48,8 @@ fn lower_bid(
 }
 
 // A scan: the least bid of a node's children, the lowest position among equals. Only the node's own arcs are looked at: the loop follows their list from
-// position to position, which an Iterator of our own would say in more lines, with a law of its own.
+// position to position. So do `offer_arcs` and keeper's `step_length`; it is three lines in each, and an Iterator of our own, with its law and with what a
+// `for` knows of it, would be no plainer.
 pub fn least_bid(v: usize, star: &ForwardStar, nodes: &[Node]) -> Option<LeastBid>
     requires nodes_len { length nodes.now ≡ length star.now.first.now }
     requires v_in_bounds { (v < length star.now.first.now) × ((u : ℕ) → get_or (prices_in nodes.now) u 0 ≤ greatest_sum) }

@@ -13,7 +13,7 @@ use forward_star::star::ForwardStar;
 use table::NO_ARC;
 
 // Whether a bound offered by the arc at a position is to be kept: it is smaller, or equal and from a lower position. A node that has
-// no bound takes any.
+// no bound takes any. Not by the order of pairs: at an equal bound a node that keeps no arc takes none.
 fn improves(offered: u64, position: u16, bound: u64, kept: u16) -> bool
     requires { offered < no_distance }
     ensures { result ≡ improves offered position (bound_of bound) (arc_of kept) }

@@ -39,6 +39,7 @@ pub enum Fault {
 }
 
 impl Fault {
+    // A method and no From, so that where it is called it says that this is the number.
     pub fn number(self) -> u32
         ensures { result ≡ number self }
     {
