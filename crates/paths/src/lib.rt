@@ -18,7 +18,7 @@ ghost use Rattle.paths.specs.Back.{ListsBack};
 
 use listing::Listed;
 use table::faults::{Fault, Refusal};
-use table::{bad_columns, check_count};
+use table::{bad_columns, check_count, check_node};
 use tree::Tree;
 
 // 1, 2, 4 and 5: the tree, of which the origin and the node are nodes.
@@ -38,12 +38,8 @@ fn check_tree<'a>(
     if bad_columns(tails.len(), heads.len(), heads.len()) {
         return Err(Fault::Columns.at(0));
     }
-    if n <= usize::from(origin) {
-        return Err(Fault::Origin.at(0));
-    }
-    if n <= usize::from(node) {
-        return Err(Fault::Wanted.at(0));
-    }
+    check_node(n, origin, Fault::Origin)?;
+    check_node(n, node, Fault::Wanted)?;
     Ok(Tree {
         origin,
         tails,

@@ -1,7 +1,7 @@
 // The refusals 1 to 7 of a table, in the order in which they are tested.
 #![tactic(auto)]
 
-ghost use Rattle.std.specs.Prelude.{◌≡◌, not, cond, leb, length, IfOk, MatchOption};
+ghost use Rattle.std.specs.Prelude.{◌≡◌, not, cond, length, IfOk, MatchOption};
 ghost use Rattle.table.specs.Table.{arc, arcs_of};
 ghost use Rattle.table.specs.Refusals.{refusal, no_refusal, rooms_fit, arc_fault, arcs_refusal, wanted_refusal, table_refusal};
 ghost use Rattle.table.specs.Told.{number, told};
@@ -9,7 +9,7 @@ ghost use Rattle.refusals.specs.Lent.{lent_rooms};
 
 use table::faults::{Fault, Refusal};
 use table::links::{Columns, LinkTable};
-use table::{MOST_WANTED, check_columns, check_count};
+use table::{MOST_WANTED, check_columns, check_count, check_node};
 
 // The lengths of the four buffers of an answer; lengths alone, since who asks for a limit lends no buffers.
 #[derive(Clone, Copy, PartialEq, Eq)]
@@ -40,16 +40,6 @@ fn check_rooms(nodes: usize, arcs: usize, lent: Rooms) -> Result<(), Refusal>
 {
     if lent != Rooms::needed(nodes, arcs) {
         return Err(Fault::Buffers.at(0));
-    }
-    Ok(())
-}
-
-// 4: the origin is a node.
-fn check_origin(n: usize, origin: u16) -> Result<(), Refusal>
-    ensures { told result ≡ cond (leb n origin) (refusal 4 0) no_refusal }
-{
-    if n <= usize::from(origin) {
-        return Err(Fault::Origin.at(0));
     }
     Ok(())
 }
@@ -113,7 +103,7 @@ pub fn check_table<'a>(
     check_count(n)?;
     let columns = check_columns(tails, heads, lengths)?;
     check_rooms(n, tails.len(), lent)?;
-    check_origin(n, origin)?;
+    check_node(n, origin, Fault::Origin)?;
     check_wanted(n, wanted)?;
     check_arcs(n, columns)?;
     Ok(LinkTable {

@@ -5,9 +5,9 @@
 pub mod faults;
 pub mod links;
 
-ghost use Rattle.std.specs.Prelude.{◌≡◌, cond, ◌<◌, length, IfOk};
+ghost use Rattle.std.specs.Prelude.{◌≡◌, cond, leb, ◌<◌, length, IfOk};
 ghost use Rattle.table.specs.Refusals.{no_refusal, refusal, count_bad, columns_bad};
-ghost use Rattle.table.specs.Told.{told};
+ghost use Rattle.table.specs.Told.{number, told};
 
 use faults::{Fault, Refusal};
 use links::Columns;
@@ -73,4 +73,14 @@ pub fn check_columns<'a>(
         heads,
         lengths,
     })
+}
+
+// 4, and 5 of a single wanted node: the node is below n. The fault says which of the two it is; its place is 0.
+pub fn check_node(n: usize, node: u16, fault: Fault) -> Result<(), Refusal>
+    ensures { told result ≡ cond (leb n node) (refusal (number fault) 0) no_refusal }
+{
+    if n <= usize::from(node) {
+        return Err(fault.at(0));
+    }
+    Ok(())
 }

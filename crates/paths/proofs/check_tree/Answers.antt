@@ -16,13 +16,30 @@ pub returns-then-bad_columns-clause-told : goal.returns-then-bad_columns-clause-
 unfolding early_number refusal no_refusal count_bad columns_bad
 returns-then-bad_columns-clause-told c = grind (arith, nat_tests, common_steps, c.in_ok-check_count.ensures)
 
-pub returns-then-n-from-clause-told : goal.returns-then-n-from-clause-told
+pub returns-in_err-check_node-clause-told : goal.returns-in_err-check_node-clause-told
 unfolding early_number refusal no_refusal count_bad columns_bad
-returns-then-n-from-clause-told c = grind (arith, nat_tests, common_steps, c.in_ok-check_count.ensures)
+returns-in_err-check_node-clause-told c =
+    grind (
+      arith,
+      nat_tests,
+      common_steps,
+      handed_out _ _ c.from_residual-in_err-check_node.ensures.1,
+      c.in_ok-check_count.ensures,
+      c.in_err-check_node.ensures,
+    )
 
-pub returns-then-n-from-2-clause-told : goal.returns-then-n-from-2-clause-told
+pub returns-in_err-check_node-2-clause-told : goal.returns-in_err-check_node-2-clause-told
 unfolding early_number refusal no_refusal count_bad columns_bad
-returns-then-n-from-2-clause-told c = grind (arith, nat_tests, common_steps, c.in_ok-check_count.ensures)
+returns-in_err-check_node-2-clause-told c =
+    grind (
+      arith,
+      nat_tests,
+      common_steps,
+      handed_out _ _ c.from_residual-in_err-check_node-2.ensures.1,
+      c.in_ok-check_count.ensures,
+      c.in_ok-check_node.ensures,
+      c.in_err-check_node-2.ensures,
+    )
 
 pub invariant_of-result : goal.invariant_of-result
 unfolding refusal no_refusal count_bad columns_bad
@@ -33,4 +50,9 @@ invariant_of-result c = record {
 
 pub returns-clause-told : goal.returns-clause-told
 unfolding early_number refusal no_refusal count_bad columns_bad
-returns-clause-told c = grind (arith, nat_tests, common_steps, c.in_ok-check_count.ensures)
+returns-clause-told c =
+    grind (arith, nat_tests, common_steps, c.in_ok-check_count.ensures, c.in_ok-check_node.ensures, c.in_ok-check_node-2.ensures)
+
+pub returns-clause-node : goal.returns-clause-node
+unfolding refusal no_refusal
+returns-clause-node c = grind (arith, nat_tests, common_steps, c.in_ok-check_node-2.ensures)

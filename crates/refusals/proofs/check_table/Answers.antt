@@ -26,12 +26,12 @@ returns-in_err-check_rooms-clause-told c =
     (ends _ _ _ _ c.from_residual-in_err-check_rooms.ensures.1 c.in_err-check_rooms.ensures))
     ∙ in_order _ _ _ _ _ _ _
 
-pub returns-in_err-check_origin-clause-told : goal.returns-in_err-check_origin-clause-told
-returns-in_err-check_origin-clause-told c =
+pub returns-in_err-check_node-clause-told : goal.returns-in_err-check_node-clause-told
+returns-in_err-check_node-clause-told c =
     goes_on c.in_ok-check_count.ensures
     (goes_on c.in_ok-columns.ensures.told
     (goes_on c.in_ok-check_rooms.ensures
-    (ends _ _ _ _ c.from_residual-in_err-check_origin.ensures.1 c.in_err-check_origin.ensures)))
+    (ends _ _ _ _ c.from_residual-in_err-check_node.ensures.1 c.in_err-check_node.ensures)))
     ∙ in_order _ _ _ _ _ _ _
 
 pub returns-in_err-check_wanted-clause-told : goal.returns-in_err-check_wanted-clause-told
@@ -39,7 +39,7 @@ returns-in_err-check_wanted-clause-told c =
     goes_on c.in_ok-check_count.ensures
     (goes_on c.in_ok-columns.ensures.told
     (goes_on c.in_ok-check_rooms.ensures
-    (goes_on c.in_ok-check_origin.ensures
+    (goes_on c.in_ok-check_node.ensures
     (ends _ _ _ _ c.from_residual-in_err-check_wanted.ensures.1 c.in_err-check_wanted.ensures))))
     ∙ in_order _ _ _ _ _ _ _
 
@@ -49,7 +49,7 @@ returns-in_err-check_arcs-clause-told c =
     goes_on c.in_ok-check_count.ensures
     (goes_on c.in_ok-columns.ensures.told
     (goes_on c.in_ok-check_rooms.ensures
-    (goes_on c.in_ok-check_origin.ensures
+    (goes_on c.in_ok-check_node.ensures
     (goes_on c.in_ok-check_wanted.ensures
     (handed_out _ _ c.from_residual-in_err-check_arcs.ensures.1 ∙ rw (← same.0, ← same.1, ← same.2) c.in_err-check_arcs.ensures)))))
     ∙ in_order _ _ _ _ _ _ _
@@ -65,7 +65,7 @@ module _ (c : In_ok-check_arcs) where
       goes_on c.in_ok-check_count.ensures
       (goes_on c.in_ok-columns.ensures.told
       (goes_on c.in_ok-check_rooms.ensures
-      (goes_on c.in_ok-check_origin.ensures
+      (goes_on c.in_ok-check_node.ensures
       (goes_on c.in_ok-check_wanted.ensures (rw (← same.0, ← same.1, ← same.2) c.in_ok-check_arcs.ensures)))))
       ∙ in_order _ _ _ _ _ _ _
 
