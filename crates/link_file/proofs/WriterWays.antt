@@ -5,7 +5,7 @@ use mathlib.Core.Option.{none}
 use mathlib.Core.Path.{◌≡◌, ◌∙◌}
 use Prim.Native.Nat.{ℕ, ◌+◌, ◌≤◌, ◌<◌}
 use borrow.Author.Tests.{ne_eqb, lt-ltb, le-ltb}
-use lib.Dec.{eqb}
+use lib.Dec.{ltb, eqb}
 use lib.ListN.{length, length-append}
 use lib.Seq.{sets}
 use Rattle.table.specs.Refusals.{refusal, no_refusal, count_bad, columns_bad}
@@ -40,18 +40,18 @@ module _ (n o : ℕ) (ts hs ls ws out : List ℕ) where
     refuses_columns bad = rw (fine, bad)
 
     module _ (equal : columns_bad (length ts) (length hs) (length ls) ≡ false) where
-      pub refuses_wanted : most_wanted < length ws → writing n o ts hs ls ws (length out) ≡ refusal 5 most_wanted
+      pub refuses_wanted : ltb most_wanted (length ws) ≡ true → writing n o ts hs ls ws (length out) ≡ refusal 5 most_wanted
       unfolding writing
-      refuses_wanted many = rw (fine, equal, lt-ltb most_wanted (length ws) many)
+      refuses_wanted many = rw (fine, equal, many)
 
-      module _ (few : length ws ≤ most_wanted) where
+      module _ (few : ltb most_wanted (length ws) ≡ false) where
         pub refuses_room : length out < length (file_of n o ts hs ls ws) → writing n o ts hs ls ws (length out) ≡ refusal 13 0
         unfolding writing
-        refuses_room short = rw (fine, equal, le-ltb most_wanted (length ws) few, lt-ltb (length out) (length (file_of n o ts hs ls ws)) short)
+        refuses_room short = rw (fine, equal, few, lt-ltb (length out) (length (file_of n o ts hs ls ws)) short)
 
         accepts : length (file_of n o ts hs ls ws) ≤ length out → writing n o ts hs ls ws (length out) ≡ no_refusal
         unfolding writing
-        accepts room = rw (fine, equal, le-ltb most_wanted (length ws) few, le-ltb (length out) (length (file_of n o ts hs ls ws)) room)
+        accepts room = rw (fine, equal, few, le-ltb (length out) (length (file_of n o ts hs ls ws)) room)
 
         pub all_written : {size : ℕ} {last out' : List ℕ} → size ≡ length (file_of n o ts hs ls ws) → length (file_of n o ts hs ls ws) ≤ length out
             → last ≡ sets out 0 (header_bytes n o ws ++ records_bytes none (arcs_of ts hs ls)) → out' ≡ last

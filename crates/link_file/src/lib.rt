@@ -138,9 +138,7 @@ fn write_file(
 {
     table::check_count(n)?;
     let columns = table::check_columns(tails, heads, lengths)?;
-    if MOST_WANTED < wanted.len() {
-        return Err(Fault::Wanted.at(MOST_WANTED));
-    }
+    table::check_wanted_count(wanted.len())?;
     let header = FileHeader::new(n, origin, wanted);
     let size = header.size() + records_size(columns);
     if output.len() < size {

@@ -9,7 +9,6 @@ ghost use Rattle.link_reader.specs.Says.{Reads, nodes_in, wanted_of, NodesGot, W
 
 use link_fields::bit_maps::BitMap;
 use link_fields::fields::{MAP_WIDTH, NODE_WIDTH, read_field, read_optional};
-use table::MOST_WANTED;
 use table::faults::{Fault, Refusal};
 
 // What a header says: the nodes, the origin, how many nodes are wanted, where these are listed if they are, and the offset of the first record.
@@ -75,9 +74,7 @@ fn read_wanted(file: &[u8], from: usize, listed: bool, n: usize) -> Result<Wante
     let Some(count) = read_field(file, from, NODE_WIDTH) else {
         return Err(Fault::Cut.at(file.len()));
     };
-    if MOST_WANTED < count.value {
-        return Err(Fault::Wanted.at(MOST_WANTED));
-    }
+    table::check_wanted_count(count.value)?;
     let nodes = check_nodes(file, count.next, count.value)?;
     Ok(Wanted {
         count: count.value,

@@ -1,11 +1,11 @@
 -- The refusals 1 to 7, one after the other; of 5, 6 and 7, what is left to test from an index on. Assumes nothing.
-use mathlib.Core.Path.{◌≡◌, refl}
+use mathlib.Core.Path.{◌≡◌, refl, sym}
 use mathlib.Core.Bool.{not, cond}
 use mathlib.Core.List.{List}
 use Prim.Native.Nat.{ℕ, ◌+◌, ◌≤◌, ◌<◌}
 use native.Mathlib.Omega.{arith}
 use native.Mathlib.Numerals.{add-one}
-use lib.Dec.{leb}
+use lib.Dec.{ltb, leb}
 use lib.ListN.{length, get_or, drop, drop_of_length-le}
 use lib.Seq.{drop-cons}
 use borrow.Author.Tests.{lt-ltb, le-ltb, eq-eqb, ne_eqb}
@@ -33,13 +33,9 @@ in_order n o ts hs ls ws rs =
 
 -- 5
 module _ (n : ℕ) (ws : List ℕ) where
-  pub too_many : most_wanted < length ws → refusal 5 most_wanted ≡ wanted_refusal n ws
+  pub count_first : or_else (cond (ltb most_wanted (length ws)) (refusal 5 most_wanted) no_refusal) (wanted_from 0 n ws) ≡ wanted_refusal n ws
   unfolding wanted_refusal
-  too_many h = rw (lt-ltb most_wanted (length ws) h)
-
-  pub few_enough : length ws ≤ most_wanted → wanted_from 0 n ws ≡ wanted_refusal n ws
-  unfolding wanted_refusal
-  few_enough h = rw (le-ltb most_wanted (length ws) h)
+  count_first = sym (first (ltb most_wanted (length ws)) 5 most_wanted _ refl)
 
   module _ (i : ℕ) (inside : i < length ws) where
     pub wanted_good : get_or ws i 0 < n → wanted_from (i + 1) n (drop (i + 1) ws) ≡ wanted_from i n (drop i ws)

@@ -9,7 +9,7 @@ ghost use Rattle.refusals.specs.Lent.{lent_rooms};
 
 use table::faults::{Fault, Refusal};
 use table::links::{Columns, LinkTable};
-use table::{MOST_WANTED, check_columns, check_count, check_node};
+use table::{check_columns, check_count, check_node, check_wanted_count};
 
 // The lengths of the four buffers of an answer; lengths alone, since who asks for a limit lends no buffers.
 #[derive(Clone, Copy, PartialEq, Eq)]
@@ -48,9 +48,7 @@ fn check_rooms(nodes: usize, arcs: usize, lent: Rooms) -> Result<(), Refusal>
 fn check_wanted(n: usize, wanted: &[u16]) -> Result<(), Refusal>
     ensures { told result ≡ wanted_refusal n wanted.now }
 {
-    if MOST_WANTED < wanted.len() {
-        return Err(Fault::Wanted.at(MOST_WANTED));
-    }
+    check_wanted_count(wanted.len())?;
     for (i, node) in wanted.iter().enumerate() {
         if n <= usize::from(*node) {
             return Err(Fault::Wanted.at(i));

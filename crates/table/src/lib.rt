@@ -5,7 +5,8 @@
 pub mod faults;
 pub mod links;
 
-ghost use Rattle.std.specs.Prelude.{◌≡◌, cond, leb, ◌<◌, length, IfOk};
+ghost use Rattle.std.specs.Prelude.{◌≡◌, cond, ltb, leb, ◌<◌, length, IfOk};
+ghost use Rattle.table.specs.Table.{most_wanted};
 ghost use Rattle.table.specs.Refusals.{no_refusal, refusal, count_bad, columns_bad};
 ghost use Rattle.table.specs.Told.{number, told};
 
@@ -81,6 +82,16 @@ pub fn check_node(n: usize, node: u16, fault: Fault) -> Result<(), Refusal>
 {
     if n <= usize::from(node) {
         return Err(fault.at(0));
+    }
+    Ok(())
+}
+
+// 5, as far as the number of wanted nodes goes: the place of too many is that of the first one too many.
+pub fn check_wanted_count(count: usize) -> Result<(), Refusal>
+    ensures { told result ≡ cond (ltb most_wanted count) (refusal 5 most_wanted) no_refusal }
+{
+    if MOST_WANTED < count {
+        return Err(Fault::Wanted.at(MOST_WANTED));
     }
     Ok(())
 }

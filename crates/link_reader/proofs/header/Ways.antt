@@ -4,10 +4,10 @@ use mathlib.Core.List.{List, [], ◌∷◌}
 use mathlib.Core.Path.{◌≡◌, refl, sym, ◌∙◌}
 use Prim.Native.Nat.{ℕ, ◌+◌, ◌*◌, ◌≤◌, ◌<◌}
 use native.Mathlib.Omega.{arith}
-use lib.Dec.{eqb}
+use lib.Dec.{ltb, eqb}
 use lib.ListN.{length, drop, get_or, length-drop}
 use lib.Seq.{drop-drop}
-use borrow.Author.Tests.{lt-ltb, le-ltb, eq-eqb, ne_eqb}
+use borrow.Author.Tests.{ltb-false, eq-eqb, ne_eqb}
 use Rattle.std.specs.Prelude.{Some, None}
 use Rattle.table.specs.Refusals.{count_bad}
 use Rattle.table.specs.Table.{most_nodes, most_wanted}
@@ -45,15 +45,15 @@ module _ (file : List ℕ) (from n : ℕ) where
   wanted_cut_count cut = rw (cut_here cut)
 
   module _ {b : ℕ} {c : Field} (counted : Got (field 2) file from 2 b c) where
-    pub wanted_many : most_wanted < c.value → read_wanted true n from (drop from file) ≡ refused 5 most_wanted
+    pub wanted_many : ltb most_wanted c.value ≡ true → read_wanted true n from (drop from file) ≡ refused 5 most_wanted
     unfolding read_wanted ◌>>=◌ ◌>>◌ and_then refuse_if
-    wanted_many many = rw (got_here counted, lt-ltb most_wanted c.value many)
+    wanted_many many = rw (got_here counted, many)
 
     -- what follows the count
-    module _ (few : c.value ≤ most_wanted) where
+    module _ (few : ltb most_wanted c.value ≡ false) where
       pub nodes_refused : {k p : ℕ} → read_nodes c.value c.next (drop c.next file) ≡ refused k p → read_wanted true n from (drop from file) ≡ refused k p
       unfolding read_wanted ◌>>=◌ ◌>>◌ and_then refuse_if
-      nodes_refused e = rw (got_here counted, le-ltb most_wanted c.value few, e)
+      nodes_refused e = rw (got_here counted, few, e)
 
       pub wanted_got : {nodes : Nodes} → NodesGot file c.next c.value nodes → {all : Bool} → all ≡ (eqb c.value n && nodes.ascending)
           → WantedGot file from true n (record { count = c.value; listed_at = Some c.next; all = all; next = nodes.next })
@@ -61,12 +61,13 @@ module _ (file : List ℕ) (from n : ℕ) where
       wanted_got {nodes} got_nodes {all} same =
           let room : 2 * c.value ≤ length (drop c.next file) = rw (length-drop c.next file) (omega (arith, got_nodes.on, got_nodes.inside)) in
           let on : c.next + 2 * c.value ≡ nodes.next = omega (arith, got_nodes.on) in
+          let low : c.value ≤ most_wanted = ltb-false most_wanted c.value few in
           record {
             is =
-                rw (got_here counted, le-ltb most_wanted c.value few, nodes_read c.value c.next (drop c.next file) room, drop-drop (2 * c.value) c.next file, on);
+                rw (got_here counted, few, nodes_read c.value c.next (drop c.next file) room, drop-drop (2 * c.value) c.next file, on);
             size = length_nodes_in c.value _;
             same = same ∙ rw (length_nodes_in c.value (drop c.next file), got_nodes.up);
-            few = few;
+            few = low;
             near = omega (arith, got_nodes.on, counted.near);
             inside = got_nodes.inside;
             ends = on;
