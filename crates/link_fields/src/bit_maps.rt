@@ -1,5 +1,6 @@
 // Bit maps: which of three fields stand in a header or in a record.
-ghost use Rattle.std.specs.Prelude.{◌≡◌, ◌<◌};
+ghost use Rattle.std.specs.Prelude.{◌≡◌, List, ℕ, ◌<◌};
+ghost use Rattle.link_format.specs.Format.{all_nodes, header_bits};
 ghost use Rattle.link_format.specs.Reading.{forbidden, forbidden_header};
 ghost use Rattle.link_fields.specs.Fields.{arc_before, byte_of, MapSays};
 
@@ -42,6 +43,17 @@ impl BitMap {
         match byte {
             1 | 3 | 5 | 7 => Some(BitMap::in_byte(byte)),
             0..=255 => None,
+        }
+    }
+
+    // A header's canonical bit map: its origin stands unless it is 0, its wanted list unless that is all nodes ascending.
+    pub fn of_header(origin: usize, all: bool) -> BitMap
+        ensures { (n : ℕ) (wanted : List ℕ) → all ≡ all_nodes n wanted → byte_of result ≡ header_bits n origin wanted }
+    {
+        BitMap {
+            first: true,
+            second: origin != 0,
+            third: !all,
         }
     }
 

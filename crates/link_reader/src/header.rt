@@ -102,11 +102,7 @@ pub fn read_header(file: &[u8]) -> Result<Header, Refusal>
         return Err(Fault::Cut.at(file.len()));
     };
     let wanted = read_wanted(file, origin.next, map.third, n.value)?;
-    let canonical = BitMap {
-        first: true,
-        second: origin.value != 0,
-        third: !wanted.all,
-    };
+    let canonical = BitMap::of_header(origin.value, wanted.all);
     if map != canonical {
         return Err(Fault::Needless.at(0));
     }

@@ -28,11 +28,7 @@ impl<'a> FileHeader<'a> {
         ensures origin { result.origin ≡ origin }
         ensures wanted { result.wanted.now ≡ wanted.now }
     {
-        let map = BitMap {
-            first: true,
-            second: origin != 0,
-            third: !is_all(n, wanted),
-        };
+        let map = BitMap::of_header(usize::from(origin), is_all(n, wanted));
         FileHeader {
             n,
             origin,

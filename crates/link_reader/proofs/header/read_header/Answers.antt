@@ -1,8 +1,7 @@
 -- `header::read_header` meets its contract: each `return` is one way out of reading a header. Assumes nothing.
-use Rattle.std.proofs.Common.{arith, ◌≡◌, ◌<◌, false, length, ◌∙◌}
+use Rattle.std.proofs.Common.{arith, ◌≡◌, ◌<◌, false, length, sym, ◌∙◌}
 use Rattle.std.proofs.lemmas.Bool.Decides.{nat_tests}
 use Rattle.table.specs.Refusals.{count_bad}
-use Rattle.link_format.specs.Format.{header_bits}
 use Rattle.link_format.proofs.Counts.{few_nodes}
 use Rattle.link_fields.proofs.Checks.{failed, passed, passed_on}
 use Rattle.link_fields.proofs.bit_maps.Bytes.{same_byte, other_byte}
@@ -53,16 +52,14 @@ returns-in_err-wanted c =
     (wanted_refused _ (some here.Else-is_empty) _ c.in-Some.ensures c.in-Some-read_field.ensures (fine here.In_ok-check_count) c.in-Some-read_optional.ensures c.in_err-wanted.ensures)
 
 pub returns-then-ne : goal.returns-then-ne
-unfolding header_bits
 returns-then-ne c =
     let here = goal.at.returns-then-ne c in
     refused_as _ c.at-then-ne.ensures
     (header_needless _ (some here.Else-is_empty) _ c.in-Some.ensures c.in-Some-read_field.ensures (fine here.In_ok-check_count) c.in-Some-read_optional.ensures c.in_ok-wanted.ensures
-    λ same. other_byte _ _ c.if-ne.ensures (same ∙ rw c.in_ok-wanted.ensures.same))
+    λ same. other_byte _ _ c.if-ne.ensures (same ∙ sym (c.of_header-canonical.ensures _ _ c.in_ok-wanted.ensures.same)))
 
 pub returns : goal.returns
-unfolding header_bits
 returns c =
     let here = goal.at.returns c in
     header_got _ (some here.Else-is_empty) _ c.in-Some.ensures c.in-Some-read_field.ensures (fine here.In_ok-check_count) c.in-Some-read_optional.ensures c.in_ok-wanted.ensures (few_nodes (fine here.In_ok-check_count))
-    (same_byte _ _ c.if-ne.ensures ∙ rw c.in_ok-wanted.ensures.same)
+    (same_byte _ _ c.if-ne.ensures ∙ c.of_header-canonical.ensures _ _ c.in_ok-wanted.ensures.same)
