@@ -141,16 +141,16 @@ fn mark_at(i: usize, columns: Columns, nodes: &[Node]) -> u8
     requires i_in_bounds { i < length columns.heads.now }
     ensures { result ≡ mark_entry columns.entry nodes.now i }
 {
+    let arc = columns.arc(i);
     // set aside from the start: the link is down
-    if columns.lengths[i] == DOWN {
+    if arc.length == DOWN {
         return 1;
     }
-    let to = usize::from(columns.heads[i]);
-    let from = usize::from(columns.tails[i]);
-    let head = nodes[to];
+    let head = nodes[usize::from(arc.head)];
+    let tail = nodes[usize::from(arc.tail)];
     mark(
         head.status.was_reached(),
-        nodes[from].status.was_reached(),
+        tail.status.was_reached(),
         usize::from(head.kept) == i,
     )
 }

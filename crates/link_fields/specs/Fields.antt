@@ -2,10 +2,11 @@
 use Rattle.std.specs.Prelude.{Bool, true, false, List, ◌≡◌, ℕ, ◌+◌, ◌≤◌, ◌<◌, length, drop, Option, Some, None}
 use Rattle.std.proofs.Math.Option as math
 use Rattle.std.proofs.lemmas.List.Edits.{sets}
+use Rattle.table.specs.declared.links.Arc as links
+use Rattle.table.specs.Lent.{arc_of}
 use Rattle.table.specs.Table.{Arc, arc}
 use Rattle.link_format.specs.Format.{node_width, length_width, limit, bit_map}
 use Rattle.link_format.specs.Reading.{Reader, got, refused, implied}
-use Rattle.link_fields.specs.declared.arcs.Arc as Arcs
 use Rattle.link_fields.specs.declared.arcs.Absent.{Absent}
 use Rattle.link_fields.specs.declared.bit_maps.BitMap.{BitMap}
 use Rattle.link_fields.specs.declared.fields.Field.{Field}
@@ -49,11 +50,8 @@ abbrev pub MapSays : Option BitMap → (forbidden : Bool) → (byte : ℕ) → T
 MapSays (Some m) bad byte = (bad ≡ false) × (byte ≡ byte_of m)
 MapSays None bad byte = bad ≡ true
 
--- an arc of the code, and the arc of the record before
-abbrev pub arc_of : Arcs.Arc → Arc
-arc_of a = arc a.tail a.head a.length
-
-abbrev pub arc_before : Option Arcs.Arc → math.Option Arc
+-- the arc of the record before
+abbrev pub arc_before : Option links.Arc → math.Option Arc
 arc_before None = math.none
 arc_before (Some p) = math.some (arc_of p)
 

@@ -1,37 +1,7 @@
-// Arcs as records: the canonical bit map of an arc's record, and what its absent fields say.
-ghost use Rattle.std.specs.Prelude.{◌≡◌};
-ghost use Rattle.link_format.specs.Format.{record_bits};
-ghost use Rattle.link_fields.specs.Fields.{arc_of, arc_before, byte_of, AbsentSays};
+// What the absent fields of an arc's record say.
+ghost use Rattle.link_fields.specs.Fields.{arc_before, AbsentSays};
 
-use crate::bit_maps::BitMap;
-
-// An arc of the table.
-#[derive(Clone, Copy)]
-pub struct Arc {
-    pub tail: u16,
-    pub head: u16,
-    pub length: u32,
-}
-
-impl Arc {
-    // The canonical bit map of its record, given the arc of the record before.
-    pub fn bit_map(self, previous: Option<Arc>) -> BitMap
-        ensures { byte_of result ≡ record_bits (arc_before previous) (arc_of self) }
-    {
-        match previous {
-            None => BitMap {
-                first: true,
-                second: true,
-                third: true,
-            },
-            Some(p) => BitMap {
-                first: self.tail != p.tail,
-                second: usize::from(self.head) != usize::from(p.head) + 1,
-                third: self.length != p.length,
-            },
-        }
-    }
-}
+use table::links::Arc;
 
 // The fields that a record's absent fields say: an implied head may be 65536.
 #[derive(Clone, Copy)]

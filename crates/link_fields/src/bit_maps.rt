@@ -1,10 +1,11 @@
 // Bit maps: which of three fields stand in a header or in a record.
 ghost use Rattle.std.specs.Prelude.{◌≡◌, List, ℕ, ◌<◌};
-ghost use Rattle.link_format.specs.Format.{all_nodes, header_bits};
+ghost use Rattle.table.specs.Lent.{arc_of};
+ghost use Rattle.link_format.specs.Format.{all_nodes, header_bits, record_bits};
 ghost use Rattle.link_format.specs.Reading.{forbidden, forbidden_header};
 ghost use Rattle.link_fields.specs.Fields.{arc_before, byte_of, MapSays};
 
-use crate::arcs::Arc;
+use table::links::Arc;
 
 // Which fields stand. A header's are its node count, its origin and its wanted list, a record's its tail, its head and its length.
 #[derive(Clone, Copy, PartialEq, Eq)]
@@ -65,6 +66,24 @@ impl BitMap {
             0..=6 if previous.is_none() => None,
             0..=7 => Some(BitMap::in_byte(byte)),
             8..=255 => None,
+        }
+    }
+
+    // The canonical bit map of an arc's record, given the arc of the record before.
+    pub fn of_record(arc: Arc, previous: Option<Arc>) -> BitMap
+        ensures { byte_of result ≡ record_bits (arc_before previous) (arc_of arc) }
+    {
+        match previous {
+            None => BitMap {
+                first: true,
+                second: true,
+                third: true,
+            },
+            Some(p) => BitMap {
+                first: arc.tail != p.tail,
+                second: usize::from(arc.head) != usize::from(p.head) + 1,
+                third: arc.length != p.length,
+            },
         }
     }
 }

@@ -6,7 +6,7 @@ use Rattle.link_format.specs.Reading.{Outcome, got, refused, accepted, list_got,
 use Rattle.table.specs.declared.faults.Refusal.{Refusal}
 use Rattle.table.specs.Table.{Arc, most_arcs, most_nodes, most_wanted}
 use Rattle.table.specs.Told as told
-use Rattle.link_fields.specs.Fields.{arc_of}
+use Rattle.table.specs.Lent.{arc_of}
 use Rattle.link_reader.specs.declared.header.Header.{Header}
 use Rattle.link_reader.specs.declared.header.Nodes.{Nodes}
 use Rattle.link_reader.specs.declared.header.Wanted.{Wanted}

@@ -7,11 +7,11 @@ ghost use Rattle.link_fields.specs.Fields.{arc_before};
 ghost use Rattle.link_reader.specs.Says.{Reads, RecordGot, Counted, records_from, arcs_from, Fillable};
 
 use link_fields::arcs;
-use link_fields::arcs::Arc;
 use link_fields::bit_maps::BitMap;
 use link_fields::fields::{LENGTH_WIDTH, MAP_WIDTH, NODE_WIDTH, read_optional};
 use table::MOST_ARCS;
 use table::faults::{Fault, Refusal};
+use table::links::Arc;
 
 // A record that was read: its arc, and the offset of the file where the next one begins.
 #[derive(Clone, Copy)]
@@ -47,7 +47,7 @@ pub fn read_record(part: &[u8], at: usize, previous: Option<Arc>) -> Result<Reco
         head: far,
         length: length.value as u32,
     };
-    if map != arc.bit_map(previous) {
+    if map != BitMap::of_record(arc, previous) {
         return Err(Fault::Needless.at(at));
     }
     Ok(Record {

@@ -1,34 +1,23 @@
 // Writing the records of arcs. `record_size` and `write_record` stand beside one another, and so do `records_size` and `write_records`, because the
 // size is known before the first byte is put: a refusal leaves the output as it was.
-ghost use Rattle.std.specs.Prelude.{◌≡◌, ◌*◌, ◌+◌, ◌≤◌, ◌<◌, length};
+ghost use Rattle.std.specs.Prelude.{◌≡◌, ◌*◌, ◌+◌, ◌≤◌, length};
 ghost use Rattle.std.proofs.Math.Option.{none};
 ghost use Rattle.table.specs.Table.{most_arcs};
+ghost use Rattle.table.specs.Lent.{arc_of};
 ghost use Rattle.link_format.specs.Format.{most_record, record_bytes, records_bytes};
-ghost use Rattle.link_fields.specs.Fields.{arc_of, arc_before, Puts};
-ghost use Rattle.link_writer.specs.Says.{arc_in, arcs_in};
+ghost use Rattle.link_fields.specs.Fields.{arc_before, Puts};
+ghost use Rattle.link_writer.specs.Says.{arcs_in};
 
-use link_fields::arcs::Arc;
+use link_fields::bit_maps::BitMap;
 use link_fields::fields::{LENGTH_WIDTH, MAP_WIDTH, NODE_WIDTH, Output};
-use table::links::Columns;
-
-// The arc at a position of the columns.
-fn arc_at(columns: Columns, i: usize) -> Arc
-    requires { i < length columns.tails.now }
-    ensures { arc_of result ≡ arc_in columns.entry i }
-{
-    Arc {
-        tail: columns.tails[i],
-        head: columns.heads[i],
-        length: columns.lengths[i],
-    }
-}
+use table::links::{Arc, Columns};
 
 // The size of an arc's record.
 fn record_size(previous: Option<Arc>, arc: Arc) -> usize
     ensures same { result ≡ length (record_bytes (arc_before previous) (arc_of arc)) }
     ensures low { result ≤ most_record }
 {
-    let map = arc.bit_map(previous);
+    let map = BitMap::of_record(arc, previous);
     let tail = usize::from(map.first) * NODE_WIDTH;
     let head = usize::from(map.second) * NODE_WIDTH;
     let length = usize::from(map.third) * LENGTH_WIDTH;
@@ -43,7 +32,7 @@ pub fn records_size(columns: Columns) -> usize
     let mut size = 0;
     let mut previous = None;
     for i in 0..columns.tails.len() {
-        let arc = arc_at(columns, i);
+        let arc = columns.arc(i);
         size += record_size(previous, arc);
         previous = Some(arc);
     }
@@ -55,7 +44,7 @@ fn write_record(output: &mut Output, previous: Option<Arc>, arc: Arc)
     requires { output.old.end + length (record_bytes (arc_before previous) (arc_of arc)) ≤ length output.old.bytes.now }
     ensures { Puts (record_bytes (arc_before previous) (arc_of arc)) output.old output.new }
 {
-    let map = arc.bit_map(previous);
+    let map = BitMap::of_record(arc, previous);
     output.byte(u8::from(map));
     output.optional(NODE_WIDTH, map.first, usize::from(arc.tail));
     output.optional(NODE_WIDTH, map.second, usize::from(arc.head));
@@ -69,7 +58,7 @@ pub fn write_records(output: &mut Output, columns: Columns)
 {
     let mut previous = None;
     for i in 0..columns.tails.len() {
-        let arc = arc_at(columns, i);
+        let arc = columns.arc(i);
         write_record(output, previous, arc);
         previous = Some(arc);
     }

@@ -1,19 +1,18 @@
 -- The refusals 1 to 7, one after the other; of 5, 6 and 7, what is left to test from an index on. Assumes nothing.
 use mathlib.Core.Path.{◌≡◌, refl, sym}
 use mathlib.Core.Bool.{not, cond}
-use mathlib.Core.List.{List}
+use mathlib.Core.List.{List, [], ◌∷◌}
 use Prim.Native.Nat.{ℕ, ◌+◌, ◌≤◌, ◌<◌}
-use native.Mathlib.Omega.{arith}
 use native.Mathlib.Numerals.{add-one}
 use lib.Dec.{ltb, leb}
 use lib.ListN.{length, get_or, drop, drop_of_length-le}
 use lib.Seq.{drop-cons}
 use borrow.Author.Tests.{lt-ltb, le-ltb, eq-eqb, ne_eqb}
-use Rattle.table.specs.Table.{arc, arcs_of, most_wanted}
+use Rattle.table.specs.Table.{Arc, arcs_of, most_wanted}
 use Rattle.table.specs.declared.faults.Fault.{Fault}
 use Rattle.table.specs.Told.{number}
 use Rattle.table.proofs.Telling.{numbered, first}
-use Rattle.table.specs.Refusals.{Refusal, Room, refusal, no_refusal, or_else, count_bad, columns_bad, rooms_fit, table_refusal, wanted_from, wanted_refusal, arc_fault, arcs_from, arcs_refusal}
+use Rattle.table.specs.Refusals.{Room, refusal, no_refusal, or_else, count_bad, columns_bad, rooms_fit, table_refusal, wanted_from, wanted_refusal, arc_fault, arcs_from, arcs_refusal}
 
 -- 1 TO 7 IN ORDER
 pub in_order : (n o : ℕ) (ts hs ls ws : List ℕ) (rs : List Room) →
@@ -51,24 +50,16 @@ module _ (n : ℕ) (ws : List ℕ) where
   wanted_done i h = rw (drop_of_length-le ws h)
 
 -- 6 and 7
-module _ (n : ℕ) (ts hs ls : List ℕ) (eh : length ts ≡ length hs) (el : length hs ≡ length ls) where
-  abbrev pub arcs_left : (i : ℕ) → Refusal
-  arcs_left i = arcs_from i n (arcs_of (drop i ts) (drop i hs) (drop i ls))
+module _ (n i : ℕ) {left : List Arc} where
+  module _ {a : Arc} {more : List Arc} (e : left ≡ a ∷ more) where
+    pub arc_good : arc_fault n a ≡ 0 → arcs_from (i + 1) n more ≡ arcs_from i n left
+    unfolding arcs_from
+    arc_good good = rw (e, eq-eqb (arc_fault n a) 0 good, add-one i)
 
-  module _ (i : ℕ) (inside : i < length ts) where
-    abbrev here : ℕ
-    here = arc_fault n (arc (get_or ts i 0) (get_or hs i 0) (get_or ls i 0))
+    pub arc_bad : (f : Fault) → number f ≡ arc_fault n a → refusal (number f) i ≡ arcs_from i n left
+    unfolding arcs_from
+    arc_bad f bad = rw (e, ← bad, ne_eqb (number f) 0 (numbered f))
 
-    pub arc_good : here ≡ 0 → arcs_left (i + 1) ≡ arcs_left i
-    unfolding arcs_of arcs_from
-    arc_good e =
-        rw (drop-cons ts i 0 inside, drop-cons hs i 0 (omega arith), drop-cons ls i 0 (omega arith), eq-eqb here 0 e, add-one i)
-
-    pub arc_bad : (f : Fault) → number f ≡ here → refusal (number f) i ≡ arcs_left i
-    unfolding arcs_of arcs_from
-    arc_bad f e =
-        rw (drop-cons ts i 0 inside, drop-cons hs i 0 (omega arith), drop-cons ls i 0 (omega arith), ← e, ne_eqb (number f) 0 (numbered f))
-
-  pub arcs_done : (i : ℕ) → length ts ≤ i → no_refusal ≡ arcs_left i
-  unfolding arcs_of arcs_from
-  arcs_done i h = rw (drop_of_length-le ts h)
+  pub arcs_done : left ≡ [] → no_refusal ≡ arcs_from i n left
+  unfolding arcs_from
+  arcs_done e = rw e

@@ -2,13 +2,14 @@
 #![tactic(auto)]
 
 ghost use Rattle.std.specs.Prelude.{◌≡◌, not, cond, length, IfOk, MatchOption};
-ghost use Rattle.table.specs.Table.{arc, arcs_of};
+ghost use Rattle.table.specs.Table.{arcs_of};
 ghost use Rattle.table.specs.Refusals.{refusal, no_refusal, rooms_fit, arc_fault, arcs_refusal, wanted_refusal, table_refusal};
 ghost use Rattle.table.specs.Told.{number, told};
+ghost use Rattle.table.specs.Lent.{arc_of};
 ghost use Rattle.refusals.specs.Lent.{lent_rooms};
 
 use table::faults::{Fault, Refusal};
-use table::links::{Columns, LinkTable};
+use table::links::{Arc, Columns, LinkTable};
 use table::{check_columns, check_count, check_node, check_wanted_count};
 
 // The lengths of the four buffers of an answer; lengths alone, since who asks for a limit lends no buffers.
@@ -58,13 +59,13 @@ fn check_wanted(n: usize, wanted: &[u16]) -> Result<(), Refusal>
 }
 
 // What is wrong with an arc, its ends before its length.
-fn fault_of_arc(n: usize, tail: u16, head: u16, length: u32) -> Option<Fault>
-    ensures { MatchOption result (arc_fault n (arc tail head length) ≡ 0) (λ fault. number fault ≡ arc_fault n (arc tail head length)) }
+fn fault_of_arc(n: usize, arc: Arc) -> Option<Fault>
+    ensures { MatchOption result (arc_fault n (arc_of arc) ≡ 0) (λ fault. number fault ≡ arc_fault n (arc_of arc)) }
 {
-    if n <= usize::from(tail) || n <= usize::from(head) {
+    if n <= usize::from(arc.tail) || n <= usize::from(arc.head) {
         return Some(Fault::ArcEnd);
     }
-    if length == 0 {
+    if arc.length == 0 {
         return Some(Fault::ArcLength);
     }
     None
@@ -74,8 +75,8 @@ fn fault_of_arc(n: usize, tail: u16, head: u16, length: u32) -> Option<Fault>
 fn check_arcs(n: usize, columns: Columns) -> Result<(), Refusal>
     ensures { told result ≡ arcs_refusal n (arcs_of columns.entry.tails.now columns.entry.heads.now columns.entry.lengths.now) }
 {
-    for (i, tail) in columns.tails.iter().enumerate() {
-        if let Some(fault) = fault_of_arc(n, *tail, columns.heads[i], columns.lengths[i]) {
+    for i in 0..columns.tails.len() {
+        if let Some(fault) = fault_of_arc(n, columns.arc(i)) {
             return Err(fault.at(i));
         }
     }

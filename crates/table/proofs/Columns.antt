@@ -1,13 +1,18 @@
 -- The table that three columns of equal length hold, arc by arc. Assumes nothing.
 use mathlib.Core.Path.{◌≡◌, refl, ap}
 use mathlib.Core.List.{List, [], ◌∷◌}
-use Prim.Native.Nat.{ℕ, zero, suc, ◌<◌, ◌≤◌}
+use Prim.Native.Nat.{ℕ, zero, suc, ◌+◌, ◌<◌, ◌≤◌}
 use Rattle.std.specs.Prelude.{false}
+use native.Mathlib.Numerals.{add-one}
 use native.Mathlib.Omega.{arith}
-use lib.ListN.{length, get_or}
+use lib.ListN.{length, get_or, drop, drop_of_length-le}
+use lib.Seq.{drop-cons}
 use Rattle.std.proofs.lemmas.Bool.Decides.{nat_tests}
+use Rattle.table.specs.Lent.{arc_of}
 use Rattle.table.specs.Refusals.{columns_bad}
 use Rattle.table.specs.Table.{Arc, arc, table, arcs_of, table_of, arc_count, arc_at, head_at, length_at, most_arcs}
+use Rattle.table.specs.declared.links.Arc as links
+use Rattle.table.specs.declared.links.Columns.{Columns}
 
 pub arcs_count : (ts hs ls : List ℕ) → length hs ≡ length ts → length ls ≡ length ts → length (arcs_of ts hs ls) ≡ length ts
 unfolding arcs_of
@@ -49,6 +54,31 @@ module _ (n o : ℕ) (ts hs ls : List ℕ) (eh : length hs ≡ length ts) (el : 
   pub origin_so : (table_of n o ts hs ls).origin ≡ o
   unfolding table_of table
   origin_so = refl
+
+-- the arcs from a position on
+abbrev pub arcs_left : Columns → (i : ℕ) → List Arc
+arcs_left c i = arcs_of (drop i c.tails.now) (drop i c.heads.now) (drop i c.lengths.now)
+
+module _ (c : Columns) (i : ℕ) where
+  -- they are the one there, as `Columns::arc` gives it, and those behind it
+  pub arcs_more : (a : links.Arc) → i < length c.tails.now → a.tail ≡ get_or c.tails.now i 0 → a.head ≡ get_or c.heads.now i 0
+      → a.length ≡ get_or c.lengths.now i 0 → arcs_left c i ≡ arc_of a ∷ arcs_left c (i + 1)
+  unfolding arcs_of
+  arcs_more a inside t h l =
+      rw (
+        add-one i,
+        drop-cons c.tails.now i 0 inside,
+        drop-cons c.heads.now i 0 (omega (arith, c.heads_are)),
+        drop-cons c.lengths.now i 0 (omega (arith, c.heads_are, c.lengths_are)),
+        t,
+        h,
+        l,
+      )
+
+  -- there are none
+  pub arcs_none : length c.tails.now ≤ i → arcs_left c i ≡ []
+  unfolding arcs_of
+  arcs_none end = rw (drop_of_length-le c.tails.now end)
 
 -- columns that are not refused by 2
 pub few_and_equal : (t h l : ℕ) → columns_bad t h l ≡ false → (t ≡ h) × ((h ≡ l) × (t ≤ most_arcs))

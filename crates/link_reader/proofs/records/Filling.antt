@@ -8,7 +8,7 @@ use native.Mathlib.Decide.{dec_lt}
 use native.Mathlib.Omega.{arith}
 use lib.ListN.{length, drop, set}
 use Rattle.table.specs.Table.{Arc, arc, most_arcs}
-use Rattle.link_fields.specs.Fields.{arc_of}
+use Rattle.table.specs.Lent.{arc_of}
 use Rattle.link_reader.specs.declared.records.Record.{Record}
 use Rattle.link_format.specs.Format.{tails_of, heads_of, lengths_of}
 use Rattle.link_format.specs.Reading.{Outcome, got, refused, accepted, list_got, and_then, give, read_record}

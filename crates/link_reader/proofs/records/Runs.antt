@@ -12,7 +12,7 @@ use Rattle.table.specs.Table.{Arc, most_arcs}
 use Rattle.link_format.specs.Reading.{Outcome, got, refused, accepted, list_got, and_then, give, read_record, read_records}
 use Rattle.link_format.proofs.Outcomes.{got_value, refused_got}
 use Rattle.link_format.proofs.Records.{in_front, records_more, records_full, records_none}
-use Rattle.link_fields.specs.Fields.{arc_of}
+use Rattle.table.specs.Lent.{arc_of}
 use Rattle.link_reader.specs.Says.{RecordGot}
 use Rattle.link_reader.specs.declared.records.Record.{Record}
 use Rattle.link_format.specs.Format.{most_record, most_header}

@@ -9,9 +9,9 @@ pub returns-then-n-from : goal.returns-then-n-from
 unfolding arc_fault arc
 returns-then-n-from c = grind (arith, nat_tests)
 
-pub returns-then-length-eq0 : goal.returns-then-length-eq0
+pub returns-then-arc-eq0 : goal.returns-then-arc-eq0
 unfolding arc_fault arc
-returns-then-length-eq0 c = grind (arith, nat_tests)
+returns-then-arc-eq0 c = grind (arith, nat_tests)
 
 pub returns : goal.returns
 unfolding arc_fault arc

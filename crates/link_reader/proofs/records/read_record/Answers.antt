@@ -28,9 +28,9 @@ returns-in_default-try_from c = refused_as _ c.at-in_default-try_from.ensures
 pub returns-then-ne : goal.returns-then-ne
 returns-then-ne c = refused_as _ c.at-then-ne.ensures
     (refused_needless _ _ _ c.requires.0 _ c.in-Some.ensures c.implied-absent.ensures c.in-Some-read_optional.ensures c.in-Some-read_optional-2.ensures c.in-Some-read_optional-3.ensures
-    (omega (arith, c.in-Ok.ensures)) λ same. other_byte _ _ c.if-ne.ensures (same ∙ sym (rw c.in-Ok.ensures.1 at c.bit_map.ensures)))
+    (omega (arith, c.in-Ok.ensures)) λ same. other_byte _ _ c.if-ne.ensures (same ∙ sym (rw c.in-Ok.ensures.1 at c.of_record.ensures)))
 
 pub returns : goal.returns
 returns c = rw c.in-Ok.ensures.1
     (got_record _ _ _ c.requires.0 _ c.in-Some.ensures c.implied-absent.ensures c.in-Some-read_optional.ensures c.in-Some-read_optional-2.ensures c.in-Some-read_optional-3.ensures
-    (omega (arith, c.in-Ok.ensures)) (same_byte _ _ c.if-ne.ensures ∙ (rw c.in-Ok.ensures.1 at c.bit_map.ensures)))
+    (omega (arith, c.in-Ok.ensures)) (same_byte _ _ c.if-ne.ensures ∙ (rw c.in-Ok.ensures.1 at c.of_record.ensures)))

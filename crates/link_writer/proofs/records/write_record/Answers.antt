@@ -1,8 +1,9 @@
 -- `records::write_record` meets its contract: the bit map and its fields are put one after the other, each with its room. Assumes nothing.
 use Rattle.std.proofs.Common.{◌≡◌, [], ◌∷◌, ◌++◌, List, ℕ, ◌∙◌}
+use Rattle.table.specs.Lent.{arc_of}
 use Rattle.table.specs.Table.{arc}
 use Rattle.link_format.specs.Format.{field_bytes, record_bytes}
-use Rattle.link_fields.specs.Fields.{arc_of, arc_before, Puts}
+use Rattle.link_fields.specs.Fields.{arc_before, Puts}
 use Rattle.link_fields.specs.declared.fields.Output.{Output}
 use Rattle.link_fields.proofs.fields.Putting.{Putting, none_put, part_room, part_put, rest_room, rest_put}
 use Rattle.link_writer.proofs.records.Bytes.{record_pieces}
@@ -12,20 +13,20 @@ use Rattle.link_writer.proofs.records.write_record.Goals.{After-from}
 -- the record's pieces, which are left to put
 module _ (c : After-from) where
   abbrev tail : List ℕ
-  tail = field_bytes c.bit_map-map.result.first 2 c.args.arc.tail
+  tail = field_bytes c.of_record-map.result.first 2 c.args.arc.tail
 
   abbrev head : List ℕ
-  head = field_bytes c.bit_map-map.result.second 2 c.args.arc.head
+  head = field_bytes c.of_record-map.result.second 2 c.args.arc.head
 
   abbrev long : List ℕ
-  long = field_bytes c.bit_map-map.result.third 4 c.args.arc.length
+  long = field_bytes c.of_record-map.result.third 4 c.args.arc.length
 
   abbrev whole : List ℕ
   whole = record_bytes (arc_before c.args.previous) (arc_of c.args.arc)
 
   pieces : whole ≡ c.from.result ∷ (tail ++ (head ++ long))
   unfolding arc
-  pieces = record_pieces _ (arc_of c.args.arc) _ c.bit_map-map.ensures ∙ rw c.from.ensures
+  pieces = record_pieces _ (arc_of c.args.arc) _ c.of_record-map.ensures ∙ rw c.from.ensures
 
   to_put : Putting whole (c.from.result ∷ (tail ++ (head ++ long))) c.args.output.now c.args.output.now
   to_put = rw pieces (none_put _ _ (rw pieces at c.requires))

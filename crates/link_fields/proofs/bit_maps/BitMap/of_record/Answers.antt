@@ -1,7 +1,7 @@
--- `Arc::bit_map` meets its contract: by cases on the record before. Assumes nothing.
+-- `BitMap::of_record` meets its contract: by cases on the record before. Assumes nothing.
 use Rattle.table.specs.Table.{arc}
 use Rattle.link_format.specs.Format.{record_bits}
-use Rattle.link_fields.proofs.arcs.Arc.bit_map.Goals as goal
+use Rattle.link_fields.proofs.bit_maps.BitMap.of_record.Goals as goal
 
 pub returns-in-None : goal.returns-in-None
 unfolding record_bits
