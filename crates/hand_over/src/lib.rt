@@ -8,7 +8,7 @@ ghost use Rattle.table.specs.Refusals.{no_refusal, refusal};
 ghost use Rattle.table.specs.Told.{number, told};
 ghost use Rattle.auction.specs.Auction.{unreached};
 ghost use Rattle.auction.specs.HandOver.{horizon, reached_count, mark_number};
-ghost use Rattle.steps.specs.Seen.{status_number, too_many};
+ghost use Rattle.steps.specs.Seen.{status_number, iterations_in, too_many};
 ghost use Rattle.hand_over.specs.Answered.{answered_in, nothing_planned};
 ghost use Rattle.hand_over.specs.ReadOff.{Known, ArcEnds, Fitting, SameBuffers, NoneFarther, ReadOff, HandsOver, price_entry, mark_entry};
 
@@ -197,7 +197,7 @@ pub fn hand_over(
     requires known { Known nodes.now }
     requires arc_ends { ArcEnds columns nodes.now }
     requires fitting { Fitting (length nodes.now) (length columns.heads.now) buffers.old }
-    requires few { (end.missing ≤ most_wanted) × (end.progress.contractions + end.progress.extensions + end.progress.deletions < too_many) }
+    requires few { (end.missing ≤ most_wanted) × (iterations_in end.progress < too_many) }
     ensures same { SameBuffers buffers.old buffers.new }
     ensures answer { HandsOver end wanted columns.entry nodes.now (answered_in result buffers.new) }
 {
@@ -216,7 +216,7 @@ pub fn hand_over(
         place,
         reached: count_reached(nodes),
         horizon,
-        iterations: counts.contractions + counts.extensions + counts.deletions,
+        iterations: counts.iterations(),
         contractions: counts.contractions,
         extensions: counts.extensions,
         deletions: counts.deletions,

@@ -113,12 +113,11 @@ fn limit_table(table: &LinkTable, limit: u64) -> Within
         table,
         limit,
         &mut |end, _| {
-            let counts = end.progress;
             Within {
                 number: 0,
                 place: 0,
                 within: u32::from(end.missing == table.wanted.len()),
-                iterations: counts.contractions + counts.extensions + counts.deletions,
+                iterations: end.progress.iterations(),
             }
         },
     )

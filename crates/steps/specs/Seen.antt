@@ -1,5 +1,5 @@
 -- Which state of the auction a run's path and nodes hold. Assumes nothing: these are definitions.
-use Rattle.std.specs.Prelude.{cond, List, [], ◌∷◌, map, ℕ, zero, suc, ◌*◌, eqb, get_or, take}
+use Rattle.std.specs.Prelude.{cond, List, [], ◌∷◌, map, ℕ, zero, suc, ◌+◌, ◌*◌, eqb, get_or, take}
 use Rattle.std.proofs.Math.Option.{Option, none, some}
 use Rattle.table.specs.Table.{no_arc, no_distance, most_nodes, longest}
 use Rattle.auction.specs.Auction.{State, state, unreached, reached, deleted}
@@ -59,6 +59,10 @@ first_of n r = run_of (take n r.path) (take n r.nodes) r.progress
 -- THE STATE that they hold
 abbrev pub held : RunState → State
 held r = seen r.path (prices_in r.nodes) (bounds_in r.nodes) (kepts_in r.nodes) (statuses_in r.nodes) r.progress
+
+-- HOW MANY ITERATIONS have been made: each is a contraction, an extension or a deletion
+abbrev pub iterations_in : Progress → ℕ
+iterations_in g = g.contractions + g.extensions + g.deletions
 
 -- no price and no distance of a run is greater
 abbrev pub greatest_sum : ℕ

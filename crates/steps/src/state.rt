@@ -2,7 +2,7 @@
 ghost use Rattle.std.specs.Prelude.{◌≡◌, ℕ, ◌≤◌, ◌<◌, length, ltb, eqb};
 ghost use Rattle.table.specs.Table.{Table, most_nodes};
 ghost use Rattle.auction.specs.Auction.{fresh, unreached, deleted};
-ghost use Rattle.steps.specs.Seen.{status_number, first_of, held};
+ghost use Rattle.steps.specs.Seen.{status_number, iterations_in, first_of, held, too_many};
 
 use table::{MOST_NODES, NO_ARC, NO_DISTANCE};
 
@@ -68,6 +68,16 @@ pub struct Progress {
     pub contractions: u64,
     pub extensions: u64,
     pub deletions: u64,
+}
+
+impl Progress {
+    // How many iterations have been made.
+    pub fn iterations(self) -> u64
+        requires { iterations_in self < too_many }
+        ensures { result ≡ iterations_in self }
+    {
+        self.contractions + self.extensions + self.deletions
+    }
 }
 
 // Where a run has ended: the index of the first wanted node that was not reached, which is their number where all were; the scans and

@@ -3,7 +3,7 @@ ghost use Rattle.std.specs.Prelude.{◌≡◌, List, ℕ, ◌+◌, ◌≤◌, �
 ghost use Rattle.table.specs.Table.{Table};
 ghost use Rattle.auction.specs.Auction.{deletion, contraction, extension};
 ghost use Rattle.forward_star.specs.Lent.{IsStarOf};
-ghost use Rattle.steps.specs.Seen.{run_of, bounds_in, memory_in, greatest_sum, too_many};
+ghost use Rattle.steps.specs.Seen.{run_of, bounds_in, memory_in, iterations_in, greatest_sum, too_many};
 ghost use Rattle.steps.specs.Memory.{before, forgetting, HasBefore, Ready, Remembers, Remembered, those_reached};
 ghost use Rattle.steps.specs.Steps.{Becomes, CanStep, Steps};
 
@@ -107,7 +107,7 @@ pub fn step(
     nodes: &mut [Node],
 ) -> Progress
     requires ready { Ready star.now nodes.old }
-    requires v_in_bounds { (v < length star.now.first.now) × ((1 ≤ g.depth) × (g.contractions + g.extensions + g.deletions < too_many)) }
+    requires v_in_bounds { (v < length star.now.first.now) × ((1 ≤ g.depth) × (iterations_in g < too_many)) }
     requires can_step { CanStep v origin least star.now (run_of path.old nodes.old g) }
     requires has_before { (v ≡ origin → ⊥) → HasBefore g.depth path.old nodes.old }
     ensures steps { Steps v origin least star.now (run_of path.old nodes.old g) (run_of path.new nodes.new result) }

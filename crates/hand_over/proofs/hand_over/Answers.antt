@@ -31,7 +31,7 @@ returns-clause-answer c = λ t ws path price nodes held wanted ran routed.
     assembled t ws a.end.missing a.end.scans _ ran (rw wanted routed) (refusal c.told-number.result.0 c.told-number.result.1) _ _ _ _ _ _ _ _ _ _
     (rw wanted (c.told-number.ensures ∙ c.route.ensures))
     (c.count_reached.ensures t path price g nodes)
-    (c.horizon_of-horizon.ensures.so t path price g nodes) refl refl refl refl
+    (c.horizon_of-horizon.ensures.so t path price g nodes) c.iterations.ensures refl refl refl
     (column_so _ _ _ (omega arith) d ∙ distances_so ns path price g c.requires.known t nodes)
     (column_so _ _ _ (omega arith) p
     ∙ prices_so ns path price g c.requires.known t horizon nodes (c.horizon_of-horizon.ensures.so t path price g nodes))

@@ -29,7 +29,7 @@ use Rattle.forward_star.specs.declared.linked.LinkedTable.{LinkedTable}
 use Rattle.forward_star.proofs.Columns.{good_table, nodes_are, origin_is, tails_of_star}
 use Rattle.steps.specs.declared.bids.LeastBid.{LeastBid}
 use Rattle.steps.specs.declared.state.RunState.{RunState}
-use Rattle.steps.specs.Seen.{seen, held, prices_in, bounds_in, memory_in, statuses_in, greatest_sum, too_many}
+use Rattle.steps.specs.Seen.{iterations_in, seen, held, prices_in, bounds_in, memory_in, statuses_in, greatest_sum, too_many}
 use Rattle.steps.specs.Memory.{HasBefore, Ready, AllForgotten, Remembers, Remembered, those_reached}
 use Rattle.steps.specs.Steps.{bid_in, Becomes, CanStep, Steps}
 use Rattle.solver.specs.Runs.{RanWithin, FirstFrom}
@@ -277,8 +277,7 @@ module _ (linked : LinkedTable) where
               (same_or r.progress.depth r'.progress.depth)
 
         -- the iteration is counted
-        pub counted : r'.progress.contractions + r'.progress.extensions + r'.progress.deletions
-            ≡ suc (r.progress.contractions + r.progress.extensions + r.progress.deletions)
+        pub counted : iterations_in r'.progress ≡ suc (iterations_in r.progress)
         unfolding iterations seen state
         counted = (goes_on run y (undecided h) made.to.is_next).1
 

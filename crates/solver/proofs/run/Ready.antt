@@ -4,7 +4,7 @@ use mathlib.Core.Bool.{Bool, false}
 use mathlib.Core.List.{List, [], ◌∷◌}
 use mathlib.Core.Logic.{⊎_elim}
 use mathlib.Core.Option.{some}
-use Prim.Native.Nat.{ℕ, zero, suc, ◌+◌, ◌*◌, ◌-◌, ◌≤◌, ◌<◌}
+use Prim.Native.Nat.{ℕ, zero, suc, ◌*◌, ◌-◌, ◌≤◌, ◌<◌}
 use native.Mathlib.Omega.{arith}
 use native.Mathlib.Nat.{mul-le-mul_left}
 use lib.ListN.{length, get_or}
@@ -22,7 +22,7 @@ use Rattle.forward_star.specs.declared.linked.LinkedTable.{LinkedTable}
 use Rattle.forward_star.proofs.Columns.{nodes_are, origin_is, nodes_listed, star_tails_below, tails_of_star}
 use Rattle.steps.specs.declared.bids.LeastBid.{LeastBid}
 use Rattle.steps.specs.declared.state.RunState.{RunState}
-use Rattle.steps.specs.Seen.{bound_of, nodes_of, seen, held, prices_in, bounds_in, kepts_in, statuses_in, greatest_sum, too_many}
+use Rattle.steps.specs.Seen.{iterations_in, bound_of, nodes_of, seen, held, prices_in, bounds_in, kepts_in, statuses_in, greatest_sum, too_many}
 use Rattle.steps.specs.Memory.{HasBefore, Ready, KeptArcs}
 use Rattle.steps.specs.Steps.{bid_in, CanStep}
 use Rattle.steps.proofs.Arrays.{seen_price, seen_bound, seen_kept, some_arc, some_bound, no_bound}
@@ -50,7 +50,7 @@ pub record InRun (n : ℕ) (r : RunState) : Type 0 where
   pub terminal_is : terminal (held r) ≡ get_or r.path (r.progress.depth - 1) 0
   pub terminal_in : get_or r.path (r.progress.depth - 1) 0 < n
   pub prices_low : (v : ℕ) → get_or (prices_in r.nodes) v 0 ≤ greatest_sum
-  pub few : r.progress.contractions + r.progress.extensions + r.progress.deletions ≤ most_iterations n
+  pub few : iterations_in r.progress ≤ most_iterations n
   pub few_nodes : n ≤ most_nodes
 
 pub path_length : (r : RunState) → length (held r).path ≡ r.progress.depth
@@ -85,7 +85,7 @@ module _ {t : Table} {stop : State → Bool} (rs : RunState) (r : Running t stop
   unfolding terminal seen state
   terminal_read h = last_entry rs.progress.depth rs.path h
 
-  count_read : iterations x ≡ rs.progress.contractions + rs.progress.extensions + rs.progress.deletions
+  count_read : iterations x ≡ iterations_in rs.progress
   unfolding iterations seen state
   count_read = refl
 
@@ -104,7 +104,7 @@ module _ {t : Table} {stop : State → Bool} (rs : RunState) (r : Running t stop
         terminal_in = omega (arith, at, below);
         prices_low = λ v. omega (arith, w.price_small v, price_held rs v, r.good.few_nodes);
         few =
-            subst (λ (m : ℕ). rs.progress.contractions + rs.progress.extensions + rs.progress.deletions ≤ most_iterations m) en
+            subst (λ (m : ℕ). iterations_in rs.progress ≤ most_iterations m) en
             (subst (λ (m : ℕ). m ≤ most_iterations t.n) count_read r.few);
         few_nodes = omega (arith, r.good.few_nodes);
       }

@@ -16,7 +16,7 @@ use Rattle.auction.specs.Auction.{best, most_iterations}
 use Rattle.steps.specs.declared.bids.LeastBid.{LeastBid}
 use Rattle.steps.specs.declared.state.Progress.{Progress}
 use Rattle.steps.specs.declared.state.RunState.{RunState}
-use Rattle.steps.specs.Seen.{run_of, held, prices_in, memory_in}
+use Rattle.steps.specs.Seen.{iterations_in, run_of, held, prices_in, memory_in}
 use Rattle.steps.specs.Steps.{bid_in}
 use Rattle.steps.specs.Memory.{node_at}
 use Rattle.steps.proofs.Nodes.{entry}
@@ -176,8 +176,8 @@ module _ (c : Joined-child) where
       ]
 
   -- and one iteration more is counted
-  less : suc (most_iterations c.args.linked.now.table.n) - (c.if-child.g.contractions + c.if-child.g.extensions + c.if-child.g.deletions)
-      < suc (most_iterations c.args.linked.now.table.n) - (c.loop-w.g.contractions + c.loop-w.g.extensions + c.loop-w.g.deletions)
+  less : suc (most_iterations c.args.linked.now.table.n) - iterations_in c.if-child.g
+      < suc (most_iterations c.args.linked.now.table.n) - iterations_in c.loop-w.g
   less =
       let more = counted c.args.linked.now c.loop-w.invariant c.loop-w-test.true made in
       omega (arith, more, (now_ready c.args.linked.now c.loop-w.invariant).few)
