@@ -1,13 +1,15 @@
 -- The entries that the code makes are the definition's. Assumes nothing.
-use mathlib.Core.Path.{◌≡◌, refl, sym, ap, ap₂, subst, ◌∙◌}
+use mathlib.Core.Path.{◌≡◌, sym, ap, ap₂, subst, ◌∙◌}
 use mathlib.Core.Bool.{Bool, true, false, cond}
-use mathlib.Core.List.{List, [], ◌∷◌}
+use mathlib.Core.List.{List, map}
 use mathlib.Core.Logic.{⊎_elim}
-use Prim.Native.Nat.{ℕ, zero, suc, ◌+◌, ◌-◌, ◌≤◌, ◌<◌}
+use Prim.Native.Nat.{ℕ, ◌-◌, ◌≤◌, ◌<◌, max}
 use native.Mathlib.Omega.{arith}
 use lib.Dec.{ltb, eqb}
 use lib.ListN.{length, get_or}
 use borrow.Author.Tests.{ltb-true, lt-ltb, eq-eqb, ne_eqb}
+use Rattle.std.specs.List.{reduce, filter, count_by}
+use Rattle.std.specs.Option.{unwrap_or}
 use Rattle.table.specs.Table.{Table, arc_count, down, no_arc, no_distance}
 use Rattle.table.specs.declared.links.Columns.{Columns}
 use Rattle.table.specs.Refusals.{Refusal, refusal, no_refusal}
@@ -25,11 +27,15 @@ use Rattle.steps.specs.Steps.{Ran}
 use Rattle.steps.proofs.Arrays.{seen_status, seen_distance, seen_kept, some_arc, no_kept}
 use Rattle.steps.proofs.Nodes.{as_many, entry}
 use Rattle.hand_over.specs.ReadOff.{Known, ArcEnds, ArcsHeld, NoneFarther, state_in, mark_entry}
-use Rattle.hand_over.proofs.Entries.{entries_same}
+use Rattle.hand_over.proofs.Entries.{entries_same, column_so, largest, greatest_passing, count_passing}
+
+-- the test whether a node was reached
+abbrev pub is_reached : Node → Bool
+is_reached n = ltb unreached (status_number n.status)
 
 -- one entry each, as the code makes it: of a node that was reached, or another
 abbrev pub chosen : {A : Type 0} → Node → (reached other : A) → A
-chosen n a b = cond (ltb unreached (status_number n.status)) a b
+chosen n a b = cond (is_reached n) a b
 
 abbrev pub distance_entry : (other : ℕ) → List Node → (v : ℕ) → ℕ
 distance_entry other ns v = chosen (node_at v ns) (node_at v ns).bound other
@@ -39,6 +45,19 @@ reached_entry ns v = chosen (node_at v ns) 1 0
 
 abbrev pub arc_entry : List Node → (v : ℕ) → ℕ
 arc_entry ns v = chosen (node_at v ns) (node_at v ns).kept no_arc
+
+-- the largest bound of the nodes that were reached, and how many they are, are made of such entries
+pub largest_reached : (ns : List Node) →
+    unwrap_or (reduce max (map (λ n. n.bound) (filter is_reached ns))) 0 ≡ greatest (entries (length ns) 0 (distance_entry 0 ns))
+largest_reached ns =
+    let bound : Node → ℕ = λ n. chosen n n.bound 0 in
+    largest _ ∙ greatest_passing is_reached (λ n. n.bound) ns
+    ∙ ap greatest (column_so (map bound ns) (length ns) (distance_entry 0 ns) (as_many bound ns) (λ v l. entry bound ns v))
+
+pub reached_counted : (ns : List Node) → count_by is_reached ns ≡ sum (entries (length ns) 0 (reached_entry ns))
+reached_counted ns =
+    let one : Node → ℕ = λ n. chosen n 1 0 in
+    count_passing is_reached ns ∙ ap sum (column_so (map one ns) (length ns) (reached_entry ns) (as_many one ns) (λ v l. entry one ns v))
 
 -- as the definition has it
 module _ (ns : List Node) (path price : List ℕ) (g : Progress) where
@@ -158,25 +177,6 @@ not_farther ns h above v low =
     rw e (omega (arith, there, entry (λ m. m.bound) ns v)))
     (λ (e : ltb unreached (status_number n.status) ≡ false). rw e (omega arith))
     (true_or (ltb unreached (status_number n.status)))
-
-pub at_most_one : (b : Bool) → cond b 1 0 ≤ 1
-at_most_one true = omega arith
-at_most_one false = omega arith
-
--- A COLUMN whose entries are known, one by one, is theirs
-column_from : (out : List ℕ) (n a : ℕ) (f : ℕ → ℕ) → length out ≡ n → ((i : ℕ) → i < n → get_or out i 0 ≡ f (a + i)) → out ≡ entries n a f
-unfolding entries
-column_from [] zero a f e h = refl
-column_from [] (suc n) a f e h = absurd (omega arith)
-column_from (b ∷ out) zero a f e h = absurd (omega arith)
-column_from (b ∷ out) (suc n) a f e h =
-    let z : a + 0 ≡ a = omega arith in
-    let next : (i : ℕ) → a + suc i ≡ suc a + i = λ i. omega arith in
-    ap₂ (λ (m : ℕ) (l : List ℕ). m ∷ l) (h 0 (omega arith) ∙ ap f z)
-    (column_from out n (suc a) f (omega arith) (λ i l. h (suc i) (omega arith) ∙ ap f (next i)))
-
-pub column_so : (out : List ℕ) (n : ℕ) (f : ℕ → ℕ) → length out ≡ n → ((i : ℕ) → i < n → get_or out i 0 ≡ f i) → out ≡ entries n 0 f
-column_so out n f e h = column_from out n 0 f e (λ i l. let z : i ≡ 0 + i = omega arith in h i l ∙ ap f z)
 
 -- THE WHOLE ANSWER
 module _ (t : Table) (ws : List ℕ) (missing scanned : ℕ) (x : State) (ran : Ran t ws (auction t ws) missing scanned x)

@@ -96,13 +96,12 @@ fn horizon_of(nodes: &[Node]) -> u64
     ensures so { ReadOff horizon nodes.now result }
     ensures above { NoneFarther result nodes.now }
 {
-    let mut horizon = 0;
-    for v in (0..nodes.len()).rev() {
-        let node = nodes[v];
-        let distance = entry(node, node.bound, 0);
-        horizon = distance.max(horizon);
-    }
-    horizon
+    nodes
+        .iter()
+        .filter(|node| node.status.was_reached())
+        .map(|node| node.bound)
+        .max()
+        .unwrap_or(0)
 }
 
 // How many nodes have been reached.
@@ -110,11 +109,10 @@ fn count_reached(nodes: &[Node]) -> u32
     requires { length nodes.now ≤ most_nodes }
     ensures { ReadOff reached_count nodes.now result }
 {
-    let mut count = 0;
-    for v in (0..nodes.len()).rev() {
-        count += entry(nodes[v], 1, 0);
-    }
-    count
+    nodes
+        .iter()
+        .filter(|node| node.status.was_reached())
+        .count() as u32
 }
 
 // An arc's mark, by whether its head and its tail have been reached and whether it is its head's kept arc. C reads marks as bytes, so

@@ -10,7 +10,8 @@ use Rattle.auction.specs.Auction.{state, iterations}
 use Rattle.steps.specs.Seen.{seen}
 use Rattle.hand_over.specs.ReadOff.{price_entry, mark_entry}
 use Rattle.hand_over.specs.Answered.{answered}
-use Rattle.hand_over.proofs.Handing.{distance_entry, arc_entry, column_so, distances_so, prices_so, tree_so, marks_so, assembled}
+use Rattle.hand_over.proofs.Entries.{column_so}
+use Rattle.hand_over.proofs.Handing.{distance_entry, arc_entry, distances_so, prices_so, tree_so, marks_so, assembled}
 use Rattle.hand_over.proofs.hand_over.Goals as goal
 
 pub returns-clause-answer : goal.returns-clause-answer

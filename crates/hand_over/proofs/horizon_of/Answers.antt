@@ -1,35 +1,34 @@
--- The greatest of the entries from v on. Assumes nothing.
-use mathlib.Core.Path.{◌≡◌, ap, ◌∙◌}
-use Prim.Native.Nat.{ℕ, max}
-use borrow.Author.Rules.{rules}
-use native.Mathlib.Omega.{arith}
+-- The largest bound of the nodes that were reached. Assumes nothing.
+use mathlib.Core.Path.{◌≡◌, sym, ap, ◌∙◌}
+use Prim.Native.Nat.{max}
 use lib.ListN.{length}
-use Rattle.auction.specs.HandOver.{greatest, entries}
-use Rattle.hand_over.proofs.Entries.{greatest_none, greatest_more, all_entries}
-use Rattle.hand_over.proofs.Handing.{distance_entry, horizon_so, below_horizon}
+use Rattle.std.proofs.Common.{rules, tests, map}
+use Rattle.std.specs.List.{reduce, filter}
+use Rattle.std.specs.Option.{unwrap_or}
+use Rattle.std.proofs.lemmas.Iterator.{YieldsList-from_slice, YieldsList-from_map}
+use Rattle.std.proofs.lemmas.Iterator.Adapters.{option_map_id}
+use Rattle.std.proofs.lemmas.Iterator.Consumers.{YieldsList-at, YieldsList-from_filter, max_from_yields_List}
+use Rattle.auction.specs.HandOver.{entries, greatest}
+use Rattle.hand_over.proofs.Handing.{is_reached, distance_entry, largest_reached, horizon_so, below_horizon}
 use Rattle.hand_over.proofs.horizon_of.Goals as goal
-use Rattle.hand_over.proofs.horizon_of.Goals.{After-loop-v}
+use Rattle.hand_over.proofs.horizon_of.Goals.{After-unwrap_or}
 
-pub loop-v-init : goal.loop-v-init
-loop-v-init c = (search rules, greatest_none (length c.args.nodes.now) (distance_entry 0 c.args.nodes.now))
-
-pub loop-v-preserved : goal.loop-v-preserved
-loop-v-preserved c =
+-- the chain yields these bounds
+all : (c : After-unwrap_or) → c.unwrap_or.result ≡ greatest (entries (length c.args.nodes.now) 0 (distance_entry 0 c.args.nodes.now))
+all c =
     let ns = c.args.nodes.now in
-    let l = c.loop-v in
-    let f = distance_entry 0 ns in (
-      omega (arith, l.invariant.0),
-      c.max-horizon.ensures ∙ ap (λ (m : ℕ). max m l.horizon) c.entry-distance.ensures
-          ∙ greatest_more (length ns) f l.v c.loop-v-test.true l.invariant.0 l.horizon l.invariant.1,
-    )
-
--- behind the loop: it is the greatest of all entries
-all : (c : After-loop-v) → c.loop-v.horizon ≡ greatest (entries (length c.args.nodes.now) 0 (distance_entry 0 c.args.nodes.now))
-all c = c.loop-v.invariant.1 ∙ ap greatest (all_entries (length c.args.nodes.now) c.loop-v.v (distance_entry 0 c.args.nodes.now) c.loop-v-test.false)
+    let most : c.max.result ≡ reduce max (map (λ n. n.bound) (filter is_reached ns)) =
+    sym (option_map_id _) ∙ max_from_yields_List _ _ c.max.ensures.ran
+    (YieldsList-from_map _ _
+    (YieldsList-at c.map.ensures.source
+    (YieldsList-from_filter _ _
+    (YieldsList-at c.filter.ensures.source (YieldsList-from_slice ns cc)) c.filter.ensures.closure (λ x r q k. search (rules, tests))))
+    c.map.ensures.closure (λ x r q k. search rules)) in
+    c.unwrap_or.ensures ∙ ap (λ o. unwrap_or o 0) most ∙ largest_reached ns
 
 pub returns-clause-so : goal.returns-clause-so
 returns-clause-so c = λ t path price g e.
-    all (goal.at.returns-clause-so c).After-loop-v ∙ horizon_so c.args.nodes.now path price g c.requires t e
+    all (goal.at.returns-clause-so c).After-unwrap_or ∙ horizon_so c.args.nodes.now path price g c.requires t e
 
 pub returns-clause-above : goal.returns-clause-above
-returns-clause-above c = below_horizon c.args.nodes.now _ (all (goal.at.returns-clause-above c).After-loop-v)
+returns-clause-above c = below_horizon c.args.nodes.now _ (all (goal.at.returns-clause-above c).After-unwrap_or)
