@@ -7,6 +7,7 @@ use mathlib.Core.Option.{some}
 use Prim.Native.Nat.{ℕ, ◌≤◌, ◌<◌}
 use native.Mathlib.Omega.{arith}
 use lib.ListN.{get_or}
+use borrow.Author.Tests.{both_ways}
 use Rattle.table.specs.Table.{Table, is_table, arc_count, present_at, tail_at, walk_length, no_arc, no_distance}
 use Rattle.table.specs.Refusals.{refusal, no_refusal}
 use Rattle.auction.specs.Auction.{State, auction, after, was_reached, distance, iterations}
@@ -15,7 +16,7 @@ use Rattle.auction.specs.Scans.{scans}
 use Rattle.auction.specs.Plan.{routes_of}
 use Rattle.auction.specs.Promises.{HasWalk, NoWalk, last_state, route, price, link, Shortest, Shown, WalkShortest, WalkGiven, PricesFit, PricesShow, RouteToAll, NoRoute, FirstWithoutWalk, FewIterations, FewerIterations, EndsByItself, IterationsCounted, Attains, EarliestLink, MarksTallied}
 use Rattle.auction.specs.Demands.{distance_of, price_of, link_of, walk_of, Given, Demands, DemandsMet, SameCounts, CountsPinned, hollow, HollowFails}
-use Rattle.table.proofs.Basics.{same_or, true_or, below_or, not_both, some_none, some_same}
+use Rattle.table.proofs.Basics.{same_or, true_or, below_or, some_none, some_same}
 use Rattle.auction.proofs.Sums.{column, past_column}
 use Rattle.auction.proofs.Good.{Good, good}
 use Rattle.auction.proofs.Steps.Effects.{status_in, reached_status, status_reached}
@@ -175,7 +176,7 @@ module _ {t : Table} {ws : List ℕ} where
   one_number da db z y =
       let f = db.no_route y in
       let w = da.route z _ f.wanted in
-      not_both _ w.1 (f.without w.0)
+      both_ways _ (f.without w.0) w.1
 
   same_number : {a b : Answer} → Demands t ws a → Demands t ws b → a.number ≡ b.number
   same_number {a} {b} da db =
@@ -189,7 +190,7 @@ module _ {t : Table} {ws : List ℕ} where
   -- the one cannot stop before the other
   not_sooner : {a b : Answer} → Demands t ws a → Demands t ws b → a.iterations < b.iterations → ⊥
   not_sooner {a} {b} da db h =
-      ⊎_elim (λ (z : a.number ≡ 0). not_both _ (da.found z) (db.not_before a.iterations da.last h da.steps))
+      ⊎_elim (λ (z : a.number ≡ 0). both_ways _ (db.not_before a.iterations da.last h da.steps) (da.found z))
       (λ (z : a.number ≡ 8). some_none db.steps (none_after t a.iterations da.last da.steps (da.stuck z) b.iterations h))
       da.numbers
 

@@ -1,18 +1,18 @@
 -- The promises of specs/Limit.antt: where a run within a limit ends, the nodes reached are those within it. Assumes nothing.
 use mathlib.Core.Path.{◌≡◌, refl, sym, ap, ◌∙◌}
-use mathlib.Core.Bool.{Bool, true, false, ◌||◌}
+use mathlib.Core.Bool.{Bool, true, false, ◌||◌, and-true, or-false}
 use mathlib.Core.List.{List, [], ◌∷◌}
 use mathlib.Core.Logic.{◌⊎◌, inl, inr, ⊎_elim}
 use mathlib.Core.Option.{none, some}
 use Prim.Native.Nat.{ℕ, zero, suc, ◌≤◌, ◌<◌}
 use native.Mathlib.Omega.{arith}
-use borrow.Author.Tests.{ltb-true, ltb-false, le-ltb}
+use borrow.Author.Tests.{ltb-true, ltb-false, le-ltb, both_ways}
 use Rattle.table.specs.Table.{Table, is_table}
 use Rattle.auction.specs.Auction.{State, start, next, after, all_reached, was_reached, distance, price_at, iterations, auction}
 use Rattle.auction.specs.HandOver.{tree, returned}
 use Rattle.auction.specs.Promises.{last_state, IterationsCounted, EndsByItself}
 use Rattle.auction.specs.Limit.{above, decided, limited, limited_state, WalkWithin, WithinLimit, LimitCuts, Unlimited, Limits}
-use Rattle.table.proofs.Basics.{true_or, below_or, and_true, not_both, either_true, either_false, or_false, some_none, some_same}
+use Rattle.table.proofs.Basics.{true_or, below_or, either_true, either_false, some_none, some_same}
 use Rattle.auction.proofs.Good.{Good, good}
 use Rattle.auction.proofs.Steps.Effects.{reached_status, unreached_status}
 use Rattle.auction.proofs.Invariant.Counting.{Invariant}
@@ -99,7 +99,7 @@ module _ (t : Table) (ws : List ℕ) (b : ℕ) where
         let here = (iterations_counted t ws e).steps in
         let more = (undecided y (running.not_before (iterations y) y h here)).0 in
         let end = ends_by_itself t ws e in
-        ⊎_elim (λ (r : (auction t ws).routed ≡ true). not_both (all_reached ws y) (end.found r) more)
+        ⊎_elim (λ (r : (auction t ws).routed ≡ true). both_ways (all_reached ws y) more (end.found r))
         (λ (r : (auction t ws).routed ≡ false).
         some_none running.steps (none_after t (iterations y) y here (end.stuck r) (iterations x) h))
         (true_or (auction t ws).routed)
@@ -113,7 +113,7 @@ module _ (t : Table) (ws : List ℕ) (b : ℕ) where
 -- one wanted node
 pub alone : (v : ℕ) (x : State) → all_reached (v ∷ []) x ≡ was_reached x v
 unfolding all_reached
-alone v x = and_true (was_reached x v)
+alone v x = and-true (was_reached x v)
 
 -- A NODE THAT IS NOT REACHED IS FARTHER: the origin's price, which no walk there is below, is above the limit, or it has no walk
 pub within_limit : WithinLimit
@@ -129,10 +129,10 @@ within_limit t v b e =
       no = λ q walk w.
           ⊎_elim
           (λ (r : decided t ws b y ≡ true).
-          ⊎_elim (λ (a : all_reached ws y ≡ true). absurd (not_both (was_reached y v) (sym (alone v y) ∙ a) q))
+          ⊎_elim (λ (a : all_reached ws y ≡ true). absurd (both_ways (was_reached y v) q (sym (alone v y) ∙ a)))
           (λ (a : above t b y ≡ true). omega (arith, is_above t b y a, unreached_walk t g y d s walk v q w))
           (either_true (all_reached ws y) (above t b y) r))
-          (λ (n : next t y ≡ none). absurd (not_both (was_reached y v) (walk_reached t g y d s (childless t y n) walk v w) q))
+          (λ (n : next t y ≡ none). absurd (both_ways (was_reached y v) q (walk_reached t g y d s (childless t y n) walk v w)))
           (ends t ws b g);
     }
 
@@ -150,7 +150,7 @@ unlimited t ws b e h =
     same_run g
     (λ (y : State) (i : Invariant t y).
     ap (λ (a : Bool). all_reached ws y || a) (none_above t b y (omega (arith, h, (within t g y i).price_small t.origin)))
-    ∙ or_false (all_reached ws y))
+    ∙ or-false (all_reached ws y))
 
 pub limits : Limits
 limits = record { within_limit = within_limit; limit_cuts = limit_cuts; unlimited = unlimited }

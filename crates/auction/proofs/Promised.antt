@@ -8,12 +8,12 @@ use Prim.Native.Nat.{ℕ, zero, suc, ◌+◌, ◌*◌, ◌-◌, ◌≤◌, ◌<�
 use native.Mathlib.Omega.{arith}
 use lib.Dec.{eqb}
 use lib.ListN.{length, get_or}
-use borrow.Author.Tests.{eqb-true, eq-eqb}
+use borrow.Author.Tests.{eqb-true, eq-eqb, both_ways}
 use Rattle.table.specs.Table.{Table, is_table, is_walk, arc_count, tail_at, head_at, length_at, longest}
 use Rattle.auction.specs.Auction.{State, Bid, auction, next, iteration, deletion, best, terminal, all_reached, was_reached, distance}
 use Rattle.auction.specs.HandOver.{prices, first_missing}
 use Rattle.auction.specs.Promises.{Promises, last_state, route, price, link, WalkShortest, WalkGiven, PricesFit, equal_along, PricesShow, HasWalk, NoWalk, FirstWithoutWalk, RouteToAll, NoRoute, FewIterations, FewerIterations, EndsByItself, IterationsCounted, Attains, EarliestLink, MarksTallied, NeverAbove, DistancesStay, Ascending, SmallDistances, SmallSums}
-use Rattle.table.proofs.Basics.{true_or, both_true, true_both, some_none, not_both}
+use Rattle.table.proofs.Basics.{true_or, both_true, true_both, some_none}
 use Rattle.auction.proofs.Good.{Good, good, unrefused_is_table, table_is_unrefused, longest_of_32_bits, lengths_of_32_bits}
 use Rattle.auction.proofs.Steps.Effects.{estimate, known_distance, reached_status, status_reached, unreached_status}
 use Rattle.auction.proofs.Steps.Bids.{Child, no_child, best_bid}
@@ -88,7 +88,7 @@ record Missing (i : ℕ) (ws : List ℕ) (x : State) : Type 0 where
 
 first_missing_at : (i : ℕ) (ws : List ℕ) (x : State) → all_reached ws x ≡ false → Missing i ws x
 unfolding all_reached first_missing
-first_missing_at i [] x e = absurd (not_both true refl e)
+first_missing_at i [] x e = absurd (both_ways true e refl)
 first_missing_at i (w ∷ ws) x e =
     ⊎_elim
     (λ (r : was_reached x w ≡ true).
@@ -179,7 +179,7 @@ no_route t ws e r =
           λ walk.
           ⊎_elim
           (λ (w : is_walk t walk (get_or ws m.index 0) ≡ true).
-          absurd (not_both (was_reached (last t ws e) (get_or ws m.index 0)) (walk_given t ws m.index walk e m.wanted w) m.unreached))
+          absurd (both_ways (was_reached (last t ws e) (get_or ws m.index 0)) m.unreached (walk_given t ws m.index walk e m.wanted w)))
           (λ (w : is_walk t walk (get_or ws m.index 0) ≡ false). w)
           (true_or (is_walk t walk (get_or ws m.index 0)));
       earlier = λ k h. (route t ws (get_or ws k 0), (walk_shortest t ws (get_or ws k 0) e (m.earlier k h)).walk);

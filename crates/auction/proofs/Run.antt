@@ -7,9 +7,10 @@ use mathlib.Core.Option.{Option, none, some}
 use Prim.Native.Nat.{ℕ, zero, suc, ◌+◌, ◌*◌, ◌-◌, ◌≤◌, ◌<◌}
 use native.Mathlib.Omega.{arith}
 use lib.ListN.{length, get_or}
+use borrow.Author.Tests.{both_ways}
 use Rattle.table.specs.Table.{Table, arc_count, longest}
 use Rattle.auction.specs.Auction.{State, Bid, Ended, price_at, kept_at, distance, terminal, best, next, go_on, run, ended, start, after, then_next, iterations, most_iterations}
-use Rattle.table.proofs.Basics.{same_or, true_or, not_both, option_or, some_none, some_same}
+use Rattle.table.proofs.Basics.{same_or, true_or, option_or, some_none, some_same}
 use Rattle.auction.proofs.Good.{Good}
 use Rattle.auction.proofs.Steps.Effects.{estimate, status_in}
 use Rattle.auction.proofs.Steps.Bids.{best_bid}
@@ -240,8 +241,8 @@ module _ {t : Table} {stop : State → Bool} where
       record {
         running = subst (λ (y : State). Running t stop y) (sym last) r;
         found = λ q. ap stop last ∙ e;
-        missing = λ q. absurd (not_both (until stop t).routed routed q);
-        stuck = λ q. absurd (not_both (until stop t).routed routed q);
+        missing = λ q. absurd (both_ways (until stop t).routed q routed);
+        stuck = λ q. absurd (both_ways (until stop t).routed q routed);
         no_cap = λ more. ends_done r e more ∙ sym same;
       }
 
@@ -253,7 +254,7 @@ module _ {t : Table} {stop : State → Bool} where
       let routed : (until stop t).routed ≡ false = ap (λ (f : Ended). f.routed) same in
       record {
         running = subst (λ (y : State). Running t stop y) (sym last) r;
-        found = λ q. absurd (not_both (until stop t).routed q routed);
+        found = λ q. absurd (both_ways (until stop t).routed routed q);
         missing = λ q. ap stop last ∙ e;
         stuck = λ q. ap (next t) last ∙ n;
         no_cap = λ more. ends_stuck r e n more ∙ sym same;

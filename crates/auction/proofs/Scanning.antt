@@ -6,11 +6,11 @@ use mathlib.Core.Logic.{◌⊎◌, inl, inr, ⊎_elim}
 use mathlib.Core.Option.{Option, none, some}
 use Prim.Native.Nat.{ℕ, zero, suc, ◌+◌, ◌≤◌, ◌<◌}
 use native.Mathlib.Omega.{arith}
-use borrow.Author.Tests.{eqb-true, eq-eqb, ne_eqb, not-true, not-false}
+use borrow.Author.Tests.{eqb-true, eq-eqb, ne_eqb, not-true, not-false, both_ways}
 use Rattle.table.specs.Table.{Table, arc_count, head_at}
 use Rattle.auction.specs.Auction.{State, Bid, terminal, price_at, to_child, best, after}
 use Rattle.auction.specs.Scans.{same_at, same_children_from, same_children, same_price, scans_now, and_earlier, history, or_now, last_scan, scan_count, scans}
-use Rattle.table.proofs.Basics.{same_or, true_or, both_true, true_both, not_both, not_and, refuted, some_same}
+use Rattle.table.proofs.Basics.{same_or, true_or, both_true, true_both, not_and, refuted, some_same}
 
 -- two tests that come out alike
 alike : (a b : Bool) → cond a b (not b) ≡ true → b ≡ a
@@ -51,7 +51,7 @@ module _ (t : Table) (v : ℕ) (s x : State) where
   child_same f = from_same (arc_count t) 0 (λ i h l. f i (omega arith))
 
   child_lost : (i : ℕ) → i < arc_count t → to_child t v i s ≡ true → to_child t v i x ≡ false → same_children t v s x ≡ false
-  child_lost i h was is = refuted (same_children t v s x) (λ e. not_both (to_child t v i x) (same_child e i h ∙ was) is)
+  child_lost i h was is = refuted (same_children t v s x) (λ e. both_ways (to_child t v i x) is (same_child e i h ∙ was))
 
   -- WHETHER V SCANS in state x, when its last scan was in state s: it does where a child is lost or the remembered child's price has moved,
   pub scans_lost : (i : ℕ) → i < arc_count t → to_child t v i s ≡ true → to_child t v i x ≡ false → scans_now t v (some s) x ≡ true
@@ -85,7 +85,7 @@ module _ (t : Table) (v : ℕ) (s x : State) where
 pub has_scanned : (t : Table) (v : ℕ) (m : Option State) (x : State) → scans_now t v m x ≡ false →
     (s : State) × (m ≡ some s) × (scans_now t v (some s) x ≡ false)
 unfolding scans_now
-has_scanned t v none x e = absurd (not_both true refl e)
+has_scanned t v none x e = absurd (both_ways true e refl)
 has_scanned t v (some s) x e = (s, refl, e)
 
 -- right after a scan nothing has changed

@@ -8,11 +8,11 @@ use Prim.Native.Nat.{ℕ, zero, suc, ◌+◌, ◌-◌, ◌≤◌, ◌<◌}
 use native.Mathlib.Omega.{arith}
 use lib.Dec.{ltb, eqb}
 use lib.ListN.{length, get_or}
-use borrow.Author.Tests.{eqb-true, lt-ltb, eq-eqb}
+use borrow.Author.Tests.{eqb-true, lt-ltb, eq-eqb, both_ways}
 use Rattle.table.specs.Table.{Table, arc_count, tail_at, head_at, length_at, leads, is_walk, walk_length, no_arc}
 use Rattle.auction.specs.Auction.{State, bound_at, kept_at, status_at, distance, or_zero, was_reached, price_at, deleted}
 use Rattle.auction.specs.HandOver.{horizon, prices, tree, arc_or_none, back_from, returned}
-use Rattle.table.proofs.Basics.{same_or, below_or, true_or, true_both, not_both, option_or}
+use Rattle.table.proofs.Basics.{same_or, below_or, true_or, true_both, option_or}
 use Rattle.auction.proofs.Sums.{column, past_column, greatest_bound, greatest_least}
 use Rattle.auction.proofs.Good.{Good}
 use Rattle.auction.proofs.Back.{first, at_origin, one_back}
@@ -169,7 +169,7 @@ module _ (t : Table) (g : Good t) (x : State) (dep : ℕ → ℕ) (s : Sound t x
   unreached_leads : (is : List ℕ) (u v : ℕ) → leads t u is v ≡ true → was_reached x u ≡ true → was_reached x v ≡ false →
       price_at x t.origin ≤ distance x u + walk_length t is
   unfolding leads walk_length
-  unreached_leads [] u v e r q = absurd (not_both (was_reached x u) r (ap (was_reached x) (eqb-true u v e) ∙ q))
+  unreached_leads [] u v e r q = absurd (both_ways (was_reached x u) (ap (was_reached x) (eqb-true u v e) ∙ q) r)
   unreached_leads (i ∷ is) u v e r q =
       let f = first t u i is v e in
       let tail : was_reached x (tail_at t i) ≡ true = ap (was_reached x) f.leaves ∙ r in

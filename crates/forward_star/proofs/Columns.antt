@@ -113,9 +113,6 @@ some_table {t} {o} of = ∣ (t, of) ∣₁
 prefix_fits : (a b : List ℕ) (n : ℕ) → length a ≡ n → n ≤ length (a ++ b)
 prefix_fits a b n e = omega (arith, length-append a b)
 
-prefix_long : (a b : List ℕ) (n : ℕ) → length a ≡ n → n ≡ length (take n (a ++ b))
-prefix_long a b n e = sym (ap length (take_at a b n e) ∙ e)
-
 -- a part of a filled array
 pub filled_long : (m n a : ℕ) → n ≤ m → length (take n (replicate m a)) ≡ n
 filled_long m zero a h = refl

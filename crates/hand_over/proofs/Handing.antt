@@ -25,7 +25,7 @@ use Rattle.steps.specs.Seen.{arc_of, bounds_in, kepts_in, statuses_in, status_nu
 use Rattle.steps.specs.Memory.{node_at}
 use Rattle.steps.specs.Steps.{Ran}
 use Rattle.steps.proofs.Arrays.{seen_status, seen_distance, seen_kept, some_arc, no_kept}
-use Rattle.steps.proofs.Nodes.{as_many, entry}
+use Rattle.steps.proofs.Nodes.{as_many, entry, status_is}
 use Rattle.hand_over.specs.ReadOff.{Known, ArcEnds, ArcsHeld, NoneFarther, state_in, mark_entry}
 use Rattle.hand_over.proofs.Entries.{entries_same, column_so, largest, greatest_passing, count_passing}
 
@@ -64,13 +64,10 @@ module _ (ns : List Node) (path price : List ℕ) (g : Progress) where
   abbrev x : State
   x = state_in ns path price g
 
-  status_is : (v : ℕ) → get_or (statuses_in ns) v 0 ≡ status_number (node_at v ns).status
-  status_is v = entry (λ m. status_number m.status) ns v
-
   reached_is : (v : ℕ) → was_reached x v ≡ ltb unreached (status_number (node_at v ns).status)
   unfolding was_reached
   reached_is v =
-      ap (ltb 0) (seen_status path price (bounds_in ns) (kepts_in ns) (statuses_in ns) g v ∙ status_is v)
+      ap (ltb 0) (seen_status path price (bounds_in ns) (kepts_in ns) (statuses_in ns) g v ∙ status_is ns v)
 
   kept_is : (v : ℕ) → v < length ns → kept_at x v ≡ arc_of (node_at v ns).kept
   kept_is v h =
@@ -84,7 +81,7 @@ module _ (ns : List Node) (path price : List ℕ) (g : Progress) where
         rw (reached_is v)
         (⊎_elim
         (λ (e : ltb unreached (status_number (node_at v ns).status) ≡ true).
-        let there = known v (omega (arith, status_is v, ltb-true 0 _ e)) in
+        let there = known v (omega (arith, status_is ns v, ltb-true 0 _ e)) in
         rw e
         (sym bound
         ∙ sym (seen_distance path price (bounds_in ns) (kepts_in ns) (statuses_in ns) g v (omega (arith, as_many (λ m. m.bound) ns)) there)))
@@ -139,7 +136,7 @@ module _ (ns : List Node) (path price : List ℕ) (g : Progress) where
   -- the marks of a table's arcs: an absent arc has mark 1, and a present one leaves its tail
   module _ (t : Table) (c : Columns) (ends : ArcEnds c ns) (arcs : ArcsHeld t c) where
     reached_there : (v : ℕ) → ltb 0 (get_or (statuses_in ns) v 0) ≡ was_reached x v
-    reached_there v = ap (ltb 0) (status_is v) ∙ sym (reached_is v)
+    reached_there v = ap (ltb 0) (status_is ns v) ∙ sym (reached_is v)
 
     mark_so : (i : ℕ) → i < length c.heads.now → mark_entry c ns i ≡ mark t x i
     unfolding mark

@@ -8,14 +8,14 @@ use Prim.Native.Nat.{ℕ, ◌-◌, ◌<◌}
 use native.Mathlib.Omega.{arith}
 use lib.Dec.{eqb}
 use lib.ListN.{length, get_or}
-use borrow.Author.Tests.{eq-eqb, ne_eqb, eqb-true, not-false}
+use borrow.Author.Tests.{eq-eqb, ne_eqb, eqb-true, not-false, both_ways}
 use denote.Ref.{Bor}
 use Rattle.std.specs.Prelude as code
 use Rattle.std.specs.Option.{option_eq, option_copied}
 use Rattle.std.specs.List.{slice_get}
 use Rattle.std.proofs.lemmas.Option.{none-some, same_Some, slice_get-get_or, slice_get_within}
 use Rattle.table.specs.Table.{Table}
-use Rattle.table.proofs.Basics.{same_or, and_false, some_none, not_both}
+use Rattle.table.proofs.Basics.{same_or, and_false, some_none}
 use Rattle.keeping.specs.Keeping.{lent_total, first_node, last_node, same_ends, no_greater, stays}
 use Rattle.keeper.specs.Totals.{held}
 use Rattle.keeper.proofs.Totalling.{lent_none}
@@ -26,15 +26,15 @@ equal = option_eq (λ x y. eqb x.now y.now)
 
 same_now : (a b : code.Option (Bor ℕ)) → not (equal a b) ≡ false → option_copied a ≡ option_copied b
 same_now code.None code.None e = refl
-same_now code.None (code.Some y) e = absurd (not_both true refl e)
-same_now (code.Some x) code.None e = absurd (not_both true refl e)
+same_now code.None (code.Some y) e = absurd (both_ways true e refl)
+same_now (code.Some x) code.None e = absurd (both_ways true e refl)
 same_now (code.Some x) (code.Some y) e = ap code.Some (eqb-true x.now y.now (not-false (eqb x.now y.now) e))
 
 other_now : (a b : code.Option (Bor ℕ)) → not (equal a b) ≡ true → option_copied a ≡ option_copied b → ⊥
-other_now code.None code.None e s = not_both false e refl
+other_now code.None code.None e s = both_ways false refl e
 other_now code.None (code.Some y) e s = none-some y.now s
 other_now (code.Some x) code.None e s = none-some x.now (sym s)
-other_now (code.Some x) (code.Some y) e s = not_both (not (eqb x.now y.now)) e (ap not (eq-eqb x.now y.now (same_Some x.now y.now s)))
+other_now (code.Some x) (code.Some y) e s = both_ways (not (eqb x.now y.now)) (ap not (eq-eqb x.now y.now (same_Some x.now y.now s))) e
 
 module _ (a b : code.Option (Bor ℕ)) {p q : code.Option ℕ} (read_a : option_copied a ≡ p) (read_b : option_copied b ≡ q) where
   pub same_read : not (equal a b) ≡ false → p ≡ q

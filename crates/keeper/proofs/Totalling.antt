@@ -51,10 +51,6 @@ module _ (t : Table) (list : List ℕ) where
   unfolding lent_total
   lent_many h = rw (lt-ltb most_nodes (length list) h)
 
-  pub lent_few : length list ≤ most_nodes → total t list ≡ lent_total t list
-  unfolding lent_total
-  lent_few h = rw (le-ltb most_nodes (length list) h)
-
 -- THE STEPS BEFORE `rest` ARE ADDED
 pub record Adding (t : Table) (list rest : List ℕ) (added : ℕ) : Type 0 where
   -- there is a node left, and the last one is the list's

@@ -9,9 +9,9 @@ use native.Mathlib.Omega.{arith}
 use lib.Dec.{ltb, eqb}
 use lib.ListN.{length}
 use lib.Seq.{take-length}
-use borrow.Author.Tests.{ltb-false, le-ltb, eqb-true, eq-eqb, leb-true, le-leb}
+use borrow.Author.Tests.{ltb-false, le-ltb, eqb-true, eq-eqb, leb-true, le-leb, both_ways}
 use Rattle.table.specs.Table.{Table, most_nodes}
-use Rattle.table.proofs.Basics.{true_or, both_true, not_both, some_none}
+use Rattle.table.proofs.Basics.{true_or, both_true, some_none}
 use Rattle.keeping.specs.declared.Kept.{Kept}
 use Rattle.keeping.specs.Keeping.{total, lent_total, first_node, last_node, same_ends, no_greater, stays, kept, choice, is_standing, given}
 use Rattle.keeping.specs.Promises.{KeptShort}
@@ -32,7 +32,7 @@ lent_some t vs d e =
 -- a total that is no greater is there
 lesser_so : (a : Option ℕ) (b : ℕ) → no_greater a (some b) ≡ true → AtMost a b
 unfolding no_greater
-lesser_so none b e = absurd (not_both false e refl)
+lesser_so none b e = absurd (both_ways false refl e)
 lesser_so (some a) b e = (a, refl, leb-true a b e)
 
 module _ (t : Table) (standing fresh : List ℕ) (d : ℕ) (e : lent_total t fresh ≡ some d) where
@@ -103,7 +103,7 @@ module _ (t : Table) (standing fresh : List ℕ) (d : ℕ) (e : lent_total t fre
         list_total = d;
         walk = its.1;
         no_longer = omega arith;
-        standing_stays = λ few begins ends c f low. absurd (not_both (stays t standing fresh) (so_stays few begins ends c f low) h);
+        standing_stays = λ few begins ends c f low. absurd (both_ways (stays t standing fresh) h (so_stays few begins ends c f low));
       })
 
   pub chooses_short : GivenSo (choice t standing fresh)

@@ -5,9 +5,10 @@ use mathlib.Core.List.{[], ◌∷◌}
 use mathlib.Core.Logic.{◌⊎◌, inl, inr, ⊎_elim}
 use Prim.Native.Nat.{ℕ, ◌<◌}
 use native.Mathlib.Omega.{arith}
+use borrow.Author.Tests.{both_ways}
 use Rattle.table.specs.Table.{Table, table_of, is_table}
 use Rattle.table.specs.Refusals.{rooms_fit}
-use Rattle.table.proofs.Basics.{same_or, not_both, some_none}
+use Rattle.table.proofs.Basics.{same_or, some_none}
 use Rattle.auction.specs.Auction.{was_reached}
 use Rattle.auction.specs.HandOver.{Answer, handed_over}
 use Rattle.auction.specs.Plan.{refused_plan, routes_of}
@@ -82,7 +83,7 @@ limits_refused n o v limit ts hs ls r e d =
     let number : r.number ≡ f.number = ap (λ (a : Within). a.number) so in
     record {
       low = omega (arith, number, numbered.0);
-      no_buffers = λ z. not_both true refl (numbered.1 (sym number ∙ z));
+      no_buffers = λ z. both_ways true (numbered.1 (sym number ∙ z)) refl;
       as_wanted = λ ds ps tr ms a b c d.
           let planned = refused_alike n o ts hs ls (v ∷ []) ds ps tr ms q a b c d in
           (number ∙ ap (λ (a : Answer). a.number) (sym planned), ap (λ (a : Within). a.place) so ∙ ap (λ (a : Answer). a.place) (sym planned));
@@ -97,7 +98,7 @@ module _ {t : Table} {v limit : ℕ} where
 
   not_sooner : {a b : Within} → LimitKept t v limit a → LimitKept t v limit b → a.iterations < b.iterations → ⊥
   not_sooner {a} {b} ka kb h =
-      ⊎_elim (λ d. not_both _ d (kb.not_before a.iterations ka.last h ka.steps))
+      ⊎_elim (λ d. both_ways _ (kb.not_before a.iterations ka.last h ka.steps) d)
       (λ n. some_none kb.steps (none_after t a.iterations ka.last ka.steps n b.iterations h))
       ka.ends
 

@@ -5,12 +5,12 @@ use mathlib.Core.Path.{◌≡◌, refl, ap, sym, ◌∙◌}
 use Prim.Native.Nat.{ℕ, zero, suc, ◌+◌, ◌≤◌}
 use native.Mathlib.Omega.{arith}
 use lib.Dec.{ltb, eqb}
-use borrow.Author.Tests.{ltb-false, eq-eqb, eqb-true, not-false}
+use borrow.Author.Tests.{ltb-false, eq-eqb, eqb-true, not-false, both_ways}
 use Rattle.table.specs.Table.{arc}
 use Rattle.link_format.specs.Format.{bit_map, has, all_nodes, header_bits, record_bits}
 use Rattle.link_format.specs.Promises.{needless, needless_header, NeedlessIsNotCanonical, NeedlessHeaderIsNotCanonical}
 use Rattle.link_format.specs.Reading.{forbidden_header, forbidden, implied}
-use Rattle.table.proofs.Basics.{either_false, not_both}
+use Rattle.table.proofs.Basics.{either_false}
 
 -- A bit map has the bits that it was made of, and no other.
 pub record MadeOf (a b c : Bool) : Type 0 where
@@ -48,7 +48,7 @@ each_case : (P : Bool → Bool → Type 0) → P true true → P true false → 
 each_case P tt tf ft true true h = tt
 each_case P tt tf ft true false h = tf
 each_case P tt tf ft false true h = ft
-each_case P tt tf ft false false h = absurd (not_both _ (h refl) refl)
+each_case P tt tf ft false false h = absurd (both_ways _ refl (h refl))
 
 -- Three bits, each with whether its field says what its absence would: one stands needlessly just where the bit map is not the canonical one.
 abbrev Agree : (b₁ e₁ b₂ e₂ b₃ e₃ : Bool) → Type 0

@@ -10,7 +10,7 @@ use native.Mathlib.Omega.{arith}
 use lib.Dec.{eqb}
 use lib.ListN.{length, length-append}
 use lib.Seq.{drop_at}
-use borrow.Author.Tests.{le-leb, le-ltb, eq-eqb, eqb-true, not-false}
+use borrow.Author.Tests.{le-leb, le-ltb, eq-eqb, eqb-true, not-false, both_ways}
 use Rattle.table.specs.Refusals.{count_bad}
 use Rattle.table.specs.Table.{Arc, arc, Below, most_arcs, most_wanted}
 use Rattle.link_format.specs.Format.{last_head, content, bytes, bit_map, has, field_bytes, all_nodes, nodes_bytes, wanted_bytes, header_bits, header_bytes, record_bits, fields_bytes, record_bytes, records_bytes, file_bytes}
@@ -21,7 +21,6 @@ use Rattle.link_format.proofs.BitMaps.{made_of}
 use Rattle.link_format.proofs.Counts.{good_count}
 use Rattle.link_format.proofs.Numbers.{length_bytes, number_bytes}
 use Rattle.link_format.proofs.Records.{records_full, in_front, records_none, records_more}
-use Rattle.table.proofs.Basics.{not_both}
 
 -- a field
 field_again : (w v at : ℕ) (rest : List ℕ) → v < 256 ^ w → field w at (bytes w v ++ rest) ≡ got v (at + length (bytes w v)) rest
@@ -81,7 +80,7 @@ said : {b : Bool} (x y : ℕ) → b ≡ not (eqb x y) → b ≡ false → x ≡ 
 said x y e f = eqb-true x y (not-false (eqb x y) (sym e ∙ f))
 
 never : {X : Type 0} {b : Bool} → b ≡ true → b ≡ false → X
-never t f = absurd (not_both _ t f)
+never t f = absurd (both_ways _ f t)
 
 pub canonical_implied : (before : Option Arc) (a : Arc) → ImpliedWhereAbsent before (record_bits before a) a
 unfolding record_bits implied arc

@@ -7,9 +7,9 @@ use Prim.Native.Nat.{ℕ, zero, suc, ◌+◌, ◌≤◌, ◌<◌}
 use native.Mathlib.Omega.{arith}
 use lib.ListN.{length, get_or, drop, get_or-eq_default}
 use lib.Seq.{drop-cons, drop-length}
-use borrow.Author.Tests.{eq-eqb, ne_eqb, eqb-false, not-true}
+use borrow.Author.Tests.{eq-eqb, ne_eqb, eqb-false, not-true, both_ways}
 use Rattle.table.specs.Table.{no_distance}
-use Rattle.table.proofs.Basics.{same_or, below_or, true_or, not_both}
+use Rattle.table.proofs.Basics.{same_or, below_or, true_or}
 use Rattle.auction.specs.HandOver.{Answer, how_many}
 use Rattle.auction.specs.Demands.{Given, distance_of}
 use Rattle.sheet.specs.Sheet.{passing, with_node, has_distance}
@@ -23,7 +23,7 @@ module _ (f : ℕ → Bool) (v : ℕ) where
       let later = absent k (suc a) (λ p q. h (omega arith) (omega arith)) in
       ⊎_elim
       (λ (t : f a ≡ true).
-      let apart : a ≡ v → ⊥ = λ e. not_both (f v) (ap f (sym e) ∙ t) (h (omega arith) (omega arith)) in
+      let apart : a ≡ v → ⊥ = λ e. both_ways (f v) (h (omega arith) (omega arith)) (ap f (sym e) ∙ t) in
       rw (t, ne_eqb a v apart) (omega (arith, later)))
       (λ (t : f a ≡ false). rw t later)
       (true_or (f a))

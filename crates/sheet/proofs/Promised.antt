@@ -7,9 +7,9 @@ use Prim.Native.Nat.{ℕ, ◌^◌, ◌≤◌, ◌<◌}
 use native.Mathlib.Omega.{arith}
 use lib.Dec.{ltb}
 use lib.ListN.{length}
-use borrow.Author.Tests.{eq-eqb, ne_eqb, lt-ltb, ltb-true}
+use borrow.Author.Tests.{eq-eqb, ne_eqb, lt-ltb, ltb-true, both_ways}
 use Rattle.table.specs.Table.{Table, table, table_of, most_nodes, Below}
-use Rattle.table.proofs.Basics.{both_true, true_both, and_false, true_or, not_both, same_or}
+use Rattle.table.proofs.Basics.{both_true, true_both, and_false, true_or, same_or}
 use Rattle.auction.specs.HandOver.{Answer, handed_over, how_many, distances, tree}
 use Rattle.auction.specs.Plan.{plan, routes_of}
 use Rattle.auction.specs.Demands.{walk_of, Demands, DemandsMet}
@@ -39,7 +39,7 @@ each_once o ts hs ws a v =
           (λ (z : how_many v (path_nodes ds ws) ≡ 0 → ⊥).
           let l = line_wanted ds v ws (omega (arith, z)) in
           let line = both_true (ltb v (node_count ds)) (has_distance ds v) l.0 in
-          absurd (not_both (has_distance ds v && holds v ws) (true_both (has_distance ds v) (holds v ws) line.1 l.1) (h (ltb-true v (node_count ds) line.0))))
+          absurd (both_ways (has_distance ds v && holds v ws) (h (ltb-true v (node_count ds) line.0)) (true_both (has_distance ds v) (holds v ws) line.1 l.1)))
           (same_or (how_many v (path_nodes ds ws)) 0);
     }
 

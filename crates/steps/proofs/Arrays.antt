@@ -5,12 +5,12 @@ use mathlib.Core.Option.{Option, none, some}
 use Prim.Native.Nat.{ℕ, zero, suc, ◌≤◌, ◌<◌}
 use native.Mathlib.Omega.{arith}
 use lib.ListN.{length, get_or, set, take, replicate}
-use lib.Seq.{take-set-lt}
+use lib.Seq.{take-set-lt, map-set}
 use borrow.Author.Tests.{ne_eqb, eq-eqb}
+use lib.LanesLaws.{map-replicate}
 use Rattle.table.specs.Table.{Table, no_arc, no_node, no_distance}
 use Rattle.steps.specs.declared.state.Status.TheVariants.{Unreached}
-use Rattle.table.proofs.Basics.{map_set, map_replicate}
-use Rattle.auction.specs.Auction.{state, price_at, bound_at, kept_at, status_at, distance, or_zero, with_kept, with_status, fresh}
+use Rattle.auction.specs.Auction.{state, price_at, bound_at, kept_at, status_at, distance, or_zero, with_kept, fresh}
 use Rattle.steps.specs.declared.state.Progress.{Progress}
 use Rattle.steps.specs.Seen.{bound_of, arc_of, nodes_of, seen, run_of, first_of, held, status_number}
 use Rattle.steps.specs.declared.state.Node.{Node}
@@ -67,11 +67,7 @@ module _ (p u b k s : List ℕ) (g : Progress) where
       seen p u (set b j d) (set k j i) s g ≡ with_kept j i d (seen p u b k s g)
   unfolding seen with_kept state
   store_kept j i d hd hi =
-      rw (map_set bound_of b j d, map_set arc_of k j i, some_bound d hd, some_arc i hi)
-
-  pub store_status : (j a : ℕ) → seen p u b k (set s j a) g ≡ with_status j a (seen p u b k s g)
-  unfolding seen with_status state
-  store_status j a = refl
+      rw (map-set bound_of b j d, map-set arc_of k j i, some_bound d hd, some_arc i hi)
 
 -- THE FRESH STATE
 take_replicate : {A : Type 0} (m n : ℕ) (a : A) → n ≤ m → take n (replicate m a) ≡ replicate n a
@@ -96,11 +92,11 @@ module _ (m n v : ℕ) (a b : Node) (low : v < n) (few : n ≤ m) where
 
   module _ {A : Type 0} (f : Node → A) where
     column_but_one : map f (take n (set (replicate m a) v b)) ≡ set (replicate n (f a)) v (f b)
-    column_but_one = ap (map f) lent_nodes ∙ written f (replicate n a) v b ∙ ap (λ l. set l v (f b)) (map_replicate f n a)
+    column_but_one = ap (map f) lent_nodes ∙ written f (replicate n a) v b ∙ ap (λ l. set l v (f b)) (map-replicate f n a)
 
     column_alike : f b ≡ f a → map f (take n (set (replicate m a) v b)) ≡ replicate n (f a)
     column_alike e =
-        ap (map f) lent_nodes ∙ unwritten f (replicate n a) v b (e ∙ sym (ap f (node_filled n v a low))) ∙ map_replicate f n a
+        ap (map f) lent_nodes ∙ unwritten f (replicate n a) v b (e ∙ sym (ap f (node_filled n v a low))) ∙ map-replicate f n a
 
 -- a node before anything is reached, and the origin's
 abbrev fresh_node : (bound : ℕ) → Node
@@ -115,4 +111,4 @@ fresh_seen m t o at g ea eo h l ed ec ee ex =
     let a = fresh_node no_distance in
     let b = fresh_node 0 in
     let below : o < n = omega arith in
-    rw (ea, ed, ec, ee, ex, path_begins m n o below l, column_alike m n o a b below l (λ k. k.price) refl, column_but_one m n o a b below l (λ k. k.bound), column_alike m n o a b below l (λ k. k.kept) refl, column_alike m n o a b below l (λ k. status_number k.status) refl, map_set bound_of (replicate n no_distance) o 0, map_replicate bound_of n no_distance, map_replicate arc_of n no_arc, some_bound 0 (λ z. omega arith), no_bound no_distance refl, no_kept no_arc refl, eo)
+    rw (ea, ed, ec, ee, ex, path_begins m n o below l, column_alike m n o a b below l (λ k. k.price) refl, column_but_one m n o a b below l (λ k. k.bound), column_alike m n o a b below l (λ k. k.kept) refl, column_alike m n o a b below l (λ k. status_number k.status) refl, map-set bound_of (replicate n no_distance) o 0, map-replicate bound_of n no_distance, map-replicate arc_of n no_arc, some_bound 0 (λ z. omega arith), no_bound no_distance refl, no_kept no_arc refl, eo)

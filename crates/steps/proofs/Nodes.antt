@@ -4,8 +4,8 @@ use mathlib.Core.List.{List, [], ◌∷◌, map}
 use Prim.Native.Nat.{ℕ, zero, suc, ◌<◌}
 use native.Mathlib.Omega.{arith}
 use lib.ListN.{length, get_or, set, length-set}
+use lib.Seq.{map-set, map-set_same}
 use Rattle.table.specs.Table.{no_arc}
-use Rattle.table.proofs.Basics.{map_set}
 use Rattle.steps.specs.declared.state.Node.{Node}
 use Rattle.steps.specs.declared.state.Status.{Status}
 use Rattle.steps.specs.declared.state.Progress.{Progress}
@@ -20,11 +20,6 @@ module _ {A : Type 0} (f : Node → A) where
   entry (n ∷ ns) zero = refl
   entry (n ∷ ns) (suc v) = entry ns v
 
-  own_entry : (ns : List Node) (v : ℕ) → set (map f ns) v (f (node_at v ns)) ≡ map f ns
-  own_entry [] v = refl
-  own_entry (n ∷ ns) zero = refl
-  own_entry (n ∷ ns) (suc v) = ap (λ l. f n ∷ l) (own_entry ns v)
-
   -- a column has as many entries as there are nodes
   pub as_many : (ns : List Node) → length (map f ns) ≡ length ns
   as_many [] = refl
@@ -32,11 +27,15 @@ module _ {A : Type 0} (f : Node → A) where
 
   -- a node that is written is written in the column,
   pub written : (ns : List Node) (v : ℕ) (n : Node) → map f (set ns v n) ≡ set (map f ns) v (f n)
-  written ns v n = map_set f ns v n
+  written ns v n = map-set f ns v n
 
   -- which stays where the node has there what it had
   pub unwritten : (ns : List Node) (v : ℕ) (n : Node) → f n ≡ f (node_at v ns) → map f (set ns v n) ≡ map f ns
-  unwritten ns v n e = map_set f ns v n ∙ ap (λ a. set (map f ns) v a) e ∙ own_entry ns v
+  unwritten ns v n e = map-set_same f ns v n nobody e
+
+-- the column of the statuses holds their numbers
+pub status_is : (ns : List Node) (v : ℕ) → get_or (statuses_in ns) v 0 ≡ status_number (node_at v ns).status
+status_is ns v = entry (λ m. status_number m.status) ns v
 
 -- A NODE GETS ANOTHER STATUS, or remembers another child, or gets another price: the other columns stay
 module _ (path : List ℕ) (ns : List Node) (g : Progress) (v : ℕ) where

@@ -6,9 +6,10 @@ use mathlib.Core.Option.{Option, none, some}
 use Prim.Native.Nat.{ℕ, ◌<◌}
 use lib.ListN.{length, get_or, set}
 use lib.Seq.{get_or-set_same, get_or-set_other}
+use borrow.Author.Tests.{both_ways}
 use Rattle.table.specs.Table.{Table, head_at}
 use Rattle.auction.specs.Auction.{State, state, kept_at, status_at, is_kept, is_deleted, to_child}
-use Rattle.table.proofs.Basics.{same_or, refuted, not_both}
+use Rattle.table.proofs.Basics.{same_or, refuted}
 use Rattle.steps.specs.declared.state.Progress.{Progress}
 use Rattle.steps.specs.Seen.{seen}
 use Rattle.steps.specs.Memory.{KeptArcs, Keeps, Loses, Remembering}
@@ -85,7 +86,7 @@ module _ {t : Table} {u : ℕ} {m' m'' : List ℕ} {x y z : State} where
         arc = a.arc;
         listed = a.listed;
         child = a.child;
-        lost = refuted (to_child t u a.arc z) (λ e. not_both (to_child t u a.arc y) (b.gains_none a.arc e) a.lost);
+        lost = refuted (to_child t u a.arc z) (λ e. both_ways (to_child t u a.arc y) a.lost (b.gains_none a.arc e));
         gains_none = λ i e. a.gains_none i (b.gains_none i e);
         memory = b.memory;
       }

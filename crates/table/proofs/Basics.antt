@@ -1,13 +1,13 @@
 -- Laws that crates above use: Bools, options, numbers, and lists. Assumes nothing.
-use mathlib.Core.Path.{◌≡◌, refl, sym, ap}
+use mathlib.Core.Path.{◌≡◌, refl, sym}
 use mathlib.Core.Bool.{Bool, true, false, ◌&&◌, ◌||◌, not}
-use mathlib.Core.List.{List, [], ◌∷◌, map}
+use mathlib.Core.List.{List, [], ◌∷◌}
 use mathlib.Core.Logic.{◌⊎◌, inl, inr, ⊎_elim}
 use mathlib.Core.Option.{Option, none, some}
 use Prim.Native.Nat.{ℕ, zero, suc, ◌≤◌, ◌<◌}
 use native.Mathlib.Omega.{arith}
 use native.Mathlib.Decide.{ℕ_discrete, dec_lt}
-use lib.ListN.{length, get_or, set, replicate}
+use lib.ListN.{length, get_or}
 
 pub same_or : (a b : ℕ) → (a ≡ b) ⊎ (a ≡ b → ⊥)
 same_or a b = elim (ℕ_discrete a b) [ yes e ↦ inl e | no h ↦ inr h ]
@@ -45,9 +45,6 @@ either_second false b e = e
 pub neither : (a b : Bool) → a ≡ false → b ≡ false → (a || b) ≡ false
 neither a b p q = rw (p, q)
 
-pub not_both : (a : Bool) → a ≡ true → a ≡ false → ⊥
-not_both a p q = let z : ◌≡◌ {A = ℕ} 0 1 = cc in absurd (omega arith)
-
 pub refuted : (a : Bool) → (a ≡ true → ⊥) → a ≡ false
 refuted true f = absurd (f refl)
 refuted false f = refl
@@ -60,18 +57,6 @@ pub not_and : (a b : Bool) → (a ≡ false) ⊎ (b ≡ false) → not (a && b) 
 not_and true true e = ⊎_elim (λ (z : true ≡ false). sym z) (λ (z : true ≡ false). sym z) e
 not_and true false e = refl
 not_and false b e = refl
-
-pub and_assoc : (a b c : Bool) → ((a && b) && c) ≡ (a && (b && c))
-and_assoc true b c = refl
-and_assoc false b c = refl
-
-pub and_true : (a : Bool) → (a && true) ≡ a
-and_true true = refl
-and_true false = refl
-
-pub or_false : (a : Bool) → (a || false) ≡ a
-or_false true = refl
-or_false false = refl
 
 pub option_or {ℓ} : {A : Type ℓ} (o : Option A) → (o ≡ none) ⊎ ((a : A) × (o ≡ some a))
 option_or none = inl refl
@@ -99,13 +84,3 @@ pub inside_same : (l : List ℕ) (i a b : ℕ) → i < length l → get_or l i a
 inside_same [] i a b h = absurd (omega arith)
 inside_same (x ∷ l) zero a b h = refl
 inside_same (x ∷ l) (suc i) a b h = inside_same l i a b (omega arith)
-
--- a function on every element of a list: of one that was put into it, and of many of the same
-pub map_set : {A B : Type 0} (f : A → B) (l : List A) (i : ℕ) (a : A) → map f (set l i a) ≡ set (map f l) i (f a)
-map_set f [] i a = refl
-map_set f (b ∷ l) zero a = refl
-map_set f (b ∷ l) (suc i) a = ap (λ m. f b ∷ m) (map_set f l i a)
-
-pub map_replicate : {A B : Type 0} (f : A → B) (n : ℕ) (a : A) → map f (replicate n a) ≡ replicate n (f a)
-map_replicate f zero a = refl
-map_replicate f (suc n) a = ap (λ l. f a ∷ l) (map_replicate f n a)

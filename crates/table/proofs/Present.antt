@@ -4,9 +4,9 @@ use mathlib.Core.Bool.{true, false, not}
 use mathlib.Core.Logic.{⊎_elim}
 use Prim.Native.Nat.{ℕ, ◌≤◌, ◌<◌}
 use native.Mathlib.Omega.{arith}
-use borrow.Author.Tests.{eq-eqb, ne_eqb}
+use borrow.Author.Tests.{eq-eqb, ne_eqb, both_ways}
 use Rattle.table.specs.Table.{Table, arc_at, length_at, tail_at, present, present_at, most_nodes, down, no_node}
-use Rattle.table.proofs.Basics.{true_or, not_both}
+use Rattle.table.proofs.Basics.{true_or}
 
 module _ (t : Table) (i : ℕ) where
   -- a present arc leaves its tail, an absent one no node
@@ -34,4 +34,4 @@ module _ (t : Table) (i : ℕ) where
   up_present d = ap not (ne_eqb (arc_at t i).arc_length down d)
 
   pub present_up : present_at t i ≡ true → length_at t i ≡ down → ⊥
-  present_up p e = not_both (present_at t i) p (down_absent e)
+  present_up p e = both_ways (present_at t i) (down_absent e) p

@@ -6,10 +6,10 @@ use mathlib.Core.Option.{Option, none, some}
 use Prim.Native.Nat.{ℕ, zero, suc, ◌+◌, ◌≤◌, ◌<◌}
 use native.Mathlib.Omega.{arith}
 use lib.Dec.{leb, eqb}
-use borrow.Author.Tests.{leb-true, leb-false, eqb-true, eq-eqb, not-true}
+use borrow.Author.Tests.{leb-true, leb-false, eqb-true, eq-eqb, not-true, both_ways}
 use Rattle.table.specs.Table.{Table, arc_count, tail_at, head_at, length_at}
 use Rattle.auction.specs.Auction.{State, Bid, bid, price_at, kept_at, status_at, is_kept, is_deleted, to_child, lower_bid, with_bid, best_from, best, deleted}
-use Rattle.table.proofs.Basics.{same_or, true_or, both_true, not_both}
+use Rattle.table.proofs.Basics.{same_or, true_or, both_true}
 use Rattle.auction.proofs.Steps.Effects.{undeleted_status, deleted_status}
 
 -- the arc at a position leads from v to a child of it
@@ -23,7 +23,7 @@ bid_at t x i = length_at t i + price_at x (head_at t i)
 
 pub kept_test : (x : State) (i : ℕ) (o : Option ℕ) → is_kept x i o ≡ true → o ≡ some i
 unfolding is_kept
-kept_test x i none e = absurd (not_both true refl (sym e))
+kept_test x i none e = absurd (both_ways true (sym e) refl)
 kept_test x i (some k) e = ap some (eqb-true k i e)
 
 pub test_kept : (x : State) (i : ℕ) (o : Option ℕ) → o ≡ some i → is_kept x i o ≡ true
@@ -72,12 +72,12 @@ module _ (t : Table) (v : ℕ) (x : State) where
   skipped : (k a : ℕ) (o : Option Bid) → to_child t v a x ≡ false → Says k (suc a) o → Says (suc k) a o
   unfolding Says
   skipped k a none e s = λ i h l c.
-      ⊎_elim (λ (p : i ≡ a). not_both (to_child t v a x) (ap (λ (j : ℕ). to_child t v j x) (sym p) ∙ child_test i c) e)
+      ⊎_elim (λ (p : i ≡ a). both_ways (to_child t v a x) e (ap (λ (j : ℕ). to_child t v j x) (sym p) ∙ child_test i c))
       (λ (d : i ≡ a → ⊥). s i (omega (arith, d)) (omega arith) c)
       (same_or i a)
   skipped k a (some b) e s =
       let other : (i : ℕ) → Child t v i x → i ≡ a → ⊥ =
-      λ i c p. not_both (to_child t v a x) (ap (λ (j : ℕ). to_child t v j x) (sym p) ∙ child_test i c) e in
+      λ i c p. both_ways (to_child t v a x) e (ap (λ (j : ℕ). to_child t v j x) (sym p) ∙ child_test i c) in
       record {
         from = omega (arith, s.from);
         to = omega (arith, s.to);

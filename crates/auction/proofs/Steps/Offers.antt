@@ -5,10 +5,10 @@ use mathlib.Core.Logic.{◌⊎◌, inl, inr, ⊎_elim}
 use mathlib.Core.Option.{Option, none, some}
 use Prim.Native.Nat.{ℕ, ◌+◌, ◌≤◌, ◌<◌}
 use lib.Dec.{ltb, eqb}
-use borrow.Author.Tests.{ltb-true, ltb-false, eqb-true, eq-eqb, not-true}
+use borrow.Author.Tests.{ltb-true, ltb-false, eqb-true, eq-eqb, not-true, both_ways}
 use Rattle.table.specs.Table.{Table, tail_at, head_at, length_at}
 use Rattle.auction.specs.Auction.{State, bound_at, kept_at, status_at, distance, or_zero, was_reached, improves, takes, unreached}
-use Rattle.table.proofs.Basics.{either_true, either_false, true_or, both_true, not_both, option_or}
+use Rattle.table.proofs.Basics.{either_true, either_false, true_or, both_true, option_or}
 use Rattle.auction.proofs.Steps.Effects.{reached_status, unreached_status}
 
 both_false : (a b : Bool) → (a && b) ≡ false → a ≡ true → b ≡ false
@@ -76,7 +76,7 @@ module _ (t : Table) (v i : ℕ) (x : State) where
       both_false (not (was_reached x (head_at t i))) (improves b i (bound_at x (head_at t i)) k) p (ap not r) in
       ⊎_elim
       (λ (n : bound_at x (head_at t i) ≡ none).
-      absurd (not_both true refl (subst (λ (o : Option ℕ). improves b i o k ≡ false) n q)))
+      absurd (both_ways true (subst (λ (o : Option ℕ). improves b i o k ≡ false) n q) refl))
       (λ (s : (c : ℕ) × (bound_at x (head_at t i) ≡ some c)).
       let f = no_better b i s.0 k (subst (λ (o : Option ℕ). improves b i o k ≡ false) s.1 q) in
       inr (record { c = s.0; bound = s.1; low = f.0; earlier = f.1 }))

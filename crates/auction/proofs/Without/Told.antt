@@ -9,10 +9,12 @@ use native.Mathlib.Omega.{arith}
 use lib.Dec.{ltb, leb, eqb}
 use lib.ListN.{length, get_or, get_or-map}
 use borrow.Author.Tests.{le-ltb, ne_eqb}
+use lib.Seq.{map-set}
+use lib.LanesLaws.{map-replicate}
 use Rattle.table.specs.Table.{Arc, Table, table, arc, arc_count, arc_at, present, present_at, tail_at, head_at, length_at, no_arc, no_node}
 use Rattle.auction.specs.Auction.{State, state, terminal, price_at, bound_at, kept_at, status_at, or_zero, distance, was_reached, is_deleted, improves, with_kept, with_status, takes, offer, offers, reach, reached, fresh, start, Bid, bid, is_kept, to_child, lower_bid, with_bid, best_from, best, deletion, contraction, longer, extension, iteration, next}
 use Rattle.auction.specs.Absent.{present_arcs, without_absent, told, told_state, told_step}
-use Rattle.table.proofs.Basics.{true_or, map_set, map_replicate}
+use Rattle.table.proofs.Basics.{true_or}
 use Rattle.table.proofs.Present.{absent_tail}
 use Rattle.auction.proofs.Good.{Good}
 use Rattle.auction.proofs.Steps.Bids.{best_bid}
@@ -53,7 +55,7 @@ module _ (t : Table) where
 
   told_with_kept : (j i b : ℕ) (x : State) → with_kept j (place i) b (retold x) ≡ retold (with_kept j i b x)
   unfolding with_kept told_state state told
-  told_with_kept j i b x = rw (map_set (told place) x.kept j (some i))
+  told_with_kept j i b x = rw (map-set (told place) x.kept j (some i))
 
   told_offer : (v i : ℕ) (x : State) → offer t v (place i) (retold x) ≡ retold (offer s v i x)
   unfolding offer distance bound_at told_state state
@@ -128,7 +130,7 @@ module _ (t : Table) where
 
   told_fresh : fresh t ≡ retold (fresh s)
   unfolding fresh told_state state told without_absent table
-  told_fresh = rw (map_replicate (told place) t.n none)
+  told_fresh = rw (map-replicate (told place) t.n none)
 
   pub told_start : t.origin < no_node → start t ≡ retold (start s)
   unfolding start without_absent table

@@ -1,12 +1,13 @@
 -- What has been added and the total of what is left are together the list's. Assumes nothing.
-use mathlib.Core.Path.{◌≡◌, ap, ◌∙◌}
+use mathlib.Core.Path.{◌≡◌, ap, ◌∙◌, sym}
 use Prim.Native.Nat.{◌<◌}
 use native.Mathlib.Omega.{arith}
 use lib.ListN.{length}
 use Rattle.std.proofs.lemmas.Grind.{common_steps}
 use Rattle.std.proofs.lemmas.Option.{gets}
+use Rattle.keeping.proofs.Choices.{lent_few}
 use Rattle.keeper.specs.Totals.{held}
-use Rattle.keeper.proofs.Totalling.{lent_none, lent_many, lent_few, begins, window, stops, goes_on, ends, ends_outside}
+use Rattle.keeper.proofs.Totalling.{lent_none, lent_many, begins, window, stops, goes_on, ends, ends_outside}
 use Rattle.keeper.proofs.total.Goals as goal
 
 pub returns-in_err-last : goal.returns-in_err-last
@@ -29,7 +30,7 @@ returns-in_err-step_length c =
     let p = window _ _ _ c.loop-step.invariant.pairs s.0 s.1 in
     ap held c.from_residual-in_err-step_length.ensures
     ∙ stops _ _ _ _ c.loop-step.invariant.adding p.0 (rw (p.1, p.2) at c.in_err-step_length.ensures)
-    ∙ lent_few _ _ c.if-list-gt-MOST_NODES.false
+    ∙ sym (lent_few _ _ c.if-list-gt-MOST_NODES.false)
 
 pub loop-step-preserved : goal.loop-step-preserved
 loop-step-preserved c =
@@ -46,10 +47,10 @@ pub returns-then-from-linked : goal.returns-then-from-linked
 returns-then-from-linked c =
     ends _ _ _ _ c.loop-step.invariant.adding (omega (arith, c.in-None.ensures.steps)) _ c.in_ok-last.ensures.value
     (omega (arith, c.args.linked.now.listed.linked.first_count))
-    ∙ lent_few _ _ c.if-list-gt-MOST_NODES.false
+    ∙ sym (lent_few _ _ c.if-list-gt-MOST_NODES.false)
 
 pub returns-else-from-linked : goal.returns-else-from-linked
 returns-else-from-linked c =
     ends_outside _ _ _ _ c.loop-step.invariant.adding (omega (arith, c.in-None.ensures.steps)) _ c.in_ok-last.ensures.value
     (omega (arith, c.args.linked.now.listed.linked.first_count))
-    ∙ lent_few _ _ c.if-list-gt-MOST_NODES.false
+    ∙ sym (lent_few _ _ c.if-list-gt-MOST_NODES.false)

@@ -1,5 +1,5 @@
 -- A run of nodes: what the reader says of it, and the loops over it. Assumes nothing.
-use mathlib.Core.Bool.{Bool, ◌&&◌}
+use mathlib.Core.Bool.{Bool, ◌&&◌, and-true, and_assoc}
 use mathlib.Core.List.{List, ◌∷◌}
 use mathlib.Core.Path.{◌≡◌, refl, ap, sym, ◌∙◌}
 use Prim.Native.Nat.{ℕ, zero, suc, ◌+◌, ◌-◌, ◌*◌, ◌≤◌, ◌<◌}
@@ -14,7 +14,6 @@ use borrow.Author.Tests.{le-leb, lt-leb}
 use Rattle.link_format.specs.Format.{counts_from}
 use Rattle.link_format.specs.Reading.{◌>>=◌, got, refused, and_then, give, field, number, read_nodes}
 use Rattle.link_reader.specs.Says.{nodes_in, NodesGot}
-use Rattle.table.proofs.Basics.{and_assoc, and_true}
 
 -- the reader, where all nodes are there
 pub nodes_read : (k at : ℕ) (rest : List ℕ) → 2 * k ≤ length rest → read_nodes k at rest ≡ got (nodes_in k rest) (at + 2 * k) (drop (2 * k) rest)
@@ -89,7 +88,7 @@ module _ {file : List ℕ} {from count at i : ℕ} {ascending : Bool} (c : Check
       record {
         on = omega (arith, c.along.here);
         inside = c.along.inside;
-        up = sym (and_true ascending) ∙ (rw none at c.same);
+        up = sym (and-true ascending) ∙ (rw none at c.same);
       }
 
 pub length_nodes_in : (k : ℕ) (bs : List ℕ) → length (nodes_in k bs) ≡ k

@@ -7,6 +7,7 @@ use Prim.Native.Nat.{ℕ, ◌+◌, ◌≤◌, ◌<◌}
 use native.Mathlib.Decide.{dec_lt}
 use native.Mathlib.Omega.{arith}
 use lib.ListN.{length, drop, set}
+use borrow.Author.Tests.{both_ways}
 use Rattle.table.specs.Table.{Arc, arc, most_arcs}
 use Rattle.table.specs.Lent.{arc_of}
 use Rattle.link_reader.specs.declared.records.Record.{Record}
@@ -16,7 +17,6 @@ use Rattle.link_format.proofs.Records.{in_front}
 use Rattle.link_reader.specs.Says.{RecordGot, arcs_from}
 use Rattle.link_fields.proofs.Columns.{Column, column_next}
 use Rattle.link_reader.proofs.records.Runs.{remaining, Standing, standing_next, run_none, run_full, run_refused, run_more}
-use Rattle.table.proofs.Basics.{not_both}
 use lib.Seq.{sets}
 
 -- an arc in front of the rest
@@ -28,12 +28,12 @@ accepted_then a (refused n p) = refl
 got_then : (a : Arc) (o : Outcome (List Arc)) → accepted o ≡ true → list_got (in_front a o) ≡ a ∷ list_got o
 unfolding and_then give accepted list_got
 got_then a (got more at rest) e = refl
-got_then a (refused n p) e = absurd (not_both _ e refl)
+got_then a (refused n p) e = absurd (both_ways _ refl e)
 
 -- a refusal is no acceptance
 refused_not : {A : Type 0} {o : Outcome A} {n p : ℕ} → o ≡ refused n p → accepted o ≡ true → ⊥
 unfolding accepted
-refused_not e good = not_both _ (rw e at good) refl
+refused_not e good = both_ways _ refl (rw e at good)
 
 module _ (file : List ℕ) (at i : ℕ) (before : Option Arc) (good : accepted (remaining file at i before) ≡ true) where
   -- an accepted file has no record 6,001

@@ -34,9 +34,6 @@ module _ (n k : ℕ) (f : IsDigitCount 10 1 n k) where
     unfolding places
     fewest_places = sym (found 19 1 (omega arith) f.0 (omega (arith, few)))
 
-    pub fewest_few : k ≤ 20
-    fewest_few = few
-
     pub fewest_decimal : last_digits 10 k n ≡ decimal n
     unfolding decimal
     fewest_decimal = ap (λ (a : ℕ). last_digits 10 a n) fewest_places

@@ -13,10 +13,11 @@ use Prim.Native.Nat.{ℕ, ◌≤◌, ◌<◌}
 use native.Mathlib.Omega.{arith}
 use lib.ListN.{length, get_or, set}
 use lib.Seq.{get_or-set_same, get_or-set_other}
+use borrow.Author.Tests.{both_ways}
 use Rattle.table.specs.Table.{Table, arc_count, tail_at, head_at, no_node}
 use Rattle.auction.specs.Auction.{State, Bid, terminal, price_at, kept_at, status_at, is_deleted, to_child, best, without_terminal, unreached, reached, deleted}
 use Rattle.auction.specs.Scans.{scans_now}
-use Rattle.table.proofs.Basics.{same_or, option_or, not_both, refuted, some_none, some_same}
+use Rattle.table.proofs.Basics.{same_or, option_or, refuted, some_none, some_same}
 use Rattle.auction.proofs.Steps.Effects.{Restatused, Repriced}
 use Rattle.auction.proofs.Steps.Bids.{child, child_test, best_bid}
 use Rattle.auction.proofs.Invariant.Sound.{Nodes, Chain}
@@ -72,7 +73,7 @@ entry_here l v c u e h = ap (λ (k : ℕ). get_or (set l v c) k 0) e ∙ get_or-
 module _ {t : Table} {v : ℕ} {last : Option State} where
   -- it has to scan, and the entry says so
   holds_none : {c : ℕ} {x : State} → scans_now t v last x ≡ true → c ≡ no_node → Holds t v c last x
-  holds_none {c} {x} must e = record { forgotten = λ q. e; recalled = λ q. absurd (not_both (scans_now t v last x) must q) }
+  holds_none {c} {x} must e = record { forgotten = λ q. e; recalled = λ q. absurd (both_ways (scans_now t v last x) q must) }
 
   -- nothing of what it goes by has changed
   holds_still : {c c' : ℕ} {x y : State} → ((i : ℕ) → i < arc_count t → to_child t v i y ≡ to_child t v i x) →
@@ -146,7 +147,7 @@ module _ {t : Table} {x : State} {dep : ℕ → ℕ} (s : Nodes t x dep) (chain 
             let entry = entry_here l v c u e (omega (arith, low, long)) in
             subst (λ (o : Option State). Holds t u (get_or (set l v c) u 0) o x) (sym (ap m' e ∙ look.here))
             (record {
-              forgotten = λ must. absurd (not_both (scans_now t u (some x) x) must (scans_at_once t u x));
+              forgotten = λ must. absurd (both_ways (scans_now t u (some x) x) (scans_at_once t u x) must);
               recalled =
                   λ none_now.
                   subst (λ (k : ℕ). ChildOf t u (some x) k) (sym entry) (subst (λ (w : ℕ). ChildOf t w (some x) c) (sym e) look.child);

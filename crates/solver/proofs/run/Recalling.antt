@@ -8,12 +8,12 @@ use mathlib.Core.Option.{Option, none, some}
 use Prim.Native.Nat.{ℕ, suc, ◌≤◌, ◌<◌}
 use native.Mathlib.Omega.{arith}
 use lib.ListN.{length, get_or, set, length-set}
-use borrow.Author.Tests.{eq-eqb, ne_eqb}
+use borrow.Author.Tests.{eq-eqb, ne_eqb, both_ways}
 use Rattle.table.specs.Table.{Table, head_at, no_node}
 use Rattle.auction.specs.Auction.{State, Bid, state, terminal, price_at, kept_at, status_at, extension, deletion, contraction, best, next, after, without_terminal, reached, deleted}
 use Rattle.auction.specs.Scans.{scans_now, history, last_scan, scans}
 use Rattle.auction.specs.Promises.{GoesByMemory}
-use Rattle.table.proofs.Basics.{same_or, true_or, not_both, refuted, some_same}
+use Rattle.table.proofs.Basics.{same_or, true_or, refuted, some_same}
 use Rattle.auction.proofs.Good.{Good}
 use Rattle.auction.proofs.Steps.Effects.{deletion_effect, repriced, status_in}
 use Rattle.auction.proofs.Steps.Bids.{best_bid}
@@ -49,7 +49,7 @@ pub holding_first : (t : Table) (l : List ℕ) (x : State) → ((v : ℕ) → v 
 unfolding history last_scan scans_now Led
 holding_first t l x none_there e =
     record {
-      each = λ v low live. record { forgotten = λ q. none_there v low; recalled = λ q. absurd (not_both true refl q) };
+      each = λ v low live. record { forgotten = λ q. none_there v low; recalled = λ q. absurd (both_ways true q refl) };
       led = subst (λ (p : List ℕ). Led t (memory 0 t) p) (sym e) refl;
     }
 

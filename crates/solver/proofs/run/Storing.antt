@@ -4,7 +4,7 @@ use mathlib.Core.List.{List}
 use mathlib.Core.Option.{none, some}
 use mathlib.Core.Bool.{true, false}
 use Prim.Native.Nat.{ℕ, ◌≤◌, ◌<◌}
-use borrow.Author.Tests.{ltb-true, ltb-false}
+use borrow.Author.Tests.{ltb-true, ltb-false, both_ways}
 use Rattle.solver.specs.Runs.{is_above}
 use native.Mathlib.Omega.{arith}
 use lib.ListN.{get_or, set}
@@ -12,7 +12,7 @@ use Rattle.std.specs.Prelude.{Option, Some, None, is_some}
 use Rattle.table.specs.Table.{Table, head_at, no_node}
 use Rattle.table.specs.Lent.{table_in}
 use Rattle.auction.specs.Auction.{State, Bid, bid, best, terminal, price_at}
-use Rattle.table.proofs.Basics.{some_none, some_same, not_both}
+use Rattle.table.proofs.Basics.{some_none, some_same}
 use Rattle.auction.proofs.Steps.Bids.{best_bid}
 use Rattle.forward_star.specs.declared.linked.LinkedTable.{LinkedTable}
 use Rattle.forward_star.proofs.Columns.{origin_is, tails_of_star}
@@ -37,15 +37,15 @@ the_bid (Some c) b e = (c, (refl, some_same refl e))
 
 pub none_told : (least : Option LeastBid) → is_some least ≡ false → least ≡ None
 none_told None e = refl
-none_told (Some c) e = absurd (not_both true refl e)
+none_told (Some c) e = absurd (both_ways true e refl)
 
 pub some_told : (least : Option LeastBid) → is_some least ≡ true → least ≡ None → ⊥
-some_told None e z = not_both false e refl
+some_told None e z = both_ways false refl e
 some_told (Some c) e z = cc
 
 -- where it is above a limit
 pub above_bid : (limit : ℕ) (least : Option LeastBid) → is_above limit least ≡ true → (c : LeastBid) × ((least ≡ Some c) × (limit < c.value))
-above_bid limit None e = absurd (not_both false e refl)
+above_bid limit None e = absurd (both_ways false refl e)
 above_bid limit (Some c) e = (c, (refl, ltb-true limit c.value e))
 
 pub not_above : (limit : ℕ) (least : Option LeastBid) → is_above limit least ≡ false → (c : LeastBid) → least ≡ Some c → limit < c.value → ⊥

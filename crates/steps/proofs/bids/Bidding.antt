@@ -1,6 +1,6 @@
 -- The bid over one arc, and the least bid over all arcs out of a node. Assumes nothing.
 use mathlib.Core.Path.{◌≡◌, refl, sym, ap, subst, ◌∙◌}
-use mathlib.Core.Bool.{Bool, true, false, ◌&&◌, not}
+use mathlib.Core.Bool.{Bool, true, false, ◌&&◌, not, and-false}
 use mathlib.Core.List.{List}
 use mathlib.Core.Logic.{◌⊎◌, inl, inr, ⊎_elim}
 use mathlib.Core.Option.{none, some}
@@ -19,7 +19,7 @@ use Rattle.steps.specs.declared.bids.LeastBid.{LeastBid}
 use Rattle.steps.specs.declared.state.Node.{Node}
 use Rattle.steps.specs.Memory.{node_at}
 use Rattle.steps.specs.Seen.{arc_of, seen, status_number, run_of, held, prices_in, bounds_in, kepts_in, statuses_in}
-use Rattle.steps.proofs.Nodes.{entry, as_many}
+use Rattle.steps.proofs.Nodes.{entry, as_many, status_is}
 use Rattle.forward_star.specs.Lists.{star, Outgoing}
 use Rattle.steps.specs.Steps.{lower_of, bid_over, bid_in}
 use Rattle.steps.proofs.Arrays.{some_arc, no_kept, seen_kept, seen_status, seen_price}
@@ -41,16 +41,12 @@ module _ (t : Table) (i j : ℕ) (p u b k s : List ℕ) (g : Progress) (at : hea
       (λ (e : get_or k j 0 ≡ no_arc → ⊥). rw (some_arc (get_or k j 0) e) (ne_eqb (get_or k j 0) i d))
       (same_or (get_or k j 0) no_arc)
 
-  and_false : (a : Bool) → (a && false) ≡ false
-  and_false true = refl
-  and_false false = refl
-
   pub no_child : ((get_or k j 0 ≡ i → ⊥) ⊎ (get_or s j 0 ≡ 2)) → to_child t (tail_at t i) i (seen p u b k s g) ≡ false
   no_child e =
       child_is
       ∙ ⊎_elim
       (λ (d : get_or k j 0 ≡ i → ⊥). rw (not_kept (seen p u b k s g) d))
-      (λ (d : get_or s j 0 ≡ 2). rw (eq-eqb (get_or s j 0) 2 d) (and_false (is_kept (seen p u b k s g) i (arc_of (get_or k j 0)))))
+      (λ (d : get_or s j 0 ≡ 2). rw (eq-eqb (get_or s j 0) 2 d) (and-false (is_kept (seen p u b k s g) i (arc_of (get_or k j 0)))))
       e
 
   pub a_child : get_or k j 0 ≡ i → i < no_arc → (get_or s j 0 ≡ 2 → ⊥) → to_child t (tail_at t i) i (seen p u b k s g) ≡ true
@@ -69,21 +65,18 @@ module _ (t : Table) (i j : ℕ) (path : List ℕ) (ns : List Node) (g : Progres
   kept_is : get_or (kepts_in ns) j 0 ≡ n.kept
   kept_is = entry (λ m. m.kept) ns j
 
-  status_is : get_or (statuses_in ns) j 0 ≡ status_number n.status
-  status_is = entry (λ m. status_number m.status) ns j
-
   kepts_long : j < length (kepts_in ns)
   kepts_long = omega (arith, as_many (λ m. m.kept) ns)
 
   pub no_child_there : ((n.kept ≡ i → ⊥) ⊎ (eqb (status_number n.status) 2 ≡ true)) → to_child t (tail_at t i) i x ≡ false
   no_child_there e =
       no_child t i j path (prices_in ns) (bounds_in ns) (kepts_in ns) (statuses_in ns) g at kepts_long
-      (⊎_elim (λ (d : n.kept ≡ i → ⊥). inl (λ z. d (sym kept_is ∙ z))) (λ (d : eqb (status_number n.status) 2 ≡ true). inr (status_is ∙ eqb-true _ 2 d)) e)
+      (⊎_elim (λ (d : n.kept ≡ i → ⊥). inl (λ z. d (sym kept_is ∙ z))) (λ (d : eqb (status_number n.status) 2 ≡ true). inr (status_is ns j ∙ eqb-true _ 2 d)) e)
 
   child_there : n.kept ≡ i → i < no_arc → eqb (status_number n.status) 2 ≡ false → to_child t (tail_at t i) i x ≡ true
   child_there e low d =
       a_child t i j path (prices_in ns) (bounds_in ns) (kepts_in ns) (statuses_in ns) g at kepts_long (kept_is ∙ e) low
-      (λ z. eqb-false _ 2 d (sym status_is ∙ z))
+      (λ z. eqb-false _ 2 d (sym (status_is ns j) ∙ z))
 
   pub bid_there : n.kept ≡ i → i < no_arc → eqb (status_number n.status) 2 ≡ false → (l w : ℕ) → length_at t i ≡ l → w ≡ l →
       bid_over t i x ≡ some (bid (w + n.price) i)

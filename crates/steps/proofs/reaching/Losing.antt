@@ -9,10 +9,10 @@ use Prim.Native.Nat.{ℕ, ◌<◌}
 use lib.Dec.{eqb}
 use native.Mathlib.Omega.{arith}
 use lib.ListN.{length, get_or, set, length-set}
-use lib.Seq.{get_or-set_same, get_or-set_other}
-use borrow.Author.Tests.{eq-eqb, ne_eqb}
+use lib.Seq.{get_or-set_same, get_or-set_other, map-set}
+use borrow.Author.Tests.{eq-eqb, ne_eqb, both_ways}
 use Rattle.table.specs.Table.{Table, arc_count, tail_at, head_at, down, no_arc, no_node}
-use Rattle.table.proofs.Basics.{same_or, refuted, not_both, some_none, some_same, inside, map_set}
+use Rattle.table.proofs.Basics.{same_or, refuted, some_none, some_same, inside}
 use Rattle.auction.specs.Auction.{State, state, kept_at, status_at, is_deleted, to_child, unreached}
 use Rattle.auction.proofs.Steps.Bids.{child, child_test}
 use Rattle.steps.specs.declared.state.Progress.{Progress}
@@ -82,7 +82,7 @@ module _ (t : Table) {j i v : ℕ} {x y : State} (taken : KeptInstead j i x y) (
             (record { leaves = leaves; kept = ap (kept_at x) arc.into ∙ kept; undeleted = λ z. let same = ap (status_at x) arc.into in omega arith });
         lost = none_there k arc.into;
         gains_none = λ q c.
-            ⊎_elim (λ (h : head_at t q ≡ j). absurd (not_both (to_child t u q y) c (none_there q h)))
+            ⊎_elim (λ (h : head_at t q ≡ j). absurd (both_ways (to_child t u q y) (none_there q h) c))
             (λ (d : head_at t q ≡ j → ⊥). sym (same_elsewhere q d) ∙ c)
             (same_or (head_at t q) j);
         memory = e;
@@ -167,7 +167,7 @@ module _ (p u b b' k s : List ℕ) (g : Progress) {j i : ℕ} (inside : j < leng
       record {
         here =
             seen_kept p u b' (set k j i) s g j (omega (arith, length-set k j i)) ∙ ap arc_of (get_or-set_same k j i 0 inside) ∙ some_arc i low;
-        elsewhere = λ w d. rw (map_set arc_of k j i) (get_or-set_other (map arc_of k) j w (arc_of i) none d);
+        elsewhere = λ w d. rw (map-set arc_of k j i) (get_or-set_other (map arc_of k) j w (arc_of i) none d);
         statuses = λ w. refl;
       }
 

@@ -15,7 +15,7 @@ use Rattle.steps.specs.declared.state.Node.{Node}
 use Rattle.steps.specs.Seen.{bound_of, arc_of, status_number, prices_in, bounds_in, kepts_in, memory_in, statuses_in}
 use Rattle.steps.specs.Memory.{node_at, without_tail}
 use Rattle.steps.specs.Steps.{keeping, offered_arc}
-use Rattle.steps.proofs.Nodes.{entry, as_many, written, unwritten}
+use Rattle.steps.proofs.Nodes.{entry, as_many, written, unwritten, status_is}
 use Rattle.steps.proofs.reaching.Offering.{ArcOffered, offered_kept, offered_dropped, offered_reached}
 use Rattle.steps.proofs.reaching.Losing.{GivesUp, tail_forgets}
 
@@ -53,9 +53,6 @@ module _ (j i d : ℕ) (ts : List ℕ) (ns : List Node) (inside : j < length ns)
   abbrev better : Bool
   better = improves d i (bound_of n.bound) (arc_of n.kept)
 
-  status_is : get_or (statuses_in ns) j 0 ≡ status_number n.status
-  status_is = entry (λ m. status_number m.status) ns j
-
   bounds_in_reach : j < length (bounds_in ns)
   bounds_in_reach = omega (arith, as_many (λ m. m.bound) ns)
 
@@ -72,7 +69,7 @@ module _ (j i d : ℕ) (ts : List ℕ) (ns : List Node) (inside : j < length ns)
   taken : reached_before ≡ false → better ≡ true → NowOffered j i d ts ns (keeping j i d (without_tail n.kept ts ns))
   taken new wins =
       let ms = without_tail n.kept ts ns in
-      let unreached_here : get_or (statuses_in ns) j 0 ≡ 0 = omega (arith, status_is, ltb-false _ _ new) in
+      let unreached_here : get_or (statuses_in ns) j 0 ≡ 0 = omega (arith, status_is ns j, ltb-false _ _ new) in
       let bounds : bounds_in (keeping j i d ms) ≡ set (bounds_in ns) j d =
       written (λ m. m.bound) ms j _ ∙ ap (λ l. set l j d) (column_stays n.kept ts ns (λ m. m.bound) (λ m. refl)) in
       let kepts : kepts_in (keeping j i d ms) ≡ set (kepts_in ns) j i =
@@ -96,7 +93,7 @@ module _ (j i d : ℕ) (ts : List ℕ) (ns : List Node) (inside : j < length ns)
         statuses = refl;
         offered =
             ⊎_elim
-            (λ (e : reached_before ≡ true). offered_reached bounds_in_reach kepts_in_reach (λ z. omega (arith, status_is, ltb-true _ _ e)))
+            (λ (e : reached_before ≡ true). offered_reached bounds_in_reach kepts_in_reach (λ z. omega (arith, status_is ns j, ltb-true _ _ e)))
             (λ (e : better ≡ false).
             ⊎_elim
             (λ (z : get_or (statuses_in ns) j 0 ≡ 0). offered_dropped bounds_in_reach kepts_in_reach (read_so false e) z)

@@ -1,6 +1,6 @@
 -- Whether an offered bound is kept, and what offering one arc leaves. Assumes nothing.
 use mathlib.Core.Path.{◌≡◌, refl, sym, ap, ◌∙◌}
-use mathlib.Core.Bool.{Bool, true, false, ◌&&◌, ◌||◌, not, cond}
+use mathlib.Core.Bool.{Bool, true, false, ◌&&◌, not, cond, or-false}
 use mathlib.Core.List.{List}
 use mathlib.Core.Logic.{⊎_elim}
 use Prim.Native.Nat.{ℕ, ◌+◌, ◌-◌, ◌≤◌, ◌<◌}
@@ -51,16 +51,12 @@ module _ (o i b k : ℕ) (fits : o < no_distance) where
       (λ (z : k ≡ no_arc → ⊥). rw (equal_lower e, some_arc k z))
       (same_or k no_arc)
 
-  or_false : (a : Bool) → a ≡ (a || false)
-  or_false true = refl
-  or_false false = refl
-
   pub unequal : (o ≡ b → ⊥) → ltb o b ≡ improves o i (bound_of b) (arc_of k)
   unfolding improves
   unequal d =
       ⊎_elim
       (λ (z : b ≡ no_distance). rw (no_bound b z) (lt-ltb o b (omega arith)))
-      (λ (z : b ≡ no_distance → ⊥). rw (some_bound b z, ne_eqb o b d) (or_false (ltb o b)))
+      (λ (z : b ≡ no_distance → ⊥). rw (some_bound b z, ne_eqb o b d) (sym (or-false (ltb o b))))
       (same_or b no_distance)
 
 -- ONE ARC OFFERED

@@ -6,14 +6,12 @@ use Prim.Native.Nat.{ℕ, zero, suc, ◌+◌, ◌-◌, ◌≤◌, ◌<◌}
 use native.Mathlib.Omega.{arith}
 use native.Mathlib.Numerals.{add-one}
 use lib.ListN.{length, get_or, set}
-use lib.Seq.{get_or-set_same, get_or-set_other, lt-length-set}
+use lib.Seq.{get_or-set_same, get_or-set_other}
 use borrow.Author.Tests.{lt-ltb, le-ltb, eq-eqb, ne_eqb}
 use Rattle.table.specs.Table.{Table, head_at}
 use Rattle.auction.specs.Auction.{State, state, bid, was_reached, price_at, without_terminal, deletion, contraction, longer, extension, reach, iteration, status_at, unreached}
 use Rattle.steps.specs.declared.state.Progress.{Progress}
-use Rattle.steps.specs.declared.state.Node.{Node}
 use Rattle.steps.specs.Seen.{nodes_of, seen}
-use Rattle.steps.specs.Memory.{HasBefore}
 use Rattle.steps.proofs.Arrays.{seen_status}
 
 -- THE PATH
@@ -43,11 +41,6 @@ pub as_many : (d : ℕ) (p : List ℕ) → length (nodes_of d p) ≡ d
 unfolding nodes_of
 as_many zero p = refl
 as_many (suc d) p = ap suc (as_many d p)
-
--- the node before the terminal one can be looked up still
-pub before_still : {d : ℕ} {p : List ℕ} {ns : List Node} (v : ℕ) (a : Node) → HasBefore d p ns → HasBefore d p (set ns v a)
-before_still {d} {p} {ns} v a h =
-    record { some_node = h.some_node; on_path = h.on_path; inside = lt-length-set ns v a h.inside }
 
 -- THE THREE KINDS OF ITERATION
 abbrev pub grown : Progress → Progress
