@@ -9,11 +9,11 @@ use Rattle.link_format.specs.Format.{node_width, length_width, limit, bit_map}
 use Rattle.link_format.specs.Reading.{Reader, got, refused, implied}
 use Rattle.link_fields.specs.declared.arcs.Absent.{Absent}
 use Rattle.link_fields.specs.declared.bit_maps.BitMap.{BitMap}
-use Rattle.link_fields.specs.declared.fields.Field.{Field}
+use Rattle.link_fields.specs.declared.fields.Read.{Read}
 use Rattle.link_fields.specs.declared.fields.Output.{Output}
 
 -- At an offset of a part of the file a reader gets this field's value and goes on at its next offset, wherever in the file the part begins.
-pub record Got (m : Reader ℕ) (part : List ℕ) (from width bound : ℕ) (f : Field) : Type 0 where
+pub record Got (m : Reader ℕ) (part : List ℕ) (from width bound : ℕ) (f : Read ℕ) : Type 0 where
   pub is : (at : ℕ) → m (at + from) (drop from part) ≡ got f.value (at + f.next) (drop f.next part)
   -- the next offset is behind this one, by at most the field's width, and inside the part
   pub on : from ≤ f.next
@@ -28,7 +28,7 @@ pub record CutInside (m : Reader ℕ) (part : List ℕ) (from width : ℕ) : Typ
   -- the end is near, so that its offset is small
   pub near : length part < from + width
 
-abbrev pub FieldSays : Option Field → Reader ℕ → (part : List ℕ) → (from width bound : ℕ) → Type 0
+abbrev pub FieldSays : Option (Read ℕ) → Reader ℕ → (part : List ℕ) → (from width bound : ℕ) → Type 0
 FieldSays (Some f) m part from w bound = Got m part from w bound f
 FieldSays None m part from w bound = CutInside m part from w
 

@@ -14,17 +14,17 @@ pub const LENGTH_WIDTH: usize = 4;
 // A byte is below this.
 const BYTE_LIMIT: usize = 256;
 
-// A field that was read: its value, and the next offset.
+// What was read, and the next offset.
 #[derive(Clone, Copy)]
-pub struct Field {
-    pub value: usize,
+pub struct Read<T> {
+    pub value: T,
     pub next: usize,
 }
 
 // The field of so many bytes at an offset of a part of the file, unless the part ends inside it. The number is made by a loop, and not by std's
 // `from_le_bytes`, because the width is a parameter: one field with one proof serves all widths. The part and the offset are handed on side by side,
 // and no slice that begins at the field, since places are offsets of the file.
-pub fn read_field(part: &[u8], from: usize, width: usize) -> Option<Field>
+pub fn read_field(part: &[u8], from: usize, width: usize) -> Option<Read<usize>>
     requires { (from ≤ length part.now) × (width ≤ length_width) }
     ensures { FieldSays result (field width) part.now from width (limit width) }
 {
@@ -35,7 +35,7 @@ pub fn read_field(part: &[u8], from: usize, width: usize) -> Option<Field>
     for i in (0..width).rev() {
         value = value * BYTE_LIMIT + usize::from(part[from + i]);
     }
-    Some(Field {
+    Some(Read {
         value,
         next: from + width,
     })
@@ -48,14 +48,14 @@ pub fn read_optional(
     width: usize,
     stands: bool,
     absent: usize,
-) -> Option<Field>
+) -> Option<Read<usize>>
     requires { (from ≤ length part.now) × (width ≤ length_width) }
     ensures { FieldSays result (optional stands width absent) part.now from width (max (limit width) (absent + 1)) }
 {
     if stands {
         return read_field(part, from, width);
     }
-    Some(Field {
+    Some(Read {
         value: absent,
         next: from,
     })

@@ -6,11 +6,11 @@ use Rattle.link_format.specs.Reading.{Outcome, got, refused, accepted, list_got,
 use Rattle.table.specs.declared.faults.Refusal.{Refusal}
 use Rattle.table.specs.Table.{Arc, most_arcs, most_nodes, most_wanted}
 use Rattle.table.specs.Told as told
+use Rattle.table.specs.declared.links.Arc as links
 use Rattle.table.specs.Lent.{arc_of}
+use Rattle.link_fields.specs.declared.fields.Read.{Read}
 use Rattle.link_reader.specs.declared.header.Header.{Header}
-use Rattle.link_reader.specs.declared.header.Nodes.{Nodes}
 use Rattle.link_reader.specs.declared.header.Wanted.{Wanted}
-use Rattle.link_reader.specs.declared.records.Record.{Record}
 
 -- An answer tells what reading gives: of its value this holds, or its refusal is the one that reading gives.
 abbrev pub Reads : {T A : Type 0} → Result T Refusal → (T → Type 0) → Outcome A → Type 0
@@ -18,8 +18,8 @@ Reads (Ok v) Holds o = Holds v
 Reads (Err r) Holds o = o ≡ refused (told.number r.fault) r.place
 
 -- The record at the start of a part of the file was read: its arc, and where the next one begins in the file.
-pub record RecordGot (before : math.Option Arc) (part : List ℕ) (at : ℕ) (r : Record) : Type 0 where
-  pub is : read_record before at part ≡ got (arc_of r.arc) r.next (drop (r.next - at) part)
+pub record RecordGot (before : math.Option Arc) (part : List ℕ) (at : ℕ) (r : Read links.Arc) : Type 0 where
+  pub is : read_record before at part ≡ got (arc_of r.value) r.next (drop (r.next - at) part)
   -- the next record is behind this one, by at most the longest record, and not behind the file's end
   pub on : at < r.next
   pub near : r.next ≤ at + most_record
@@ -55,12 +55,12 @@ nodes_in zero bs = []
 nodes_in (suc k) bs = number node_width bs ∷ nodes_in k (drop node_width bs)
 
 -- A run of nodes at an offset of the file was read, and compared with a run that counts up from 0.
-pub record NodesGot (file : List ℕ) (from count : ℕ) (r : Nodes) : Type 0 where
+pub record NodesGot (file : List ℕ) (from count : ℕ) (r : Read Bool) : Type 0 where
   -- the next offset, behind all nodes and inside the file
   pub on : r.next ≡ from + node_width * count
   pub inside : r.next ≤ length file
   -- whether they count up
-  pub up : r.ascending ≡ counts_from 0 (nodes_in count (drop from file))
+  pub up : r.value ≡ counts_from 0 (nodes_in count (drop from file))
 
 -- The wanted list: so many nodes that are listed at an offset of the file, or all n nodes.
 unfoldable pub wanted_in : (file : List ℕ) → (listed_at : Option ℕ) → (n count : ℕ) → List ℕ

@@ -8,7 +8,7 @@ ghost use Rattle.link_format.specs.Reading.{read_nodes, read_wanted, read_header
 ghost use Rattle.link_reader.specs.Says.{Reads, nodes_in, wanted_of, NodesGot, WantedGot, HeaderGot};
 
 use link_fields::bit_maps::BitMap;
-use link_fields::fields::{MAP_WIDTH, NODE_WIDTH, read_field, read_optional};
+use link_fields::fields::{MAP_WIDTH, NODE_WIDTH, Read, read_field, read_optional};
 use table::faults::{Fault, Refusal};
 
 // What a header says: the nodes, the origin, how many nodes are wanted, where these are listed if they are, and the offset of the first record.
@@ -30,15 +30,8 @@ pub struct Wanted {
     pub next: usize,
 }
 
-// A run of nodes: whether they count up from 0, and the next offset.
-#[derive(Clone, Copy)]
-pub struct Nodes {
-    pub ascending: bool,
-    pub next: usize,
-}
-
-// Every one of so many nodes is read, and compared with its index.
-fn check_nodes(file: &[u8], from: usize, count: usize) -> Result<Nodes, Refusal>
+// Every one of so many nodes is read, and compared with its index: whether they count up from 0, and the next offset.
+fn check_nodes(file: &[u8], from: usize, count: usize) -> Result<Read<bool>, Refusal>
     requires inside { from ≤ length file.now }
     requires near { from ≤ map_width + node_width + node_width + node_width }
     requires few { count ≤ most_wanted }
@@ -53,7 +46,10 @@ fn check_nodes(file: &[u8], from: usize, count: usize) -> Result<Nodes, Refusal>
         ascending &= node.value == i;
         next = node.next;
     }
-    Ok(Nodes { ascending, next })
+    Ok(Read {
+        value: ascending,
+        next,
+    })
 }
 
 // The wanted list of n nodes.
@@ -75,12 +71,15 @@ fn read_wanted(file: &[u8], from: usize, listed: bool, n: usize) -> Result<Wante
         return Err(Fault::Cut.at(file.len()));
     };
     table::check_wanted_count(count.value)?;
-    let nodes = check_nodes(file, count.next, count.value)?;
+    let Read {
+        value: ascending,
+        next,
+    } = check_nodes(file, count.next, count.value)?;
     Ok(Wanted {
         count: count.value,
         listed_at: Some(count.next),
-        all: count.value == n && nodes.ascending,
-        next: nodes.next,
+        all: count.value == n && ascending,
+        next,
     })
 }
 

@@ -8,20 +8,13 @@ ghost use Rattle.link_reader.specs.Says.{Reads, RecordGot, Counted, records_from
 
 use link_fields::arcs;
 use link_fields::bit_maps::BitMap;
-use link_fields::fields::{LENGTH_WIDTH, MAP_WIDTH, NODE_WIDTH, read_optional};
+use link_fields::fields::{LENGTH_WIDTH, MAP_WIDTH, NODE_WIDTH, Read, read_optional};
 use table::MOST_ARCS;
 use table::faults::{Fault, Refusal};
 use table::links::Arc;
 
-// A record that was read: its arc, and the offset of the file where the next one begins.
-#[derive(Clone, Copy)]
-pub struct Record {
-    pub arc: Arc,
-    pub next: usize,
-}
-
-// The record at the start of a part of the file, which begins at an offset of the file.
-pub fn read_record(part: &[u8], at: usize, previous: Option<Arc>) -> Result<Record, Refusal>
+// The record at the start of a part of the file, which begins at an offset of it: its arc, and the offset of the file where the next one begins.
+pub fn read_record(part: &[u8], at: usize, previous: Option<Arc>) -> Result<Read<Arc>, Refusal>
     requires { (0 < length part.now) × (at ≤ most_file) }
     ensures { Reads result (RecordGot (arc_before previous) part.now at) (read_record (arc_before previous) at part.now) }
 {
@@ -50,8 +43,8 @@ pub fn read_record(part: &[u8], at: usize, previous: Option<Arc>) -> Result<Reco
     if map != BitMap::of_record(arc, previous) {
         return Err(Fault::Needless.at(at));
     }
-    Ok(Record {
-        arc,
+    Ok(Read {
+        value: arc,
         next: at + length.next,
     })
 }
@@ -67,9 +60,9 @@ pub fn count_records(file: &[u8], start: usize) -> Result<usize, Refusal>
         if at == file.len() {
             return Ok(count);
         }
-        let record = read_record(&file[at..], at, previous)?;
-        previous = Some(record.arc);
-        at = record.next;
+        let Read { value: arc, next } = read_record(&file[at..], at, previous)?;
+        previous = Some(arc);
+        at = next;
     }
     if at < file.len() {
         return Err(Fault::Columns.at(MOST_ARCS));
@@ -97,13 +90,13 @@ pub fn fill_records(
         if at == file.len() {
             return;
         }
-        let Ok(record) = read_record(&file[at..], at, previous) else {
+        let Ok(Read { value: arc, next }) = read_record(&file[at..], at, previous) else {
             return;
         };
-        tails[i] = record.arc.tail;
-        heads[i] = record.arc.head;
-        lengths[i] = record.arc.length;
-        previous = Some(record.arc);
-        at = record.next;
+        tails[i] = arc.tail;
+        heads[i] = arc.head;
+        lengths[i] = arc.length;
+        previous = Some(arc);
+        at = next;
     }
 }

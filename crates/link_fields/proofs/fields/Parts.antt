@@ -17,7 +17,7 @@ use Rattle.link_format.proofs.Numbers.{number_more, number_small, below_drop, th
 use Rattle.link_format.proofs.Outcomes.{refused_got, got_next, got_value}
 use Rattle.link_fields.specs.Fields.{Got, CutInside, FieldSays}
 use Rattle.std.specs.Prelude.{Option, Some, None}
-use Rattle.link_fields.specs.declared.fields.Field.{Field}
+use Rattle.link_fields.specs.declared.fields.Read.{Read}
 
 -- a column of a type's values is below the type's bound
 pub column_below : (w : Width) (xs : List ℕ) → ((i : ℕ) → Fits w (get_or xs i 0)) → Below (2 ^ bits w) xs
@@ -51,7 +51,7 @@ module _ (part : List ℕ) (from width : ℕ) (fits : from ≤ length part) wher
       }
 
 -- a larger bound
-pub field_wider : (r : Option Field) (m : Reader ℕ) (part : List ℕ) (from width small bound : ℕ) → small ≤ bound
+pub field_wider : (r : Option (Read ℕ)) (m : Reader ℕ) (part : List ℕ) (from width small bound : ℕ) → small ≤ bound
     → FieldSays r m part from width small → FieldSays r m part from width bound
 field_wider (Some f) m part from width small bound h g =
     record { is = g.is; on = g.on; near = g.near; inside = g.inside; small = omega (arith, g.small) }
@@ -107,7 +107,7 @@ passed_none part from width =
     record { low = omega arith; is = rw w }
 
 -- what a field that was got is: the number in its bytes, and the offset behind them
-pub field_value : {part : List ℕ} {from width bound : ℕ} {f : Field} → Got (field width) part from width bound f
+pub field_value : {part : List ℕ} {from width bound : ℕ} {f : Read ℕ} → Got (field width) part from width bound f
     → (f.value ≡ number width (drop from part)) × (f.next ≡ from + width)
 unfolding field
 field_value {part} {from} {width} {bound} {f} g =
@@ -123,7 +123,7 @@ field_value {part} {from} {width} {bound} {f} g =
     ]
 
 -- the same where the part is the whole file
-pub got_here : {m : Reader ℕ} {file : List ℕ} {from width bound : ℕ} {f : Field} → Got m file from width bound f
+pub got_here : {m : Reader ℕ} {file : List ℕ} {from width bound : ℕ} {f : Read ℕ} → Got m file from width bound f
     → m from (drop from file) ≡ got f.value f.next (drop f.next file)
 got_here g = simp zero-add at (g.is 0)
 

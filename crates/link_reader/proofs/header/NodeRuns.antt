@@ -81,7 +81,7 @@ module _ {file : List ℕ} {from count at i : ℕ} {ascending : Bool} (c : Check
             (rw (nodes_left file count at i more, add-one i) at c.same);
       }
 
-  pub checking_done : i ≡ count → NodesGot file from count (record { ascending = ascending; next = at })
+  pub checking_done : i ≡ count → NodesGot file from count (record { value = ascending; next = at })
   unfolding counts_from nodes_in
   checking_done all =
       let none : count - i ≡ 0 = omega arith in

@@ -17,9 +17,8 @@ use Rattle.link_format.proofs.AllNodes.{length_count_up, all_count_up}
 use Rattle.link_format.proofs.BitMaps.{MadeOf, made_of}
 use Rattle.link_fields.specs.Fields.{Got, CutInside, byte_of}
 use Rattle.link_fields.specs.declared.bit_maps.BitMap.{BitMap}
-use Rattle.link_fields.specs.declared.fields.Field.{Field}
+use Rattle.link_fields.specs.declared.fields.Read.{Read}
 use Rattle.link_fields.proofs.fields.Parts.{first_byte, got_here, cut_here}
-use Rattle.link_reader.specs.declared.header.Nodes.{Nodes}
 use Rattle.link_reader.specs.declared.header.Wanted.{Wanted}
 use Rattle.link_reader.specs.Says.{NodesGot, WantedGot, HeaderGot, wanted_in}
 use Rattle.link_reader.proofs.header.NodeRuns.{nodes_read, length_nodes_in}
@@ -44,7 +43,7 @@ module _ (file : List ℕ) (from n : ℕ) where
   unfolding read_wanted ◌>>=◌ and_then
   wanted_cut_count cut = rw (cut_here cut)
 
-  module _ {b : ℕ} {c : Field} (counted : Got (field 2) file from 2 b c) where
+  module _ {b : ℕ} {c : Read ℕ} (counted : Got (field 2) file from 2 b c) where
     pub wanted_many : ltb most_wanted c.value ≡ true → read_wanted true n from (drop from file) ≡ refused 5 most_wanted
     unfolding read_wanted ◌>>=◌ ◌>>◌ and_then refuse_if
     wanted_many many = rw (got_here counted, many)
@@ -55,7 +54,7 @@ module _ (file : List ℕ) (from n : ℕ) where
       unfolding read_wanted ◌>>=◌ ◌>>◌ and_then refuse_if
       nodes_refused e = rw (got_here counted, few, e)
 
-      pub wanted_got : {nodes : Nodes} → NodesGot file c.next c.value nodes → {all : Bool} → all ≡ (eqb c.value n && nodes.ascending)
+      pub wanted_got : {nodes : Read Bool} → NodesGot file c.next c.value nodes → {all : Bool} → all ≡ (eqb c.value n && nodes.value)
           → WantedGot file from true n (record { count = c.value; listed_at = Some c.next; all = all; next = nodes.next })
       unfolding read_wanted ◌>>=◌ ◌>>◌ and_then refuse_if wanted_in all_nodes
       wanted_got {nodes} got_nodes {all} same =
@@ -91,7 +90,7 @@ module _ (file : List ℕ) (some : 0 < length file) where
     unfolding read_header ◌>>=◌ ◌>>◌ and_then here refuse_if
     cut_n cut = rw (first_byte file 0 some, mapped.0, cut_here cut)
 
-    module _ {b : ℕ} {n : Field} (nodes : Got (field 2) file 1 2 b n) where
+    module _ {b : ℕ} {n : Read ℕ} (nodes : Got (field 2) file 1 2 b n) where
       pub bad_n : count_bad n.value ≡ true → read_header 0 file ≡ refused 1 0
       unfolding read_header ◌>>=◌ ◌>>◌ and_then here refuse_if
       bad_n bad = rw (first_byte file 0 some, mapped.0, got_here nodes, bad)
@@ -101,7 +100,7 @@ module _ (file : List ℕ) (some : 0 < length file) where
         unfolding read_header ◌>>=◌ ◌>>◌ and_then here refuse_if
         cut_origin cut = rw (first_byte file 0 some, mapped.0, mapped.1, got_here nodes, fine, m.second_bit, cut_here cut)
 
-        module _ {b₂ : ℕ} {o : Field} (origin : Got (optional map.second 2 0) file n.next 2 b₂ o) where
+        module _ {b₂ : ℕ} {o : Read ℕ} (origin : Got (optional map.second 2 0) file n.next 2 b₂ o) where
           pub wanted_refused : {k p : ℕ} → read_wanted map.third n.value o.next (drop o.next file) ≡ refused k p → read_header 0 file ≡ refused k p
           unfolding read_header ◌>>=◌ ◌>>◌ and_then here refuse_if
           wanted_refused e = rw (first_byte file 0 some, mapped.0, mapped.1, got_here nodes, fine, m.second_bit, got_here origin, m.third_bit, e)

@@ -10,10 +10,11 @@ use lib.ListN.{length, drop, set}
 use borrow.Author.Tests.{both_ways}
 use Rattle.table.specs.Table.{Arc, arc, most_arcs}
 use Rattle.table.specs.Lent.{arc_of}
-use Rattle.link_reader.specs.declared.records.Record.{Record}
+use Rattle.table.specs.declared.links.Arc as links
 use Rattle.link_format.specs.Format.{tails_of, heads_of, lengths_of}
 use Rattle.link_format.specs.Reading.{Outcome, got, refused, accepted, list_got, and_then, give, read_record}
 use Rattle.link_format.proofs.Records.{in_front}
+use Rattle.link_fields.specs.declared.fields.Read.{Read}
 use Rattle.link_reader.specs.Says.{RecordGot, arcs_from}
 use Rattle.link_fields.proofs.Columns.{Column, column_next}
 use Rattle.link_reader.proofs.records.Runs.{remaining, Standing, standing_next, run_none, run_full, run_refused, run_more}
@@ -46,20 +47,20 @@ module _ (file : List ℕ) (at i : ℕ) (before : Option Arc) (good : accepted (
     pub never_refused : (n p : ℕ) → read_record before at (drop at file) ≡ refused n p → ⊥
     never_refused n p e = refused_not (run_refused file at i before more few e) good
 
-    module _ {r : Record} (g : RecordGot before (drop at file) at r) where
+    module _ {r : Read links.Arc} (g : RecordGot before (drop at file) at r) where
       abbrev rest : Outcome (List Arc)
-      rest = remaining file r.next (i + 1) (some (arc_of r.arc))
+      rest = remaining file r.next (i + 1) (some (arc_of r.value))
 
-      next_good : accepted (remaining file r.next (i + 1) (some (arc_of r.arc))) ≡ true
-      next_good = sym (accepted_then (arc_of r.arc) rest) ∙ ap accepted (sym (run_more file at i before more few g)) ∙ good
+      next_good : accepted (remaining file r.next (i + 1) (some (arc_of r.value))) ≡ true
+      next_good = sym (accepted_then (arc_of r.value) rest) ∙ ap accepted (sym (run_more file at i before more few g)) ∙ good
 
-      next_list : list_got (remaining file at i before) ≡ arc_of r.arc ∷ list_got rest
-      next_list = ap list_got (run_more file at i before more few g) ∙ got_then (arc_of r.arc) rest next_good
+      next_list : list_got (remaining file at i before) ≡ arc_of r.value ∷ list_got rest
+      next_list = ap list_got (run_more file at i before more few g) ∙ got_then (arc_of r.value) rest next_good
 
       -- a column, of tails, heads or lengths
-      next_column : (of : List Arc → List ℕ) (x : ℕ) → ((others : List Arc) → of (arc_of r.arc ∷ others) ≡ x ∷ of others) → {first : List ℕ} {all buffer : List ℕ}
+      next_column : (of : List Arc → List ℕ) (x : ℕ) → ((others : List Arc) → of (arc_of r.value ∷ others) ≡ x ∷ of others) → {first : List ℕ} {all buffer : List ℕ}
           → Column first 0 all buffer i (of (list_got (remaining file at i before)))
-          → Column first 0 all (set buffer i x) (i + 1) (of (list_got (remaining file r.next (i + 1) (some (arc_of r.arc)))))
+          → Column first 0 all (set buffer i x) (i + 1) (of (list_got (remaining file r.next (i + 1) (some (arc_of r.value)))))
       next_column of x cons {first} {all} {buffer} k =
           column_next (subst (λ (l : List ℕ). Column first 0 all buffer i l) (ap of next_list ∙ cons (list_got rest)) k)
 
@@ -75,16 +76,17 @@ pub record Filling (file : List ℕ) (start : ℕ) (tails₀ heads₀ lengths₀
 
 module _ {file : List ℕ} {start : ℕ} {tails₀ heads₀ lengths₀ tails heads lengths : List ℕ} {at i : ℕ} {before : Option Arc}
     (f : Filling file start tails₀ heads₀ lengths₀ tails heads lengths at i before) where
-  pub filling_next : at < length file → i < most_arcs → {r : Record} → RecordGot before (drop at file) at r
-      → Filling file start tails₀ heads₀ lengths₀ (set tails i r.arc.tail) (set heads i r.arc.head) (set lengths i r.arc.length) r.next (i + 1) (some (arc_of r.arc))
+  pub filling_next : at < length file → i < most_arcs → {r : Read links.Arc} → RecordGot before (drop at file) at r
+      → Filling file start tails₀ heads₀ lengths₀ (set tails i r.value.tail) (set heads i r.value.head) (set lengths i r.value.length)
+      r.next (i + 1) (some (arc_of r.value))
   unfolding tails_of heads_of lengths_of arc
   filling_next more few {r} g =
       record {
         stands = standing_next f.stands before r g;
         good = next_good file at i before f.good more few g;
-        tails_left = next_column file at i before f.good more few g tails_of r.arc.tail (λ (others : List Arc). refl) f.tails_left;
-        heads_left = next_column file at i before f.good more few g heads_of r.arc.head (λ (others : List Arc). refl) f.heads_left;
-        lengths_left = next_column file at i before f.good more few g lengths_of r.arc.length (λ (others : List Arc). refl) f.lengths_left;
+        tails_left = next_column file at i before f.good more few g tails_of r.value.tail (λ (others : List Arc). refl) f.tails_left;
+        heads_left = next_column file at i before f.good more few g heads_of r.value.head (λ (others : List Arc). refl) f.heads_left;
+        lengths_left = next_column file at i before f.good more few g lengths_of r.value.length (λ (others : List Arc). refl) f.lengths_left;
       }
 
   -- nothing is left: each column has all of its arcs

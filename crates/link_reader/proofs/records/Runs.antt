@@ -13,8 +13,9 @@ use Rattle.link_format.specs.Reading.{Outcome, got, refused, accepted, list_got,
 use Rattle.link_format.proofs.Outcomes.{got_value, refused_got}
 use Rattle.link_format.proofs.Records.{in_front, records_more, records_full, records_none}
 use Rattle.table.specs.Lent.{arc_of}
+use Rattle.table.specs.declared.links.Arc as links
+use Rattle.link_fields.specs.declared.fields.Read.{Read}
 use Rattle.link_reader.specs.Says.{RecordGot}
-use Rattle.link_reader.specs.declared.records.Record.{Record}
 use Rattle.link_format.specs.Format.{most_record, most_header}
 
 -- the part of a file from an offset on
@@ -46,8 +47,8 @@ module _ (file : List ℕ) (at count : ℕ) (before : Option Arc) where
       unfolding and_then
       run_refused e = rw one_less (records_more (most_arcs - (count + 1)) before at (drop at file) left ∙ rw e)
 
-      pub run_more : {r : Record} → RecordGot before (drop at file) at r
-          → remaining file at count before ≡ in_front (arc_of r.arc) (remaining file r.next (count + 1) (some (arc_of r.arc)))
+      pub run_more : {r : Read links.Arc} → RecordGot before (drop at file) at r
+          → remaining file at count before ≡ in_front (arc_of r.value) (remaining file r.next (count + 1) (some (arc_of r.value)))
       unfolding and_then
       run_more {r} g =
           let there : at + (r.next - at) ≡ r.next = omega (arith, g.on) in
@@ -89,7 +90,7 @@ pub record Standing (file : List ℕ) (at count : ℕ) : Type 0 where
   -- no record is longer than the longest, so that the offset stays small
   pub short : at ≤ most_header + most_record * count
 
-pub standing_next : {file : List ℕ} {at count : ℕ} → Standing file at count → (before : Option Arc) (r : Record)
+pub standing_next : {file : List ℕ} {at count : ℕ} → Standing file at count → (before : Option Arc) (r : Read links.Arc)
     → RecordGot before (drop at file) at r → Standing file r.next (count + 1)
 standing_next {file} {at} {count} s before r g =
     record { inside = omega (arith, g.inside, length-drop at file, s.inside); short = omega (arith, g.near, s.short) }

@@ -16,7 +16,7 @@ use Rattle.link_fields.specs.Fields.{Got, CutInside, AbsentSays, byte_of}
 use Rattle.link_fields.proofs.fields.Parts.{first_byte}
 use Rattle.link_fields.specs.declared.arcs.Absent.{Absent}
 use Rattle.link_fields.specs.declared.bit_maps.BitMap.{BitMap}
-use Rattle.link_fields.specs.declared.fields.Field.{Field}
+use Rattle.link_fields.specs.declared.fields.Read.{Read}
 use Rattle.link_reader.specs.Says.{RecordGot}
 
 module _ (before : Option Arc) (part : List ℕ) (at : ℕ) (some : 0 < length part) where
@@ -35,17 +35,17 @@ module _ (before : Option Arc) (part : List ℕ) (at : ℕ) (some : 0 < length p
     unfolding read_record ◌>>=◌ ◌>>◌ and_then here refuse_if arc
     cut_tail cut = rw (first_byte part at some, mapped.0, mapped.1, m.first_bit, i, cut.is at)
 
-    module _ {b : ℕ} {t : Field} (tail : Got (optional map.first 2 absent.tail) part 1 2 b t) where
+    module _ {b : ℕ} {t : Read ℕ} (tail : Got (optional map.first 2 absent.tail) part 1 2 b t) where
       pub cut_head : CutInside (optional map.second 2 absent.head) part t.next 2 → read_record before at part ≡ refused 9 (at + length part)
       unfolding read_record ◌>>=◌ ◌>>◌ and_then here refuse_if arc
       cut_head cut = rw (first_byte part at some, mapped.0, mapped.1, m.first_bit, i, tail.is at, m.second_bit, cut.is at)
 
-      module _ {b₂ : ℕ} {h : Field} (head : Got (optional map.second 2 absent.head) part t.next 2 b₂ h) where
+      module _ {b₂ : ℕ} {h : Read ℕ} (head : Got (optional map.second 2 absent.head) part t.next 2 b₂ h) where
         pub cut_length : CutInside (optional map.third 4 absent.length) part h.next 4 → read_record before at part ≡ refused 9 (at + length part)
         unfolding read_record ◌>>=◌ ◌>>◌ and_then here refuse_if arc
         cut_length cut = rw (first_byte part at some, mapped.0, mapped.1, m.first_bit, i, tail.is at, m.second_bit, head.is at, m.third_bit, cut.is at)
 
-        module _ {b₃ : ℕ} {l : Field} (long : Got (optional map.third 4 absent.length) part h.next 4 b₃ l) where
+        module _ {b₃ : ℕ} {l : Read ℕ} (long : Got (optional map.third 4 absent.length) part h.next 4 b₃ l) where
           pub refused_head : last_head < h.value → read_record before at part ≡ refused 11 at
           unfolding read_record ◌>>=◌ ◌>>◌ and_then here refuse_if arc
           refused_head high =
@@ -74,7 +74,7 @@ module _ (before : Option Arc) (part : List ℕ) (at : ℕ) (some : 0 < length p
                 )
 
             pub got_record : byte_of map ≡ record_bits before (arc t.value h.value l.value)
-                → RecordGot before part at (record { arc = record { tail = t.value; head = h.value; length = l.value }; next = at + l.next })
+                → RecordGot before part at (record { value = record { tail = t.value; head = h.value; length = l.value }; next = at + l.next })
             unfolding read_record ◌>>=◌ ◌>>◌ and_then here refuse_if give arc
             got_record same =
                 record {

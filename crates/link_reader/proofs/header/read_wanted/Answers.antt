@@ -29,15 +29,15 @@ returns-in_err-check_wanted_count c =
 pub check_nodes-requires-clause-few : goal.check_nodes-requires-clause-few
 check_nodes-requires-clause-few c = ltb-false _ _ (few (goal.at.check_nodes-requires-clause-few c).In_ok-check_wanted_count)
 
-pub returns-in_err-nodes : goal.returns-in_err-nodes
-returns-in_err-nodes c =
-    rw (passed_on _ _ c.from_residual-in_err-nodes.ensures.1)
-    (rw c.if-not-listed.false (nodes_refused _ _ _ c.in-Some.ensures (few (goal.at.returns-in_err-nodes c).In_ok-check_wanted_count) c.in_err-nodes.ensures))
+pub returns-in_err-ascending : goal.returns-in_err-ascending
+returns-in_err-ascending c =
+    rw (passed_on _ _ c.from_residual-in_err-ascending.ensures.1)
+    (rw c.if-not-listed.false (nodes_refused _ _ _ c.in-Some.ensures (few (goal.at.returns-in_err-ascending c).In_ok-check_wanted_count) c.in_err-ascending.ensures))
 
 pub returns-then-count-n : goal.returns-then-count-n
 returns-then-count-n c =
-    rw c.if-not-listed.false (wanted_got _ _ _ c.in-Some.ensures (few (goal.at.returns-then-count-n c).In_ok-check_wanted_count) c.in_ok-nodes.ensures (grind (arith, nat_tests)))
+    rw c.if-not-listed.false (wanted_got _ _ _ c.in-Some.ensures (few (goal.at.returns-then-count-n c).In_ok-check_wanted_count) c.in_ok-ascending.ensures (grind (arith, nat_tests)))
 
 pub returns-else-count-n : goal.returns-else-count-n
 returns-else-count-n c =
-    rw c.if-not-listed.false (wanted_got _ _ _ c.in-Some.ensures (few (goal.at.returns-else-count-n c).In_ok-check_wanted_count) c.in_ok-nodes.ensures (grind (arith, nat_tests)))
+    rw c.if-not-listed.false (wanted_got _ _ _ c.in-Some.ensures (few (goal.at.returns-else-count-n c).In_ok-check_wanted_count) c.in_ok-ascending.ensures (grind (arith, nat_tests)))

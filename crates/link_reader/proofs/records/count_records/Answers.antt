@@ -8,16 +8,16 @@ use Rattle.link_reader.proofs.records.count_records.Goals as goal
 pub returns-then-at-file : goal.returns-then-at-file
 returns-then-at-file c = let all = all_counted _ _ _ _ _ c.loop-count.invariant.same (omega arith) in record { good = all.0; is = all.1 }
 
-pub returns-in_err-record : goal.returns-in_err-record
-returns-in_err-record c =
+pub returns-in_err-arc : goal.returns-in_err-arc
+returns-in_err-arc c =
     let stands = c.loop-count.invariant.stands in
     rw (passed_on _ _ c.from_residual.ensures.1)
-    (one_refused _ _ _ _ _ c.loop-count.invariant.same (omega (arith, stands.inside)) c.loop-count-test.true (rw part_is at c.in_err-record.ensures))
+    (one_refused _ _ _ _ _ c.loop-count.invariant.same (omega (arith, stands.inside)) c.loop-count-test.true (rw part_is at c.in_err-arc.ensures))
 
 pub loop-count-preserved : goal.loop-count-preserved
 loop-count-preserved c =
     let stands = c.loop-count.invariant.stands in
-    let record_got = rw part_is at c.in_ok-record.ensures in
+    let record_got = rw part_is at c.in_ok-arc.ensures in
     record {
       stands = standing_next stands _ _ record_got;
       same =
