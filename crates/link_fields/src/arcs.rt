@@ -11,7 +11,7 @@ pub struct Absent {
     pub length: usize,
 }
 
-// What a record says where its fields are absent.
+// What a record says where its fields are absent. Of the first record, which has them all, nothing is read of it, and it is 0.
 pub fn implied(previous: Option<Arc>) -> Absent
     ensures { AbsentSays (arc_before previous) result }
 {

@@ -1,5 +1,5 @@
 // Reading the header: the node count, the origin and the wanted list. Each field's answer is taken apart by `let .. else`, as the rules ask, and a
-// cut gets the file's length there.
+// cut gets the file's length there. The file and an offset are handed on side by side, since places are offsets of the file.
 ghost use Rattle.std.specs.Prelude.{◌≡◌, ◌+◌, ◌*◌, ◌≤◌, length, drop};
 ghost use Rattle.std.proofs.lemmas.List.Edits.{sets};
 ghost use Rattle.table.specs.Table.{most_nodes, most_wanted};
@@ -52,7 +52,7 @@ fn check_nodes(file: &[u8], from: usize, count: usize) -> Result<Read<bool>, Ref
     })
 }
 
-// The wanted list of n nodes.
+// The wanted list of n nodes. Whether it is listed comes beside n, which its absence says, as in `read_optional`.
 fn read_wanted(file: &[u8], from: usize, listed: bool, n: usize) -> Result<Wanted, Refusal>
     requires inside { from ≤ length file.now }
     requires near { from ≤ map_width + node_width + node_width }

@@ -71,7 +71,8 @@ pub fn count_records(file: &[u8], start: usize) -> Result<usize, Refusal>
 }
 
 // The second pass: the records, all of them good, fill the columns from their starts. It reads them by `read_record` once more, which tests them once
-// more: there is one reader of records, with one proof, and no buffer may be touched before the whole file is known to be good.
+// more: there is one reader of records, with one proof, and no buffer may be touched before the whole file is known to be good. The columns are lent one
+// by one, as by C, and one position serves the three.
 pub fn fill_records(
     file: &[u8],
     start: usize,

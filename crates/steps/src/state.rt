@@ -40,7 +40,7 @@ impl Status {
 
 // A node: its price, its bound, the position of its kept arc, the child that it remembers and its status. Positions and nodes that are not there are told
 // by NO_ARC, NO_DISTANCE and NO_NODE, as in the columns that are handed over, which are filled from here: an Option would be taken apart into the same
-// numbers there.
+// numbers there. The remembered child is told as the others are, and takes half of an Option's room.
 #[derive(Clone, Copy)]
 pub struct Node {
     pub price: u64,
@@ -90,7 +90,7 @@ pub struct RunEnd {
 }
 
 // The path from the origin on, with room for the most nodes, as many as the progress says; the nodes; the progress. Without a heap both have room for
-// every table. The functions of a run take the three one by one, not as one struct by `&mut`: each is lent just what it writes, so that what it cannot
+// every table. The path's depth is no length of an ArrayVec: it travels by value, with the counts. The functions of a run take the three one by one, not as one struct by `&mut`: each is lent just what it writes, so that what it cannot
 // write needs no clause. What a step relies on of them (that the node before the terminal one can be looked up, that numbers are small) is of values that
 // change from step to step, so it stands in the contracts.
 #[derive(Drop)]

@@ -22,7 +22,7 @@ pub struct Columns<'a> {
 }
 
 impl Columns<'_> {
-    // The arc at a position.
+    // The arc at a position. Loops over a table's arcs are over the positions: an Iterator of our own would be a type with laws for what this says in a line.
     pub fn arc(self, i: usize) -> Arc
         requires { i < length self.tails.now }
         ensures tail { result.tail ≡ get_or self.entry.tails.now i 0 }
