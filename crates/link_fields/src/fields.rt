@@ -32,8 +32,8 @@ pub fn read_field(part: &[u8], from: usize, width: usize) -> Option<Read<usize>>
         return None;
     }
     let mut value = 0;
-    for i in (0..width).rev() {
-        value = value * BYTE_LIMIT + usize::from(part[from + i]);
+    for byte in part[from..from + width].iter().rev() {
+        value = value * BYTE_LIMIT + usize::from(*byte);
     }
     Some(Read {
         value,

@@ -1,19 +1,20 @@
 -- A field at an offset of a part of the file: what the code's loop over its bytes comes to, and what the reader says there. Assumes nothing.
 use mathlib.Core.Bool.{false}
-use mathlib.Core.Path.{◌≡◌, refl, sym}
-use mathlib.Core.List.{List, [], ◌∷◌}
+use mathlib.Core.Path.{◌≡◌, refl, sym, ap, ap₂, ◌∙◌}
+use mathlib.Core.List.{List, [], ◌∷◌, ◌++◌, append_assoc}
 use Prim.Native.Nat.{ℕ, suc, ◌+◌, ◌-◌, ◌*◌, ◌^◌, ◌≤◌, ◌<◌}
-use native.Mathlib.Nat.{zero-add, add_assoc}
+use native.Mathlib.Nat.{zero-add, add_assoc, pow-le-pow_right}
 use native.Mathlib.Decide.{dec_le}
 use native.Mathlib.Omega.{arith}
-use lib.ListN.{length, drop, get_or, length-drop}
-use lib.Seq.{drop-drop}
+use lib.ListN.{length, take, drop, get_or, length-drop, length-append, take-append-drop}
+use lib.Seq.{drop-drop, drop_at}
+use Rattle.std.proofs.Common.{length-take-le}
 use borrow.Author.Tests.{le-leb, lt-leb}
 use mir.Syntax.{Width}
 use mir.Val.{Fits, bits}
 use Rattle.table.specs.Table.{Below}
 use Rattle.link_format.specs.Reading.{Reader, got, refused, number, field, optional, give}
-use Rattle.link_format.proofs.Numbers.{number_more, number_small, below_drop, three_bytes}
+use Rattle.link_format.proofs.Numbers.{number_small, below_drop}
 use Rattle.link_format.proofs.Outcomes.{refused_got, got_next, got_value}
 use Rattle.link_fields.specs.Fields.{Got, CutInside, FieldSays}
 use Rattle.std.specs.Prelude.{Option, Some, None}
@@ -64,47 +65,53 @@ unfolding optional give
 absent_got part from width absent bound fits small =
     record { is = λ (at : ℕ). refl; on = omega arith; near = omega arith; inside = fits; small = small }
 
--- The loop over a field's bytes, from the highest down: the value is the number in the bytes passed.
-pub record Passed (part : List ℕ) (from width value left : ℕ) : Type 0 where
-  -- so many bytes are left
-  pub low : left ≤ width
-  -- those above them make the value
-  pub is : value ≡ number (width - left) (drop (from + left) part)
+-- The loop over a field's bytes, from the highest down
+pub record Passed (width : ℕ) (part : List ℕ) (value : ℕ) (left : List ℕ) : Type 0 where
+  -- the bytes passed stand behind those that are left
+  pub behind : List ℕ
+  pub all : part ≡ left ++ behind
+  -- so many they are
+  pub many : ℕ
+  pub count : length left + many ≡ width
+  -- and the value is the number in them
+  pub is : value ≡ number many behind
 
-module _ {part : List ℕ} {from width value left : ℕ} where
-  pub passed_next : Passed part from width value left → 0 < left → from ≤ length part → width ≤ length part - from
-      → Passed part from width (value * 256 + get_or part (from + (left - 1)) 0) (left - 1)
-  passed_next p some fits room =
-      let one_more : width - (left - 1) ≡ suc (width - left) = omega (arith, p.low) in
-      let here : from + left ≡ suc (from + (left - 1)) = omega arith in
-      let at : from + (left - 1) < length part = omega (arith, p.low) in
+pub passed_none : (width : ℕ) (part left : List ℕ) → width ≤ length part → left ≡ take width part → Passed width part 0 left
+unfolding number
+passed_none width part left room e =
+    record {
+      behind = drop width part;
+      all = rw e (sym (take-append-drop width part));
+      many = 0;
+      count = omega (arith, ap length e, length-take-le width part room);
+      is = refl;
+    }
+
+module _ {width value : ℕ} {part left : List ℕ} (p : Passed width part value left) where
+  pub passed_next : (more : List ℕ) (b : ℕ) → left ≡ more ++ b ∷ [] → Passed width part (value * 256 + b) more
+  unfolding number
+  passed_next more b e =
       record {
-        low = omega (arith, p.low);
-        is =
-            rw (one_more, number_more (width - left) (from + (left - 1)) part at, ← here, p.is);
+        behind = b ∷ p.behind;
+        all = p.all ∙ ap (λ (l : List ℕ). l ++ p.behind) e ∙ append_assoc more (b ∷ []) p.behind;
+        many = suc p.many;
+        count = omega (arith, p.count, ap length e, length-append more (b ∷ []));
+        is = ap (λ (v : ℕ). v * 256 + b) p.is;
       }
 
-  pub passed_small : Passed part from width value left → 0 < left → width ≤ 4 → Below 256 part → value < 16777216
-  passed_small p some few small =
-      omega (
-        arith,
-        p.is,
-        number_small (width - left) (drop (from + left) part) (below_drop 256 (from + left) part small),
-        three_bytes (width - left) (omega (arith, p.low)),
-      )
+  pub passed_small : width ≤ 4 → Below 256 part → value < 256 ^ 4
+  passed_small few small =
+      let below : Below 256 p.behind = rw (p.all, drop_at left p.behind (length left) refl) at (below_drop 256 (length left) part small) in
+      let fits : p.many ≤ 4 = omega (arith, p.count) in
+      omega (arith, p.is, number_small p.many p.behind below, pow-le-pow_right {n = 256} (omega arith) fits)
 
   -- all bytes passed: the whole number
-  pub passed_all : Passed part from width value left → left ≤ 0 → value ≡ number width (drop from part)
-  passed_all p none =
-      let w : width - left ≡ width = omega arith in
-      let f : from + left ≡ from = omega arith in
-      rw (w, f) at p.is
-
-pub passed_none : (part : List ℕ) (from width : ℕ) → Passed part from width 0 width
-unfolding number
-passed_none part from width =
-    let w : width - width ≡ 0 = omega arith in
-    record { low = omega arith; is = rw w }
+  pub passed_all : length left ≡ 0 → value ≡ number width part
+  passed_all none = p.is ∙ ap₂ number (omega (arith, p.count)) (sym (p.all ∙ ap (λ (l : List ℕ). l ++ p.behind) (empty left none)))
+    where
+      empty : (l : List ℕ) → length l ≡ 0 → l ≡ []
+      empty [] e = refl
+      empty (b ∷ l) e = absurd (omega arith)
 
 -- what a field that was got is: the number in its bytes, and the offset behind them
 pub field_value : {part : List ℕ} {from width bound : ℕ} {f : Read ℕ} → Got (field width) part from width bound f
