@@ -118,7 +118,7 @@ pub fn read_header(file: &[u8]) -> Result<Header, Refusal>
 // be good; the offset is that of the file.
 fn fill_nodes(file: &[u8], from: usize, count: usize, wanted: &mut [u16])
     requires count_in_bounds { from + node_width * count ≤ length file.now }
-    requires count_le_most_wanted { (count ≤ most_wanted) × (most_wanted ≤ length wanted.old) }
+    requires room { count ≤ length wanted.old }
     ensures { wanted.new ≡ sets wanted.old 0 (nodes_in count (drop from file.now)) }
 {
     let mut next = from;
@@ -133,7 +133,7 @@ fn fill_nodes(file: &[u8], from: usize, count: usize, wanted: &mut [u16])
 
 // All n nodes, ascending, at the start of a buffer.
 fn fill_all(n: usize, wanted: &mut [u16])
-    requires { (n ≤ most_nodes) × (most_wanted ≤ length wanted.old) }
+    requires { (n ≤ most_nodes) × (n ≤ length wanted.old) }
     ensures { wanted.new ≡ sets wanted.old 0 (count_up 0 n) }
 {
     for (i, node) in wanted[..n].iter_mut().enumerate() {
@@ -143,7 +143,7 @@ fn fill_all(n: usize, wanted: &mut [u16])
 
 // The wanted list of a header that was read, at the start of a buffer.
 pub fn fill_wanted(file: &[u8], header: Header, wanted: &mut [u16])
-    requires { HeaderGot file.now header × (most_wanted ≤ length wanted.old) }
+    requires { HeaderGot file.now header × (header.wanted ≤ length wanted.old) }
     ensures { wanted.new ≡ sets wanted.old 0 (wanted_of file.now header) }
 {
     match header.listed_at {

@@ -1,5 +1,5 @@
 -- `read_table` meets its contract: what the header and the records give is what the file gives. Assumes nothing.
-use Rattle.std.proofs.Common.{sym, ◌∙◌}
+use Rattle.std.proofs.Common.{arith, sym, ◌∙◌}
 use Rattle.link_format.proofs.Counts.{roomy}
 use Rattle.link_format.proofs.Outcomes.{reading_short, reading_roomy}
 use Rattle.link_fields.proofs.Checks.{passed_on}
@@ -20,7 +20,8 @@ returns-in_err-arcs-clause-answer c =
     (none_read _ _ (reading_roomy _ _ _ _ _ (sym c.if-short.ensures) ∙ records_refuse _ _ c.in_ok-header.ensures c.in_err-arcs.ensures))
 
 pub fill_wanted-requires : goal.fill_wanted-requires
-fill_wanted-requires c = (c.in_ok-header.ensures, (roomy _ _ _ _ (sym c.if-short.ensures)).wanted_room)
+fill_wanted-requires c =
+    (c.in_ok-header.ensures, omega (arith, c.in_ok-header.ensures.few, (roomy _ _ _ _ (sym c.if-short.ensures)).wanted_room))
 
 pub fill_records-requires : goal.fill_records-requires
 fill_records-requires c =
