@@ -31,7 +31,8 @@ fn print_pieces(input: &[u8], plan: &FinishedPlan, out: &mut [u8])
     }
 }
 
-// Puts the path lines of an input's plan in order, and prints its sheet.
+// Puts the path lines of an input's plan in order, and prints its sheet. The counts become sizes as in `plan_read` of input, a line each: a function that
+// gave the three would be no shorter.
 fn print_plan(input: &[u8], planned: PlannedInput, lent: &Workspace)
     requires { Ready input.now planned lent.now }
 {
