@@ -2,7 +2,7 @@
 // each node, a mark for each arc.
 #![tactic(auto)]
 
-ghost use Rattle.std.specs.Prelude.{◌≡◌, cond, ℕ, ◌+◌, ◌≤◌, ◌<◌, ◌==◌, ltb, length, get_or};
+ghost use Rattle.std.specs.Prelude.{◌≡◌, cond, ℕ, ◌≤◌, ◌<◌, ◌==◌, ltb, length, get_or};
 ghost use Rattle.table.specs.Table.{no_arc, most_nodes, most_wanted};
 ghost use Rattle.table.specs.Refusals.{no_refusal, refusal};
 ghost use Rattle.table.specs.Told.{number, told};

@@ -1,5 +1,5 @@
 // An iteration: a deletion, a contraction or an extension at the terminal node.
-ghost use Rattle.std.specs.Prelude.{◌≡◌, List, ℕ, ◌+◌, ◌≤◌, ◌<◌, length, get_or};
+ghost use Rattle.std.specs.Prelude.{◌≡◌, List, ℕ, ◌≤◌, ◌<◌, length, get_or};
 ghost use Rattle.table.specs.Table.{Table};
 ghost use Rattle.auction.specs.Auction.{deletion, contraction, extension};
 ghost use Rattle.forward_star.specs.Lent.{IsStarOf};
