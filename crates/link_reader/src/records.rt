@@ -49,7 +49,8 @@ pub fn read_record(part: &[u8], at: usize, previous: Option<Arc>) -> Result<Read
     })
 }
 
-// The first pass: every record from an offset to the end of the file is read, and counted.
+// The first pass: every record from an offset to the end of the file is read, and counted. A record is taken apart by `match`: by `?` reading took longer by
+// a third (DECISIONS N10).
 pub fn count_records(file: &[u8], start: usize) -> Result<usize, Refusal>
     requires { (start ≤ length file.now) × (start ≤ most_header) }
     ensures { Reads result (Counted file.now start) (records_from file.now start) }
@@ -60,7 +61,10 @@ pub fn count_records(file: &[u8], start: usize) -> Result<usize, Refusal>
         if at == file.len() {
             return Ok(count);
         }
-        let Read { value: arc, next } = read_record(&file[at..], at, previous)?;
+        let Read { value: arc, next } = match read_record(&file[at..], at, previous) {
+            Ok(record) => record,
+            Err(refusal) => return Err(refusal),
+        };
         previous = Some(arc);
         at = next;
     }

@@ -1,23 +1,21 @@
 -- `records::count_records` meets its contract: one law of `Runs` for each way on and out. Assumes nothing.
 use Rattle.std.proofs.Common.{sym, ap, ◌∙◌, arith}
 use Rattle.link_reader.proofs.records.Runs.{part_is, standing_next, run_more, count_of, count_more, all_counted, one_refused, one_too_many}
-use Rattle.link_fields.proofs.Checks.{passed_on}
 use Rattle.link_reader.proofs.Refused.{refused_as}
 use Rattle.link_reader.proofs.records.count_records.Goals as goal
 
 pub returns-then-at-file : goal.returns-then-at-file
 returns-then-at-file c = let all = all_counted _ _ _ _ _ c.loop-count.invariant.same (omega arith) in record { good = all.0; is = all.1 }
 
-pub returns-in_err-arc : goal.returns-in_err-arc
-returns-in_err-arc c =
+pub returns-in-Err : goal.returns-in-Err
+returns-in-Err c =
     let stands = c.loop-count.invariant.stands in
-    rw (passed_on _ _ c.from_residual.ensures.1)
-    (one_refused _ _ _ _ _ c.loop-count.invariant.same (omega (arith, stands.inside)) c.loop-count-test.true (rw part_is at c.in_err-arc.ensures))
+    (one_refused _ _ _ _ _ c.loop-count.invariant.same (omega (arith, stands.inside)) c.loop-count-test.true (rw part_is at c.in-Err.ensures))
 
 pub loop-count-preserved : goal.loop-count-preserved
 loop-count-preserved c =
     let stands = c.loop-count.invariant.stands in
-    let record_got = rw part_is at c.in_ok-arc.ensures in
+    let record_got = rw part_is at c.in-Ok.ensures in
     record {
       stands = standing_next stands _ _ record_got;
       same =
