@@ -21,8 +21,8 @@ pub struct PlannedInput {
 }
 
 // Plans what was read: of each column the start that reading filled, with as much of each buffer as the table needs. The refusal of a file is the answer: its
-// number is not 0, since `read` is what `read_link_file` answers, to C and here. The eight come as slices, the columns by `&mut` too and left as they are: of a field's
-// slice that was lent by `&` no proof knows afterwards what it holds.
+// number is not 0, since `read` is what `read_link_file` answers, to C and here. The eight come as slices, the columns by `&mut` too and left as they are: of
+// a field's slice that was lent by `&` no proof knows afterwards what it holds.
 fn plan_read(
     read: TableRead,
     tails: &mut [u16],

@@ -62,8 +62,8 @@ fn total(linked: &LinkedTable, list: &[u16]) -> Option<u64>
     }
 }
 
-// Whether the standing list is kept beside a fresh list of this total. The two lists are told apart by name at each call; up to `keeps_standing` what C lends
-// comes one by one.
+// Whether the standing list is kept beside a fresh list of this total. A struct of the two lists would be made in `decide` and in `keep_path`, and here be
+// taken apart again; up to `keeps_standing` what C lends comes one by one.
 fn stays(linked: &LinkedTable, standing: &[u16], fresh: &[u16], most: u64) -> bool
     requires { held (Some most) ≡ lent_total (table_in linked.now.table) fresh.now }
     ensures { result ≡ stays (table_in linked.now.table) standing.now fresh.now }

@@ -1,5 +1,6 @@
-// The lines of a sheet as bytes: each kind has a function that puts a line of it whole at the start of a buffer and answers its length. crates/sheet
-// says which bytes a line has, and crates/printer which line comes next. The length is answered and no slice, since a piece is several lines. Beneath them a line is put together from texts and numbers (text).
+// The lines of a sheet as bytes: each kind has a function that puts a line of it whole at the start of a buffer and answers its length. crates/sheet says
+// which bytes a line has, and crates/printer which line comes next. The length is answered and no slice, since a piece is several lines. Beneath them a line
+// is put together from texts and numbers (text).
 #![tactic(auto)]
 
 mod text;

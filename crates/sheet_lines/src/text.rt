@@ -1,5 +1,5 @@
 // A line that is put together at the start of a buffer, from texts and numbers. What std's fmt writes is promised where it says Ok, and no contract says that
-// it does. An `Output` of a link file is something else: of a line only what the buffer begins with is told (`Extends`), and the rest may be anything.
+// it does. It is no `Output` of link_fields: methods stand where their type does, so that one type would have the sheet's and the file's in one crate.
 ghost use Rattle.std.specs.Prelude.{◌≡◌, ◌++◌, ◌+◌, ◌≤◌, length};
 ghost use Rattle.table.specs.Table.{most_nodes};
 ghost use Rattle.sheet.specs.Text.{decimal};

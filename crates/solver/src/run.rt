@@ -129,8 +129,8 @@ fn forget_all(nodes: &mut [Node])
     }
 }
 
-// The whole run within a limit, from the fresh state that is lent to the state where it ends. The nodes forget within the call: where they did so
-// before it, long scans were slower.
+// The whole run within a limit, from the fresh state that is lent to the state where it ends. The nodes forget within the call, so that nothing is asked
+// of what they remember.
 pub fn run(
     begun: Progress,
     limit: u64,

@@ -3,3 +3,4 @@ pub mod Nodes
 pub mod Arrays
 pub mod Arcs
 pub mod Remembering
+pub mod Unread

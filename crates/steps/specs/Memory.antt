@@ -21,7 +21,6 @@ abbrev pub node_at : (v : ℕ) → List Node → Node
 node_at v ns = get_or ns v nobody
 
 -- A NODE FORGETS its child
-
 abbrev pub forgetting : (v : ℕ) → List Node → List Node
 forgetting v ns = set ns v (record (node_at v ns) { remembered = no_node })
 

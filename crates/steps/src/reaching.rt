@@ -74,7 +74,8 @@ fn offer_arcs(v: usize, distance: u64, star: &ForwardStar, nodes: &mut [Node])
     }
 }
 
-// Marks a node as reached, which fixes its distance, and offers its arcs.
+// Marks a node as reached, which fixes its distance, and offers its arcs. No price is read, nor by an extension, so that what is said of the nodes' own
+// prices holds of any (proofs/Unread.antt).
 pub fn reach(v: usize, star: &ForwardStar, nodes: &mut [Node])
     requires ready { Ready star.now nodes.old }
     requires v_in_bounds { (v < length star.now.first.now) × (get_or (bounds_in nodes.old) v 0 ≤ greatest_sum) }

@@ -18,7 +18,8 @@ pub enum Status {
 }
 
 impl Status {
-    // A deleted node has been reached before. By its arms, and not by a derived ==, since the contract says which number of the auction each status is.
+    // A deleted node has been reached before. By its arms, of which each has its number of the auction by definition, as the contract has it; of a derived
+    // == that would have to be shown.
     pub fn was_reached(self) -> bool
         ensures { result ≡ ltb unreached (status_number self) }
     {
@@ -89,10 +90,10 @@ pub struct RunEnd {
     pub progress: Progress,
 }
 
-// The path from the origin on, with room for the most nodes, as many as the progress says; the nodes; the progress. Without a heap both have room for
-// every table. The path's depth is no length of an ArrayVec: it travels by value, with the counts. The functions of a run take the three one by one, not as one struct by `&mut`: each is lent just what it writes, so that what it cannot
-// write needs no clause. What a step relies on of them (that the node before the terminal one can be looked up, that numbers are small) is of values that
-// change from step to step, so it stands in the contracts.
+// The path from the origin on, with room for the most nodes, as many as the progress says; the nodes; the progress. Without a heap both have room for every
+// table. The path's depth is no length of an ArrayVec: it travels by value, with the counts. The functions of a run take the three one by one, not as one
+// struct by `&mut`: each is lent just what it writes, so that what it cannot write needs no clause. What a step relies on of them (that the node before the
+// terminal one can be looked up, that numbers are small) is of values that change from step to step, so it stands in the contracts.
 #[derive(Drop)]
 pub struct RunState {
     pub path: [u16; MOST_NODES],

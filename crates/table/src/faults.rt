@@ -39,7 +39,7 @@ pub enum Fault {
 }
 
 impl Fault {
-    // A method and no From, so that where it is called it says that this is the number.
+    // By a name and not by `u32::from`, which would not say what the number is for.
     pub fn number(self) -> u32
         ensures { result ≡ number self }
     {

@@ -22,7 +22,8 @@ pub struct Columns<'a> {
 }
 
 impl Columns<'_> {
-    // The arc at a position. Loops over a table's arcs are over the positions: an Iterator of our own would be a type with laws for what this says in a line.
+    // The arc at a position. Loops over a table's arcs are over the positions: a zip of the three columns gives pairs of pairs, of which an arc would have to
+    // be made, and an Iterator of our own would be a type with laws, for what this says in a line.
     pub fn arc(self, i: usize) -> Arc
         requires { i < length self.tails.now }
         ensures tail { result.tail ≡ get_or self.entry.tails.now i 0 }
