@@ -17,8 +17,8 @@
  *
  * Calls share nothing: there is no global state, no allocation and no call out of the library but
  * to memcpy and memset, so two threads may call at once. Stack needed, measured on x86-64
- * (docs/PERFORMANCE.md): planning, either way, 38,456 bytes, asking for a limit 38,120, keeping a
- * path 14,280, each other call less than 512.
+ * (docs/PERFORMANCE.md): planning, either way, 41,688 bytes, asking for a limit 41,272, keeping a
+ * path 14,656, each other call less than 512.
  *
  * Every answer starts with a number and a place: kestrelore_refusal lists them. docs/RULES.md has
  * the rules of planning, the file format with an example byte by byte, and the order of the tests.
