@@ -8,9 +8,9 @@ use native.Mathlib.Omega.{arith}
 use lib.Dec.{ltb, eqb}
 use lib.ListN.{length, get_or, length-append}
 use borrow.Author.Tests.{ltb-true, eqb-true, lt-ltb, eq-eqb, ne_eqb}
+use Rattle.std.proofs.lemmas.Bool.{and_from, and_parts, cases_Bool, cases_eq, or_right}
 use Rattle.table.specs.Table.{Table, arc_count, tail_at, head_at, length_at, leads, is_walk, walk_length, no_arc}
 use Rattle.auction.specs.HandOver.{back_from, returned}
-use Rattle.table.proofs.Basics.{same_or, true_or, both_true, true_both, either_second}
 use Rattle.auction.proofs.Good.{Good}
 
 -- a walk's first arc
@@ -22,8 +22,8 @@ pub record First (t : Table) (u i : ℕ) (is : List ℕ) (v : ℕ) : Type 0 wher
 pub first : (t : Table) (u i : ℕ) (is : List ℕ) (v : ℕ) → leads t u (i ∷ is) v ≡ true → First t u i is v
 unfolding leads
 first t u i is v e =
-    let p = both_true (ltb i (arc_count t) && eqb (tail_at t i) u) (leads t (head_at t i) is v) e in
-    let q = both_true (ltb i (arc_count t)) (eqb (tail_at t i) u) p.0 in
+    let p = and_parts (ltb i (arc_count t) && eqb (tail_at t i) u) (leads t (head_at t i) is v) e in
+    let q = and_parts (ltb i (arc_count t)) (eqb (tail_at t i) u) p.0 in
     record { listed = ltb-true i (arc_count t) q.0; leaves = eqb-true (tail_at t i) u q.1; rest = p.1 }
 
 -- a walk ends at a node of the table
@@ -41,12 +41,12 @@ module _ (t : Table) where
   leads_on : (p : List ℕ) (u v i : ℕ) → leads t u p v ≡ true → i < arc_count t → tail_at t i ≡ v → leads t u (p ++ (i ∷ [])) (head_at t i) ≡ true
   unfolding leads
   leads_on [] u v i e h l =
-      true_both (ltb i (arc_count t) && eqb (tail_at t i) u) (eqb (head_at t i) (head_at t i))
-      (true_both (ltb i (arc_count t)) (eqb (tail_at t i) u) (lt-ltb i (arc_count t) h) (eq-eqb (tail_at t i) u (l ∙ sym (eqb-true u v e))))
+      and_from (ltb i (arc_count t) && eqb (tail_at t i) u) (eqb (head_at t i) (head_at t i))
+      (and_from (ltb i (arc_count t)) (eqb (tail_at t i) u) (lt-ltb i (arc_count t) h) (eq-eqb (tail_at t i) u (l ∙ sym (eqb-true u v e))))
       (eq-eqb (head_at t i) (head_at t i) refl)
   leads_on (j ∷ p) u v i e h l =
-      let q = both_true (ltb j (arc_count t) && eqb (tail_at t j) u) (leads t (head_at t j) p v) e in
-      true_both (ltb j (arc_count t) && eqb (tail_at t j) u) (leads t (head_at t j) (p ++ (i ∷ [])) (head_at t i)) q.0
+      let q = and_parts (ltb j (arc_count t) && eqb (tail_at t j) u) (leads t (head_at t j) p v) e in
+      and_from (ltb j (arc_count t) && eqb (tail_at t j) u) (leads t (head_at t j) (p ++ (i ∷ [])) (head_at t i)) q.0
       (leads_on p (head_at t j) v i q.1 h l)
 
   pub walk_on : (p : List ℕ) (v i : ℕ) → is_walk t p v ≡ true → i < arc_count t → tail_at t i ≡ v → is_walk t (p ++ (i ∷ [])) (head_at t i) ≡ true
@@ -79,7 +79,7 @@ module _ (t : Table) (ts : List ℕ) where
   pub without_entry : (k v : ℕ) (is : List ℕ) → get_or ts v no_arc ≡ no_arc → back_from k t ts v is ≡ is
   unfolding back_from
   without_entry zero v is e = refl
-  without_entry (suc k) v is e = stays k v is (either_second (eqb v t.origin) (eqb (get_or ts v no_arc) no_arc) (eq-eqb (get_or ts v no_arc) no_arc e))
+  without_entry (suc k) v is e = stays k v is (or_right (eqb v t.origin) (eqb (get_or ts v no_arc) no_arc) (eq-eqb (get_or ts v no_arc) no_arc e))
 
   pub one_back : (k v : ℕ) (is : List ℕ) → (v ≡ t.origin → ⊥) → (get_or ts v no_arc ≡ no_arc → ⊥) →
       back_from (suc k) t ts v is ≡ back_from k t ts (tail_at t (get_or ts v no_arc)) (get_or ts v no_arc ∷ is)
@@ -99,7 +99,7 @@ module _ (t : Table) (ts : List ℕ) where
       ∙ back_before k u (i ∷ is)
       ∙ sym (append_assoc (back_from k t ts u []) (i ∷ []) is)
       ∙ ap (λ (p : List ℕ). p ++ is) (sym (goes k v [] h ∙ back_before k u (i ∷ []))))
-      (true_or (ends v))
+      (cases_Bool (ends v))
 
   pub back_longer : (k v : ℕ) (is : List ℕ) → length is ≤ length (back_from k t ts v is)
   back_longer k v is = omega (arith, ap length (back_before k v is), length-append (back_from k t ts v []) is)
@@ -114,14 +114,14 @@ module _ (t : Table) (ts : List ℕ) where
       (λ (e : ends v ≡ false).
       absurd
       (omega (arith, h, ap length (goes k v is e), back_longer k (tail_at t (get_or ts v no_arc)) (get_or ts v no_arc ∷ is))))
-      (true_or (ends v))
+      (cases_Bool (ends v))
   back_enough (suc k) (suc m) v is h l =
       ⊎_elim (λ (e : ends v ≡ true). stays m v is e ∙ sym (stays k v is e))
       (λ (e : ends v ≡ false).
       goes m v is e
       ∙ back_enough k m (tail_at t (get_or ts v no_arc)) (get_or ts v no_arc ∷ is) (omega (arith, h, ap length (goes k v is e))) (omega (arith, l))
       ∙ sym (goes k v is e))
-      (true_or (ends v))
+      (cases_Bool (ends v))
 
   returned_from : (k v : ℕ) → (v ≡ t.origin → ⊥) → (get_or ts v no_arc ≡ no_arc → ⊥) → length (back_from k t ts (tail_at t (get_or ts v no_arc)) []) < k →
       back_from k t ts v [] ≡ back_from k t ts (tail_at t (get_or ts v no_arc)) [] ++ (get_or ts v no_arc ∷ [])
@@ -160,7 +160,7 @@ module _ (t t' : Table) (ts ts' : List ℕ) (o : t'.origin ≡ t.origin) (P : �
       ∙ ap (λ (u : ℕ). cond (eqb v u || eqb j no_arc) is (back_from k t' ts' (tail_at t' j) (j ∷ is))) o
       ∙ ap (λ (u : ℕ). cond (eqb v t.origin || eqb j no_arc) is (back_from k t' ts' u (j ∷ is))) s.tail
       ∙ ap (λ (q : List ℕ). cond (eqb v t.origin || eqb j no_arc) is q) (same_back k (tail_at t j) (j ∷ is) s.before))
-      (same_or v t.origin)
+      (cases_eq v t.origin)
 
   pub same_returned : t'.n ≡ t.n → (v : ℕ) → P v → returned t' ts' v ≡ returned t ts v
   unfolding returned

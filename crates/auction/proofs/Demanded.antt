@@ -8,6 +8,7 @@ use Prim.Native.Nat.{ℕ, ◌≤◌, ◌<◌}
 use native.Mathlib.Omega.{arith}
 use lib.ListN.{get_or}
 use borrow.Author.Tests.{both_ways}
+use Rattle.std.proofs.lemmas.Bool.{cases_Bool, cases_eq, cases_lt}
 use Rattle.table.specs.Table.{Table, is_table, arc_count, present_at, tail_at, walk_length, no_arc, no_distance}
 use Rattle.table.specs.Refusals.{refusal, no_refusal}
 use Rattle.auction.specs.Auction.{State, auction, after, was_reached, distance, iterations}
@@ -16,7 +17,7 @@ use Rattle.auction.specs.Scans.{scans}
 use Rattle.auction.specs.Plan.{routes_of}
 use Rattle.auction.specs.Promises.{HasWalk, NoWalk, last_state, route, price, link, Shortest, Shown, WalkShortest, WalkGiven, PricesFit, PricesShow, RouteToAll, NoRoute, FirstWithoutWalk, FewIterations, FewerIterations, EndsByItself, IterationsCounted, Attains, EarliestLink, MarksTallied}
 use Rattle.auction.specs.Demands.{distance_of, price_of, link_of, walk_of, Given, Demands, DemandsMet, SameCounts, CountsPinned, hollow, HollowFails}
-use Rattle.table.proofs.Basics.{same_or, true_or, below_or, some_none, some_same}
+use Rattle.table.proofs.Basics.{some_none, some_same}
 use Rattle.auction.proofs.Sums.{column, past_column}
 use Rattle.auction.proofs.Good.{Good, good}
 use Rattle.auction.proofs.Steps.Effects.{status_in, reached_status, status_reached}
@@ -57,11 +58,11 @@ module _ (t : Table) (ws : List ℕ) (e : is_table t ws ≡ true) where
       let here : distance_entry x v ≡ no_distance = rw r in
       ⊎_elim (λ (h : v < t.n). column t.n v (distance_entry x) no_distance h ∙ here)
       (λ (h : t.n ≤ v). past_column t.n v (distance_entry x) no_distance h)
-      (below_or v t.n)
+      (cases_lt v t.n)
 
   pub given_reached : (v : ℕ) → Given a v → was_reached x v ≡ true
   unfolding Given
-  given_reached v h = ⊎_elim (λ (r : was_reached x v ≡ true). r) (λ (r : was_reached x v ≡ false). absurd (h (unreached_entry v r))) (true_or (was_reached x v))
+  given_reached v h = ⊎_elim (λ (r : was_reached x v ≡ true). r) (λ (r : was_reached x v ≡ false). absurd (h (unreached_entry v r))) (cases_Bool (was_reached x v))
 
   reached_given : (v : ℕ) → was_reached x v ≡ true → Given a v
   unfolding Given
@@ -75,7 +76,7 @@ module _ (t : Table) (ws : List ℕ) (e : is_table t ws ≡ true) where
   unfolding link_of routes_of handed_over last_state
   linked_given v d =
       ⊎_elim (λ (r : was_reached x v ≡ true). reached_given v r) (λ (r : was_reached x v ≡ false). absurd (d (tree_unreached t g x dep sound v r)))
-      (true_or (was_reached x v))
+      (cases_Bool (was_reached x v))
 
   -- number 8 exactly where the run ended without every wanted node
   number_zero : (auction t ws).routed ≡ true → a.number ≡ 0
@@ -96,9 +97,9 @@ module _ (t : Table) (ws : List ℕ) (e : is_table t ws ≡ true) where
       (λ (o : v ≡ t.origin → ⊥).
       let l = kept_link t g x dep sound v r o in
       absent_unkept t g x dep sound i v p (l.kept ∙ ap some (sym l.entry ∙ q)))
-      (same_or v t.origin))
+      (cases_eq v t.origin))
       (λ (r : was_reached x v ≡ false). omega (arith, q, tree_unreached t g x dep sound v r, h, g.few_arcs))
-      (true_or (was_reached x v))
+      (cases_Bool (was_reached x v))
 
   demands : Demands t ws a
   unfolding routes_of handed_over last_state price_of link_of walk_of iterations WalkShortest WalkGiven PricesFit PricesShow RouteToAll NoRoute FewIterations FewerIterations EndsByItself IterationsCounted EarliestLink MarksTallied route price link marks
@@ -126,16 +127,16 @@ module _ (t : Table) (ws : List ℕ) (e : is_table t ws ≡ true) where
         prices_show = λ v h. (shown v h).difference;
         numbers =
             ⊎_elim (λ (r : (auction t ws).routed ≡ true). inl (number_zero r)) (λ (r : (auction t ws).routed ≡ false). inr (number_eight r).0)
-            (true_or (auction t ws).routed);
+            (cases_Bool (auction t ws).routed);
         route =
             λ z.
             ⊎_elim (λ (r : (auction t ws).routed ≡ true). route_to_all t ws e r) (λ (r : (auction t ws).routed ≡ false). absurd (omega (arith, z, (number_eight r).0)))
-            (true_or (auction t ws).routed);
+            (cases_Bool (auction t ws).routed);
         no_route =
             λ z.
             ⊎_elim (λ (r : (auction t ws).routed ≡ true). absurd (omega (arith, z, number_zero r)))
             (λ (r : (auction t ws).routed ≡ false). subst (λ (p : ℕ). FirstWithoutWalk t ws p) (sym (number_eight r).1) (no_route t ws e r))
-            (true_or (auction t ws).routed);
+            (cases_Bool (auction t ws).routed);
         marks_all = (marks_tallied t ws e).all;
         marks_tree = (marks_tallied t ws e).tree;
         absent_mark = λ i h p. column (arc_count t) i (mark t x) 0 h ∙ absent_mark t x i p;
@@ -150,12 +151,12 @@ module _ (t : Table) (ws : List ℕ) (e : is_table t ws ≡ true) where
             λ z.
             ⊎_elim (λ (r : (auction t ws).routed ≡ true). (ends_by_itself t ws e).found r)
             (λ (r : (auction t ws).routed ≡ false). absurd (omega (arith, z, (number_eight r).0)))
-            (true_or (auction t ws).routed);
+            (cases_Bool (auction t ws).routed);
         stuck =
             λ z.
             ⊎_elim (λ (r : (auction t ws).routed ≡ true). absurd (omega (arith, z, number_zero r)))
             (λ (r : (auction t ws).routed ≡ false). (ends_by_itself t ws e).stuck r)
-            (true_or (auction t ws).routed);
+            (cases_Bool (auction t ws).routed);
         not_before = (iterations_counted t ws e).not_before;
         few = few_iterations t ws e;
         fewer = fewer_iterations t ws e;

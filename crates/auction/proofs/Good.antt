@@ -8,10 +8,10 @@ use native.Mathlib.Omega.{arith}
 use lib.Dec.{ltb, leb, eqb}
 use lib.ListN.{length, get_or}
 use borrow.Author.Tests.{ltb-true, leb-true, eqb-true, lt-ltb, le-ltb, le-leb, lt-leb, eq-eqb, ne_eqb, ltb-false, leb-false, eqb-false}
+use Rattle.std.proofs.lemmas.Bool.{and_from, and_parts, cases_Bool, or_parts}
 use Rattle.table.specs.Table.{Table, Arc, arc, table, table_of, arcs_of, is_table, arc_good, arcs_good, nodes_below, arc_count, arc_at, tail_at, head_at, length_at, longest, no_arc, most_nodes, most_arcs, most_wanted, Below}
 use Rattle.table.specs.Refusals.{Refusal, refusal, no_refusal, or_else, table_refusal, count_bad, columns_bad, rooms_fit, wanted_from, wanted_refusal, arc_fault, arcs_from, arcs_refusal}
 use Rattle.auction.specs.Promises.{LongestOf32Bits, LengthsOf32Bits, UnrefusedIsTable, TableIsUnrefused}
-use Rattle.table.proofs.Basics.{either_false, both_true, true_both, true_or}
 use Rattle.table.proofs.Columns.{arcs_count}
 
 -- A TABLE THAT IS NOT REFUSED
@@ -31,14 +31,14 @@ pub record Good (t : Table) : Type 0 where
 arc_of : (n : ℕ) (arcs : List Arc) (d : Arc) (i : ℕ) → arcs_good n arcs ≡ true → i < length arcs → arc_good n (get_or arcs i d) ≡ true
 unfolding arcs_good
 arc_of n [] d i e h = absurd (omega arith)
-arc_of n (a ∷ more) d zero e h = (both_true (arc_good n a) (arcs_good n more) e).0
-arc_of n (a ∷ more) d (suc i) e h = arc_of n more d i (both_true (arc_good n a) (arcs_good n more) e).1 (omega arith)
+arc_of n (a ∷ more) d zero e h = (and_parts (arc_good n a) (arcs_good n more) e).0
+arc_of n (a ∷ more) d (suc i) e h = arc_of n more d i (and_parts (arc_good n a) (arcs_good n more) e).1 (omega arith)
 
 node_of : (n : ℕ) (vs : List ℕ) (i : ℕ) → nodes_below n vs ≡ true → i < length vs → get_or vs i 0 < n
 unfolding nodes_below
 node_of n [] i e h = absurd (omega arith)
-node_of n (v ∷ vs) zero e h = ltb-true v n (both_true (ltb v n) (nodes_below n vs) e).0
-node_of n (v ∷ vs) (suc i) e h = node_of n vs i (both_true (ltb v n) (nodes_below n vs) e).1 (omega arith)
+node_of n (v ∷ vs) zero e h = ltb-true v n (and_parts (ltb v n) (nodes_below n vs) e).0
+node_of n (v ∷ vs) (suc i) e h = node_of n vs i (and_parts (ltb v n) (nodes_below n vs) e).1 (omega arith)
 
 pub record ArcGood (n : ℕ) (a : Arc) : Type 0 where
   pub tail_in : a.tail < n
@@ -49,9 +49,9 @@ pub record ArcGood (n : ℕ) (a : Arc) : Type 0 where
 arc_facts : (n : ℕ) (a : Arc) → arc_good n a ≡ true → ArcGood n a
 unfolding arc_good
 arc_facts n a e =
-    let p = both_true (ltb a.tail n && ltb a.head n) (leb 1 a.arc_length && leb a.arc_length longest) e in
-    let q = both_true (ltb a.tail n) (ltb a.head n) p.0 in
-    let r = both_true (leb 1 a.arc_length) (leb a.arc_length longest) p.1 in
+    let p = and_parts (ltb a.tail n && ltb a.head n) (leb 1 a.arc_length && leb a.arc_length longest) e in
+    let q = and_parts (ltb a.tail n) (ltb a.head n) p.0 in
+    let r = and_parts (leb 1 a.arc_length) (leb a.arc_length longest) p.1 in
     record {
       tail_in = ltb-true a.tail n q.0;
       head_in = ltb-true a.head n q.1;
@@ -73,13 +73,13 @@ pub parts : (t : Table) (ws : List ℕ) → is_table t ws ≡ true → Parts t w
 unfolding is_table
 parts t ws e =
     let p =
-    both_true ((leb 1 t.n && leb t.n most_nodes) && (ltb t.origin t.n && leb (arc_count t) most_arcs))
+    and_parts ((leb 1 t.n && leb t.n most_nodes) && (ltb t.origin t.n && leb (arc_count t) most_arcs))
     (arcs_good t.n t.arcs && (leb (length ws) most_wanted && nodes_below t.n ws)) e in
-    let q = both_true (leb 1 t.n && leb t.n most_nodes) (ltb t.origin t.n && leb (arc_count t) most_arcs) p.0 in
-    let a = both_true (leb 1 t.n) (leb t.n most_nodes) q.0 in
-    let b = both_true (ltb t.origin t.n) (leb (arc_count t) most_arcs) q.1 in
-    let c = both_true (arcs_good t.n t.arcs) (leb (length ws) most_wanted && nodes_below t.n ws) p.1 in
-    let w = both_true (leb (length ws) most_wanted) (nodes_below t.n ws) c.1 in
+    let q = and_parts (leb 1 t.n && leb t.n most_nodes) (ltb t.origin t.n && leb (arc_count t) most_arcs) p.0 in
+    let a = and_parts (leb 1 t.n) (leb t.n most_nodes) q.0 in
+    let b = and_parts (ltb t.origin t.n) (leb (arc_count t) most_arcs) q.1 in
+    let c = and_parts (arcs_good t.n t.arcs) (leb (length ws) most_wanted && nodes_below t.n ws) p.1 in
+    let w = and_parts (leb (length ws) most_wanted) (nodes_below t.n ws) c.1 in
     record {
       some_node = leb-true 1 t.n a.0;
       few_nodes = leb-true t.n most_nodes a.1;
@@ -136,7 +136,7 @@ or_else_none a b e =
     (z, subst (λ (c : Bool). (cond c b a).number ≡ 0) h e))
     (λ (h : eqb a.number 0 ≡ false).
     absurd (eqb-false a.number 0 h (subst (λ (c : Bool). (cond c b a).number ≡ 0) h e)))
-    (true_or (eqb a.number 0))
+    (cases_Bool (eqb a.number 0))
 
 wanted_pass : (i n : ℕ) (ws : List ℕ) → (wanted_from i n ws).number ≡ 0 → nodes_below n ws ≡ true
 unfolding wanted_from nodes_below refusal
@@ -145,11 +145,11 @@ wanted_pass i n (w ∷ ws) e =
     ⊎_elim
     (λ (h : ltb w n ≡ true).
     let r : (wanted_from (suc i) n ws).number ≡ 0 = subst (λ (c : Bool). (cond c (wanted_from (suc i) n ws) (refusal 5 i)).number ≡ 0) h e in
-    true_both (ltb w n) (nodes_below n ws) h (wanted_pass (suc i) n ws r))
+    and_from (ltb w n) (nodes_below n ws) h (wanted_pass (suc i) n ws r))
     (λ (h : ltb w n ≡ false).
     let r : ◌≡◌ {A = ℕ} 5 0 = subst (λ (c : Bool). (cond c (wanted_from (suc i) n ws) (refusal 5 i)).number ≡ 0) h e in
     absurd (omega arith))
-    (true_or (ltb w n))
+    (cases_Bool (ltb w n))
 
 fault_none : (a b : Bool) → ◌≡◌ {A = ℕ} (cond a 6 (cond b 7 0)) 0 → (a ≡ false) × (b ≡ false)
 fault_none true b e = absurd (omega arith)
@@ -160,7 +160,7 @@ arc_pass : (n : ℕ) (a : Arc) → arc_fault n a ≡ 0 → a.arc_length < 2 ^ 32
 unfolding arc_fault arc_good
 arc_pass n a e h =
     let p = fault_none (leb n a.tail || leb n a.head) (eqb a.arc_length 0) e in
-    let q = either_false (leb n a.tail) (leb n a.head) p.0 in
+    let q = or_parts (leb n a.tail) (leb n a.head) p.0 in
     let far : a.arc_length ≡ 0 → ⊥ = eqb-false a.arc_length 0 p.1 in
     let least : 1 ≤ a.arc_length = omega arith in
     let most : a.arc_length ≤ longest = omega arith in
@@ -177,13 +177,13 @@ arcs_pass i n (t ∷ ts) (h ∷ hs) (l ∷ ls) e b =
     let r : (arcs_from (suc i) n (arcs_of ts hs ls)).number ≡ 0 =
     subst (λ (c : Bool). (cond c (arcs_from (suc i) n (arcs_of ts hs ls)) (refusal (arc_fault n (arc t h l)) i)).number ≡ 0) p e in
     let fits : l < 2 ^ 32 = b 0 in
-    true_both (arc_good n (arc t h l)) (arcs_good n (arcs_of ts hs ls)) (arc_pass n (arc t h l) (eqb-true (arc_fault n (arc t h l)) 0 p) fits)
+    and_from (arc_good n (arc t h l)) (arcs_good n (arcs_of ts hs ls)) (arc_pass n (arc t h l) (eqb-true (arc_fault n (arc t h l)) 0 p) fits)
     (arcs_pass (suc i) n ts hs ls r (λ k. b (suc k))))
     (λ (p : eqb (arc_fault n (arc t h l)) 0 ≡ false).
     absurd
     (eqb-false (arc_fault n (arc t h l)) 0 p
     (subst (λ (c : Bool). (cond c (arcs_from (suc i) n (arcs_of ts hs ls)) (refusal (arc_fault n (arc t h l)) i)).number ≡ 0) p e)))
-    (true_or (eqb (arc_fault n (arc t h l)) 0))
+    (cases_Bool (eqb (arc_fault n (arc t h l)) 0))
 
 arcs_of_length : (ts hs ls : List ℕ) → length (arcs_of ts hs ls) ≤ length ts
 unfolding arcs_of
@@ -201,10 +201,10 @@ unrefused_is_table n o ts hs ls ws rooms fits e =
     let s = passed (leb n o) _ 3 0 r.1 in
     let w = or_else_none (wanted_refusal n ws) (arcs_refusal n (arcs_of ts hs ls)) s.1 in
     let x = passed (ltb most_wanted (length ws)) (wanted_from 0 n ws) 4 most_wanted w.0 in
-    let n_facts = either_false (eqb n 0) (ltb most_nodes n) p.0 in
+    let n_facts = or_parts (eqb n 0) (ltb most_nodes n) p.0 in
     let n_not_zero : n ≡ 0 → ⊥ = eqb-false n 0 n_facts.0 in
     let n_low = ltb-false most_nodes n n_facts.1 in
-    let m_low = ltb-false most_arcs (length ts) (either_false (not (eqb (length ts) (length hs) && eqb (length hs) (length ls))) (ltb most_arcs (length ts)) q.0).1 in
+    let m_low = ltb-false most_arcs (length ts) (or_parts (not (eqb (length ts) (length hs) && eqb (length hs) (length ls))) (ltb most_arcs (length ts)) q.0).1 in
     let o_low = leb-false n o s.0 in
     let w_low = ltb-false most_wanted (length ws) x.0 in
     let a_low = arcs_of_length ts hs ls in
@@ -215,7 +215,7 @@ wanted_none : (i n : ℕ) (ws : List ℕ) → nodes_below n ws ≡ true → want
 unfolding wanted_from nodes_below
 wanted_none i n [] e = refl
 wanted_none i n (w ∷ ws) e =
-    let p = both_true (ltb w n) (nodes_below n ws) e in
+    let p = and_parts (ltb w n) (nodes_below n ws) e in
     ap (λ (c : Bool). cond c (wanted_from (suc i) n ws) (refusal 5 i)) p.0 ∙ wanted_none (suc i) n ws p.1
 
 faultless : (n : ℕ) (a : Arc) → arc_good n a ≡ true → arc_fault n a ≡ 0
@@ -229,7 +229,7 @@ arcs_none : (i n : ℕ) (arcs : List Arc) → arcs_good n arcs ≡ true → arcs
 unfolding arcs_from arcs_good
 arcs_none i n [] e = refl
 arcs_none i n (a ∷ more) e =
-    let p = both_true (arc_good n a) (arcs_good n more) e in
+    let p = and_parts (arc_good n a) (arcs_good n more) e in
     ap (λ (c : Bool). cond c (arcs_from (suc i) n more) (refusal (arc_fault n a) i)) (eq-eqb (arc_fault n a) 0 (faultless n a p.0))
     ∙ arcs_none (suc i) n more p.1
 

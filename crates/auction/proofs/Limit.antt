@@ -7,12 +7,13 @@ use mathlib.Core.Option.{none, some}
 use Prim.Native.Nat.{ℕ, zero, suc, ◌≤◌, ◌<◌}
 use native.Mathlib.Omega.{arith}
 use borrow.Author.Tests.{ltb-true, ltb-false, le-ltb, both_ways}
+use Rattle.std.proofs.lemmas.Bool.{cases_Bool, cases_lt, or_cases, or_parts}
 use Rattle.table.specs.Table.{Table, is_table}
 use Rattle.auction.specs.Auction.{State, start, next, after, all_reached, was_reached, distance, price_at, iterations, auction}
 use Rattle.auction.specs.HandOver.{tree, returned}
 use Rattle.auction.specs.Promises.{last_state, IterationsCounted, EndsByItself}
 use Rattle.auction.specs.Limit.{above, decided, limited, limited_state, WalkWithin, WithinLimit, LimitCuts, Unlimited, Limits}
-use Rattle.table.proofs.Basics.{true_or, below_or, either_true, either_false, some_none, some_same}
+use Rattle.table.proofs.Basics.{some_none, some_same}
 use Rattle.auction.proofs.Good.{Good, good}
 use Rattle.auction.proofs.Steps.Effects.{reached_status, unreached_status}
 use Rattle.auction.proofs.Invariant.Counting.{Invariant}
@@ -42,7 +43,7 @@ module _ (t : Table) (ws : List ℕ) (b : ℕ) where
   undecided : (y : State) → decided t ws b y ≡ false → (all_reached ws y ≡ false) × (price_at y t.origin ≤ b)
   unfolding decided
   undecided y e =
-      let n = either_false (all_reached ws y) (above t b y) e in
+      let n = or_parts (all_reached ws y) (above t b y) e in
       (n.0, not_above t b y n.1)
 
   module _ (g : Good t) where
@@ -56,7 +57,7 @@ module _ (t : Table) (ws : List ℕ) (b : ℕ) where
     ends =
         let end : Finish t (decided t ws b) = finish g in
         ⊎_elim (λ (r : (limited t ws b).routed ≡ true). inl (end.found r)) (λ (r : (limited t ws b).routed ≡ false). inr (end.stuck r))
-        (true_or (limited t ws b).routed)
+        (cases_Bool (limited t ws b).routed)
 
     -- A REACHED NODE IS WITHIN THE LIMIT: it is no farther than the origin's price was before it was decided
     low_after : (k : ℕ) (y : State) → after k t ≡ some y → ((m : ℕ) (z : State) → m < k → after m t ≡ some z → decided t ws b z ≡ false) →
@@ -76,7 +77,7 @@ module _ (t : Table) (ws : List ℕ) (b : ℕ) where
         (λ (q : was_reached z v ≡ true).
         let h = reached_status z v q in omega (arith, s.distances v h, i.sound.nodes.level v h, low))
         (λ (q : was_reached z v ≡ false). omega (arith, s.arrives v (unreached_status z v q) (reached_status y v r), low))
-        (true_or (was_reached z v))
+        (cases_Bool (was_reached z v))
 
     reached_low : (v : ℕ) → was_reached x v ≡ true → distance x v ≤ b
     reached_low = low_after (iterations x) x running.steps running.not_before
@@ -102,13 +103,13 @@ module _ (t : Table) (ws : List ℕ) (b : ℕ) where
         ⊎_elim (λ (r : (auction t ws).routed ≡ true). both_ways (all_reached ws y) more (end.found r))
         (λ (r : (auction t ws).routed ≡ false).
         some_none running.steps (none_after t (iterations y) y here (end.stuck r) (iterations x) h))
-        (true_or (auction t ws).routed)
+        (cases_Bool (auction t ws).routed)
 
     no_later : is_table t ws ≡ true → iterations x ≤ iterations (last_state t ws)
     no_later e =
         ⊎_elim (λ (h : iterations (last_state t ws) < iterations x). absurd (not_sooner e h))
         (λ (h : iterations x ≤ iterations (last_state t ws)). h)
-        (below_or (iterations (last_state t ws)) (iterations x))
+        (cases_lt (iterations (last_state t ws)) (iterations x))
 
 -- one wanted node
 pub alone : (v : ℕ) (x : State) → all_reached (v ∷ []) x ≡ was_reached x v
@@ -131,7 +132,7 @@ within_limit t v b e =
           (λ (r : decided t ws b y ≡ true).
           ⊎_elim (λ (a : all_reached ws y ≡ true). absurd (both_ways (was_reached y v) q (sym (alone v y) ∙ a)))
           (λ (a : above t b y ≡ true). omega (arith, is_above t b y a, unreached_walk t g y d s walk v q w))
-          (either_true (all_reached ws y) (above t b y) r))
+          (or_cases (all_reached ws y) (above t b y) r))
           (λ (n : next t y ≡ none). absurd (both_ways (was_reached y v) q (walk_reached t g y d s (childless t y n) walk v w)))
           (ends t ws b g);
     }

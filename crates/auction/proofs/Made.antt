@@ -8,9 +8,9 @@ use native.Mathlib.Omega.{arith}
 use lib.Dec.{ltb, leb, eqb}
 use lib.ListN.{length}
 use borrow.Author.Tests.{eqb-true, eqb-false, eq-eqb, ne_eqb, not-false, ltb-false, leb-true}
+use Rattle.std.proofs.lemmas.Bool.{and_parts, cases_Bool, cases_eq, or_parts}
 use Rattle.table.specs.Table.{Arc, arcs_of, table_of, is_table, most_nodes, most_arcs, most_wanted, Below}
 use Rattle.table.specs.Refusals.{Refusal, refusal, no_refusal, or_else, Room, room, table_refusal, count_bad, columns_bad, rooms_fit, wanted_from, wanted_refusal, arc_fault, arcs_from, arcs_refusal}
-use Rattle.table.proofs.Basics.{both_true, either_false, same_or, true_or}
 use Rattle.auction.specs.HandOver.{Answer}
 use Rattle.auction.specs.Promises.{UnrefusedIsTable}
 use Rattle.auction.specs.Plan.{rooms, plan_refusal, plan, routes_of, refused_plan}
@@ -20,10 +20,10 @@ use Rattle.auction.proofs.Good.{unrefused_is_table, passed}
 pub rooms_so : (n m a b c d : ℕ) → rooms_fit (rooms n m a b c d) ≡ true → (a ≡ n) × (b ≡ n) × (c ≡ n) × (d ≡ m)
 unfolding rooms_fit rooms room
 rooms_so n m a b c d e =
-    let p = both_true (eqb a n) (eqb b n && (eqb c n && (eqb d m && true))) e in
-    let q = both_true (eqb b n) (eqb c n && (eqb d m && true)) p.1 in
-    let r = both_true (eqb c n) (eqb d m && true) q.1 in
-    let s = both_true (eqb d m) true r.1 in
+    let p = and_parts (eqb a n) (eqb b n && (eqb c n && (eqb d m && true))) e in
+    let q = and_parts (eqb b n) (eqb c n && (eqb d m && true)) p.1 in
+    let r = and_parts (eqb c n) (eqb d m && true) q.1 in
+    let s = and_parts (eqb d m) true r.1 in
     (eqb-true a n p.0, eqb-true b n q.0, eqb-true c n r.0, eqb-true d m s.0)
 
 -- buffers of these lengths fit; and where buffers fit, the refusal is that of the table without any
@@ -55,13 +55,13 @@ module _ (n o : ℕ) (ts hs ls ws : List ℕ) (rs : List Room) where
       let p = passed (eqb n 0 || ltb most_nodes n) _ 0 0 e in
       let q = passed (columns_bad (length ts) (length hs) (length ls)) _ 1 0 p.1 in
       let r = passed (not (rooms_fit rs)) _ 2 0 q.1 in
-      let c = either_false (not (eqb (length ts) (length hs) && eqb (length hs) (length ls))) (ltb most_arcs (length ts)) q.0 in
-      let h = both_true (eqb (length ts) (length hs)) (eqb (length hs) (length ls)) (not-false _ c.0) in
+      let c = or_parts (not (eqb (length ts) (length hs) && eqb (length hs) (length ls))) (ltb most_arcs (length ts)) q.0 in
+      let h = and_parts (eqb (length ts) (length hs)) (eqb (length hs) (length ls)) (not-false _ c.0) in
       record {
         heads_count = eqb-true (length ts) (length hs) h.0;
         lengths_count = eqb-true (length hs) (length ls) h.1;
         table_good = unrefused_is_table n o ts hs ls ws rs low e;
-        few_nodes = ltb-false most_nodes n (either_false (eqb n 0) (ltb most_nodes n) p.0).1;
+        few_nodes = ltb-false most_nodes n (or_parts (eqb n 0) (ltb most_nodes n) p.0).1;
         few_arcs = ltb-false most_arcs (length ts) c.1;
         rooms_good = not-false _ r.0;
       }
@@ -91,8 +91,8 @@ fault_numbered n a =
     rw e
     (⊎_elim (λ (z : eqb a.arc_length 0 ≡ true). rw z (numbered 7 refl refl))
     (λ (z : eqb a.arc_length 0 ≡ false). rw z (numbered 0 refl refl))
-    (true_or (eqb a.arc_length 0))))
-    (true_or (leb n a.tail || leb n a.head))
+    (cases_Bool (eqb a.arc_length 0))))
+    (cases_Bool (leb n a.tail || leb n a.head))
 
 arcs_numbered : {fits : Bool} (i n : ℕ) (arcs : List Arc) → Numbered fits (arcs_from i n arcs).number
 unfolding arcs_from no_refusal refusal
@@ -153,7 +153,7 @@ module _ (n o : ℕ) (ts hs ls ws ds ps tr ms : List ℕ) where
       (⊎_elim (λ (q : (plan n o ts hs ls ws ds ps tr ms).number ≡ 0). z (sym (refused_number z) ∙ q))
       (λ (q : (plan n o ts hs ls ws ds ps tr ms).number ≡ 8). omega (arith, refused_number z, q, refusal_low))
       e))
-      (same_or (plan_refusal n o ts hs ls ws ds ps tr ms).number 0)
+      (cases_eq (plan_refusal n o ts hs ls ws ds ps tr ms).number 0)
 
   -- A REFUSED PLAN with buffers that fit is refused as the table is without them
   pub refused_alike : let f = table_refusal n o ts hs ls ws [] in (f.number ≡ 0 → ⊥) → length ds ≡ n → length ps ≡ n → length tr ≡ n → length ms ≡ length ts →

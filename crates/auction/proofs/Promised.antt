@@ -9,11 +9,12 @@ use native.Mathlib.Omega.{arith}
 use lib.Dec.{eqb}
 use lib.ListN.{length, get_or}
 use borrow.Author.Tests.{eqb-true, eq-eqb, both_ways}
+use Rattle.std.proofs.lemmas.Bool.{and_from, and_parts, cases_Bool}
 use Rattle.table.specs.Table.{Table, is_table, is_walk, arc_count, tail_at, head_at, length_at, longest}
 use Rattle.auction.specs.Auction.{State, Bid, auction, next, iteration, deletion, best, terminal, all_reached, was_reached, distance}
 use Rattle.auction.specs.HandOver.{prices, first_missing}
 use Rattle.auction.specs.Promises.{Promises, last_state, route, price, link, WalkShortest, WalkGiven, PricesFit, equal_along, PricesShow, HasWalk, NoWalk, FirstWithoutWalk, RouteToAll, NoRoute, FewIterations, FewerIterations, EndsByItself, IterationsCounted, Attains, EarliestLink, MarksTallied, NeverAbove, DistancesStay, Ascending, SmallDistances, SmallSums}
-use Rattle.table.proofs.Basics.{true_or, both_true, true_both, some_none}
+use Rattle.table.proofs.Basics.{some_none}
 use Rattle.auction.proofs.Good.{Good, good, unrefused_is_table, table_is_unrefused, longest_of_32_bits, lengths_of_32_bits}
 use Rattle.auction.proofs.Steps.Effects.{estimate, known_distance, reached_status, status_reached, unreached_status}
 use Rattle.auction.proofs.Steps.Bids.{Child, no_child, best_bid}
@@ -65,7 +66,7 @@ no_iteration t x none b e i h c =
     (λ (q : eqb (terminal x) t.origin ≡ true).
     no_child t (terminal x) x b i h (subst (λ (v : ℕ). Child t v i x) (sym (eqb-true (terminal x) t.origin q)) c))
     (λ (q : eqb (terminal x) t.origin ≡ false). some_none (ap (λ (r : Bool). cond r none (some (deletion (terminal x) x))) q) e)
-    (true_or (eqb (terminal x) t.origin))
+    (cases_Bool (eqb (terminal x) t.origin))
 no_iteration t x (some d) b e i h c = some_none refl e
 
 pub childless : (t : Table) (x : State) → next t x ≡ none → (i : ℕ) → i < arc_count t → Child t t.origin i x → ⊥
@@ -76,8 +77,8 @@ childless t x e = no_iteration t x (best t (terminal x) x) refl e
 wanted_reached : (ws : List ℕ) (x : State) → all_reached ws x ≡ true → (k : ℕ) → k < length ws → was_reached x (get_or ws k 0) ≡ true
 unfolding all_reached
 wanted_reached [] x e k h = absurd (omega arith)
-wanted_reached (w ∷ ws) x e zero h = (both_true (was_reached x w) (all_reached ws x) e).0
-wanted_reached (w ∷ ws) x e (suc k) h = wanted_reached ws x (both_true (was_reached x w) (all_reached ws x) e).1 k (omega arith)
+wanted_reached (w ∷ ws) x e zero h = (and_parts (was_reached x w) (all_reached ws x) e).0
+wanted_reached (w ∷ ws) x e (suc k) h = wanted_reached ws x (and_parts (was_reached x w) (all_reached ws x) e).1 k (omega arith)
 
 record Missing (i : ℕ) (ws : List ℕ) (x : State) : Type 0 where
   index : ℕ
@@ -109,7 +110,7 @@ first_missing_at i (w ∷ ws) x e =
       unreached = r;
       earlier = λ k h. absurd (omega (arith, h));
     })
-    (true_or (was_reached x w))
+    (cases_Bool (was_reached x w))
   where
     before : was_reached x w ≡ true → (q : ℕ) → ((k : ℕ) → k < q → was_reached x (get_or ws k 0) ≡ true) → (k : ℕ) → k < suc q → was_reached x (get_or (w ∷ ws) k 0) ≡ true
     before r q rest zero h = r
@@ -134,7 +135,7 @@ walk_given t ws k walk e h w =
     ⊎_elim (λ (r : (auction t ws).routed ≡ true). wanted_reached ws (last t ws e) (found t ws e r) k h)
     (λ (r : (auction t ws).routed ≡ false).
     walk_reached t (g t ws e) (last t ws e) (invariant t ws e).depth (sound t ws e) (childless t (last t ws e) (stuck t ws e r)) walk (get_or ws k 0) w)
-    (true_or (auction t ws).routed)
+    (cases_Bool (auction t ws).routed)
 
 pub prices_fit : PricesFit
 unfolding PricesFit price
@@ -144,7 +145,7 @@ all_equal : (t : Table) (ps is : List ℕ) → All (λ i. get_or ps (tail_at t i
 unfolding All equal_along
 all_equal t ps [] a = refl
 all_equal t ps (i ∷ is) a =
-    true_both (eqb (get_or ps (tail_at t i) 0) (length_at t i + get_or ps (head_at t i) 0)) (equal_along t ps is)
+    and_from (eqb (get_or ps (tail_at t i) 0) (length_at t i + get_or ps (head_at t i) 0)) (equal_along t ps is)
     (eq-eqb (get_or ps (tail_at t i) 0) (length_at t i + get_or ps (head_at t i) 0) a.0)
     (all_equal t ps is a.1)
 
@@ -181,7 +182,7 @@ no_route t ws e r =
           (λ (w : is_walk t walk (get_or ws m.index 0) ≡ true).
           absurd (both_ways (was_reached (last t ws e) (get_or ws m.index 0)) m.unreached (walk_given t ws m.index walk e m.wanted w)))
           (λ (w : is_walk t walk (get_or ws m.index 0) ≡ false). w)
-          (true_or (is_walk t walk (get_or ws m.index 0)));
+          (cases_Bool (is_walk t walk (get_or ws m.index 0)));
       earlier = λ k h. (route t ws (get_or ws k 0), (walk_shortest t ws (get_or ws k 0) e (m.earlier k h)).walk);
     })
 

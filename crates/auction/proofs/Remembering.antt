@@ -10,11 +10,12 @@ use mathlib.Core.Option.{none, some}
 use Prim.Native.Nat.{ℕ, zero, suc, ◌+◌, ◌≤◌, ◌<◌}
 use native.Mathlib.Omega.{arith}
 use borrow.Author.Tests.{le-ltb}
+use Rattle.std.proofs.lemmas.Bool.{cases_Bool}
 use Rattle.table.specs.Table.{Table, arc_count, head_at}
 use Rattle.auction.specs.Auction.{State, Bid, terminal, price_at, status_at, state, to_child, best, deletion, contraction, extension, iteration, next, after, iterations, unreached, deleted}
 use Rattle.auction.specs.Scans.{same_children, same_price, scans_now, history, last_scan, scan_count, scans}
 use Rattle.auction.specs.Promises.{ScansBetween, GoesByMemory, RememberedChild}
-use Rattle.table.proofs.Basics.{true_or, option_or, some_none, some_same}
+use Rattle.table.proofs.Basics.{option_or, some_none, some_same}
 use Rattle.auction.proofs.Good.{Good, good}
 use Rattle.auction.proofs.Steps.Effects.{deletion_effect, repriced, status_in}
 use Rattle.auction.proofs.Steps.Bids.{Child, child, child_test, bid_at, no_child, Best, best_bid, one_best}
@@ -234,7 +235,7 @@ scans_within t g zero x e = let none_yet = (passed t g zero x e).1 in (omega ari
 scans_within t g (suc k) x e =
     let w = preceded t k x e in
     let before = scans_within t g k w.0 w.1 in
-    let q = true_or (scans_now t (terminal w.0) (last_scan t (terminal w.0) (history k t)) w.0) in
+    let q = cases_Bool (scans_now t (terminal w.0) (last_scan t (terminal w.0) (history k t)) w.0) in
     ⊎_elim (one_scan t g k w.0 w.1 x w.2 before) (no_scan_more t g k w.0 w.1 x w.2 before) q
 
 pub scans_between : ScansBetween

@@ -8,9 +8,10 @@ use Prim.Native.Nat.{ℕ, zero, suc, ◌+◌, ◌*◌, ◌-◌, ◌≤◌, ◌<�
 use native.Mathlib.Omega.{arith}
 use lib.ListN.{length, get_or}
 use borrow.Author.Tests.{both_ways}
+use Rattle.std.proofs.lemmas.Bool.{cases_Bool, cases_eq}
 use Rattle.table.specs.Table.{Table, arc_count, longest}
 use Rattle.auction.specs.Auction.{State, Bid, Ended, price_at, kept_at, distance, terminal, best, next, go_on, run, ended, start, after, then_next, iterations, most_iterations}
-use Rattle.table.proofs.Basics.{same_or, true_or, option_or, some_none, some_same}
+use Rattle.table.proofs.Basics.{option_or, some_none, some_same}
 use Rattle.auction.proofs.Good.{Good}
 use Rattle.auction.proofs.Steps.Effects.{estimate, status_in}
 use Rattle.auction.proofs.Steps.Bids.{best_bid}
@@ -53,7 +54,7 @@ none_after t k y p n zero h = absurd (omega (arith, h))
 none_after t k y p n (suc m) h =
     ⊎_elim (λ (s : k ≡ m). ap (λ (q : ℕ). then_next t (after q t)) (sym s) ∙ ap (then_next t) p ∙ n)
     (λ (d : k ≡ m → ⊥). ap (then_next t) (none_after t k y p n m (omega (arith, h, d))))
-    (same_or k m)
+    (cases_eq k m)
 
 -- every state that a run passes
 pub passed : (t : Table) → Good t → (k : ℕ) (x : State) → after k t ≡ some x → Invariant t x × (iterations x ≡ k)
@@ -209,7 +210,7 @@ module _ {t : Table} {stop : State → Bool} where
                 (λ (q : k ≡ iterations x).
                 let same : x ≡ z = some_same r.steps (ap (λ (a : ℕ). after a t) (sym q) ∙ p) in ap stop (sym same) ∙ e)
                 (λ (q : k ≡ iterations x → ⊥). r.not_before k z (omega (arith, s.counted, h, q)) p)
-                (same_or k (iterations x));
+                (cases_eq k (iterations x));
             left =
                 λ more.
                 let same : (suc (most_iterations t.n) - iterations y) + more ≡ fuel + more = omega (arith, s.counted, r.few) in
@@ -269,7 +270,7 @@ module _ {t : Table} {stop : State → Bool} where
       let q = goes_on r y.0 e y.1 in
       on y.0 q.1 q.0)
       (option_or (next t x)))
-      (true_or (stop x))
+      (cases_Bool (stop x))
 
   finish_from : (k : ℕ) (x : State) → most_iterations t.n ≤ k + iterations x → Running t stop x → Finish t stop
   finish_from zero x h r = by_stop x (λ y e q. absurd (omega (arith, h, e, q.few))) r
@@ -290,7 +291,7 @@ module _ {t : Table} {stop other : State → Bool} (g : Good t) (agree : (x : St
       (⊎_elim (λ (n : next t x ≡ none). rw n)
       (λ (y : (y : State) × (next t x ≡ some y)). rw y.1 (same_from k y.0 (stepped t g x i y.0 y.1).invariant))
       (option_or (next t x))))
-      (true_or (other x))
+      (cases_Bool (other x))
 
   pub same_run : until stop t ≡ until other t
   same_run = same_from (suc (most_iterations t.n)) (start t) (started t g)

@@ -7,10 +7,11 @@ use mathlib.Core.Option.{Option, none, some}
 use Prim.Native.Nat.{ℕ, zero, suc, ◌+◌, ◌≤◌, ◌<◌}
 use native.Mathlib.Omega.{arith}
 use borrow.Author.Tests.{eqb-true, eq-eqb, ne_eqb, not-true, not-false, both_ways}
+use Rattle.std.proofs.lemmas.Bool.{and_from, and_parts, cases_Bool, cases_eq, false_from_ne_true}
 use Rattle.table.specs.Table.{Table, arc_count, head_at}
 use Rattle.auction.specs.Auction.{State, Bid, terminal, price_at, to_child, best, after}
 use Rattle.auction.specs.Scans.{same_at, same_children_from, same_children, same_price, scans_now, and_earlier, history, or_now, last_scan, scan_count, scans}
-use Rattle.table.proofs.Basics.{same_or, true_or, both_true, true_both, not_and, refuted, some_same}
+use Rattle.table.proofs.Basics.{not_and, some_same}
 
 -- two tests that come out alike
 alike : (a b : Bool) → cond a b (not b) ≡ true → b ≡ a
@@ -27,18 +28,18 @@ module _ (t : Table) (v : ℕ) (s x : State) where
   unfolding same_children_from same_at
   same_from zero a e i h l = absurd (omega arith)
   same_from (suc k) a e i h l =
-      let p = both_true (same_at t v a s x) (same_children_from k (suc a) t v s x) e in
+      let p = and_parts (same_at t v a s x) (same_children_from k (suc a) t v s x) e in
       ⊎_elim
       (λ (q : i ≡ a).
       subst (λ (j : ℕ). to_child t v j x ≡ to_child t v j s) (sym q) (alike (to_child t v a s) (to_child t v a x) p.0))
       (λ (q : i ≡ a → ⊥). same_from k (suc a) p.1 i (omega (arith, q)) (omega arith))
-      (same_or i a)
+      (cases_eq i a)
 
   from_same : (k a : ℕ) → ((i : ℕ) → a ≤ i → i < a + k → to_child t v i x ≡ to_child t v i s) → same_children_from k a t v s x ≡ true
   unfolding same_children_from same_at
   from_same zero a f = refl
   from_same (suc k) a f =
-      true_both (same_at t v a s x) (same_children_from k (suc a) t v s x)
+      and_from (same_at t v a s x) (same_children_from k (suc a) t v s x)
       (alike_test (to_child t v a s) (to_child t v a x) (f a (omega arith) (omega arith)))
       (from_same k (suc a) (λ i h l. f i (omega arith) (omega arith)))
 
@@ -51,7 +52,7 @@ module _ (t : Table) (v : ℕ) (s x : State) where
   child_same f = from_same (arc_count t) 0 (λ i h l. f i (omega arith))
 
   child_lost : (i : ℕ) → i < arc_count t → to_child t v i s ≡ true → to_child t v i x ≡ false → same_children t v s x ≡ false
-  child_lost i h was is = refuted (same_children t v s x) (λ e. both_ways (to_child t v i x) is (same_child e i h ∙ was))
+  child_lost i h was is = false_from_ne_true (same_children t v s x) (λ e. both_ways (to_child t v i x) is (same_child e i h ∙ was))
 
   -- WHETHER V SCANS in state x, when its last scan was in state s: it does where a child is lost or the remembered child's price has moved,
   pub scans_lost : (i : ℕ) → i < arc_count t → to_child t v i s ≡ true → to_child t v i x ≡ false → scans_now t v (some s) x ≡ true
@@ -73,7 +74,7 @@ module _ (t : Table) (v : ℕ) (s x : State) where
   unfolding scans_now
   no_scan e =
       let both = same_children t v s x && same_price t (best t v s) s x in
-      both_true (same_children t v s x) (same_price t (best t v s) s x) (not-false both e)
+      and_parts (same_children t v s x) (same_price t (best t v s) s x) (not-false both e)
 
   pub price_same : (b : Bid) → best t v s ≡ some b → same_price t (best t v s) s x ≡ true →
       price_at s (head_at t b.by_arc) ≡ price_at x (head_at t b.by_arc)
@@ -135,7 +136,7 @@ module _ (t : Table) (v : ℕ) (x : State) (h : List State) where
   unfolding last_scan or_now
   scan_not f =
       ⊎_elim (λ (p : terminal x ≡ v). rw (eq-eqb (terminal x) v p, f p)) (λ (d : terminal x ≡ v → ⊥). rw (ne_eqb (terminal x) v d))
-      (same_or (terminal x) v)
+      (cases_eq (terminal x) v)
 
   pub scan_or : (s : State) → last_scan t v (x ∷ h) ≡ some s → ((terminal x ≡ v) × (x ≡ s)) ⊎ (last_scan t v h ≡ some s)
   scan_or s e =
@@ -143,9 +144,9 @@ module _ (t : Table) (v : ℕ) (x : State) (h : List State) where
       ⊎_elim
       (λ (p : terminal x ≡ v).
       ⊎_elim (λ (q : now ≡ true). inl (p, some_same (scan_here p q) e)) (λ (q : now ≡ false). inr (sym (scan_not (λ p. q)) ∙ e))
-      (true_or now))
+      (cases_Bool now))
       (λ (d : terminal x ≡ v → ⊥). inr (sym (scan_not (λ p. absurd (d p))) ∙ e))
-      (same_or (terminal x) v)
+      (cases_eq (terminal x) v)
 
 -- and the number of scans: one more, where it scans
 module _ (k : ℕ) (t : Table) (x : State) (e : after k t ≡ some x) where

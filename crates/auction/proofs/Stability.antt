@@ -8,13 +8,13 @@ use native.Mathlib.Omega.{arith}
 use lib.Dec.{ltb, eqb}
 use lib.ListN.{length, get_or, length-append, get_or-append}
 use borrow.Author.Tests.{eqb-true, lt-ltb, eq-eqb}
+use Rattle.std.proofs.lemmas.Bool.{and_from, cases_eq, cases_lt}
 use Rattle.table.specs.Table.{Arc, arc, Table, table, arc_at, present, present_at, is_walk, leads, walk_length, arc_count, tail_at, head_at, length_at, no_arc, no_node}
 use Rattle.auction.specs.HandOver.{Answer}
 use Rattle.auction.specs.Plan.{routes_of}
 use Rattle.auction.specs.Promises.{Attains}
 use Rattle.auction.specs.Demands.{distance_of, link_of, walk_of, Given, Demands, DemandsMet}
 use Rattle.auction.specs.Stability.{SameRoute, SameChoice, Lengthened, RouteStays, WantedRouteStays, with_link, NoShortCut, LinkAdded, Stability}
-use Rattle.table.proofs.Basics.{same_or, below_or, true_both}
 use Rattle.table.proofs.Present.{present_tail, leaves_present, up_present, present_up}
 use Rattle.auction.proofs.Good.{Good, good}
 use Rattle.auction.proofs.Back.{first, walk_end, walk_on, length_on, returned_on, SameEntry, same_returned}
@@ -51,8 +51,8 @@ module _ (t t' : Table) (g : Good t) (over : ℕ → Type 0) (listed : (i : ℕ)
   leads_there (i ∷ is) u v low all e =
       let f = first t u i is v e in
       let leaves = tails i f.listed (omega (arith, low, f.leaves)) all.0 ∙ f.leaves in
-      true_both (ltb i (arc_count t') && eqb (tail_at t' i) u) (leads t' (head_at t' i) is v)
-      (true_both (ltb i (arc_count t')) (eqb (tail_at t' i) u) (lt-ltb i (arc_count t') (listed i f.listed)) (eq-eqb (tail_at t' i) u leaves))
+      and_from (ltb i (arc_count t') && eqb (tail_at t' i) u) (leads t' (head_at t' i) is v)
+      (and_from (ltb i (arc_count t')) (eqb (tail_at t' i) u) (lt-ltb i (arc_count t') (listed i f.listed)) (eq-eqb (tail_at t' i) u leaves))
       (ap (λ (w : ℕ). leads t' w is v) (heads i f.listed) ∙ leads_there is (head_at t i) v (g.head_in i f.listed) all.1 f.rest)
 
   walk_there : t'.origin ≡ t.origin → (is : List ℕ) (v : ℕ) → All over is → is_walk t is v ≡ true → is_walk t' is v ≡ true
@@ -235,7 +235,7 @@ module _ {t t' : Table} {ws ws' : List ℕ} {a b : Answer} (g : Good t) (g' : Go
             (λ (e : v ≡ t.origin).
             ap (link_of b) (e ∙ sym f.origin) ∙ db.no_link ∙ sym (ap (link_of a) e ∙ da.no_link))
             (λ (d : v ≡ t.origin → ⊥). same_link v k d)
-            (same_or v t.origin);
+            (cases_eq v t.origin);
         walk = same_returned t t' a.tree b.tree f.origin Stays entry f.nodes v k;
       }
 
@@ -365,7 +365,7 @@ module _ (t : Table) (a : Arc) where
         let r =
         old_walk is a.head v c.0 c.1 (ap (λ (x : ℕ). leads t' x is v) (sym (ap (head_at t') new ∙ new_link.1)) ∙ f.rest) in
         (r.0, r.1, omega (arith, r.2, c.2, ap (length_at t') new, new_link.2)))
-        (below_or i (arc_count t))
+        (cases_lt i (arc_count t))
 
     added_follows : Follows t t'
     unfolding with_link table is_walk leads walk_length

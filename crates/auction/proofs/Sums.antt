@@ -9,8 +9,8 @@ use native.Mathlib.Nat.{mul-add, mul-zero}
 use lib.Dec.{eqb}
 use lib.ListN.{length, get_or, get_or-eq_default}
 use borrow.Author.Tests.{eq-eqb, ne_eqb}
+use Rattle.std.proofs.lemmas.Bool.{cases_eq}
 use Rattle.auction.specs.HandOver.{entries, greatest, sum, how_many}
-use Rattle.table.proofs.Basics.{same_or}
 
 -- the entries are f a, f (a + 1), ..
 pub entries_length : (k a : ℕ) (f : ℕ → ℕ) → length (entries k a f) ≡ k
@@ -85,7 +85,7 @@ sum_only (suc k) a c z h l =
     ⊎_elim
     (λ (e : a ≡ c). omega (arith, only_same c z a e, sum_none k (suc a) c z (omega arith)))
     (λ (d : a ≡ c → ⊥). omega (arith, only_other c z a d, sum_only k (suc a) c z (omega arith) (omega arith)))
-    (same_or a c)
+    (cases_eq a c)
 
 module _ (n : ℕ) where
   pub total_le : (f g : ℕ → ℕ) → ((v : ℕ) → v < n → f v ≤ g v) → total n f ≤ total n g
@@ -128,8 +128,8 @@ module _ (n : ℕ) where
       ⊎_elim
       (λ (q : v ≡ i). omega (arith, only_other c (f c) v s, only_same i (f' i) v q, ap f' q))
       (λ (q : v ≡ i → ⊥). omega (arith, only_other c (f c) v s, low v q))
-      (same_or v i))
-      (same_or v c)) in
+      (cases_eq v i))
+      (cases_eq v c)) in
       omega arith
 
 -- HOW OFTEN a number stands in a list: once more where it is the first, and at most as often as the list is long
@@ -148,7 +148,7 @@ how_many_low a [] = omega arith
 how_many_low a (b ∷ more) =
     ⊎_elim (λ (e : b ≡ a). omega (arith, counted a b more e, how_many_low a more))
     (λ (d : b ≡ a → ⊥). omega (arith, passed_over a b more d, how_many_low a more))
-    (same_or b a)
+    (cases_eq b a)
 
 -- how many entries are c: 1 for each
 how_many_sum : (k a c : ℕ) (f : ℕ → ℕ) → how_many c (entries k a f) ≡ sum (entries k a (λ v. only_at c 1 (f v)))
@@ -175,7 +175,7 @@ unfolding entries greatest
 greatest_from zero a v f h l = absurd (omega arith)
 greatest_from (suc k) a v f h l =
     ⊎_elim (λ (e : a ≡ v). omega (arith, ap f e)) (λ (d : a ≡ v → ⊥). omega (arith, greatest_from k (suc a) v f (omega arith) (omega arith)))
-    (same_or a v)
+    (cases_eq a v)
 
 greatest_below : (k a b : ℕ) (f : ℕ → ℕ) → ((v : ℕ) → v < a + k → f v ≤ b) → greatest (entries k a f) ≤ b
 unfolding entries greatest

@@ -6,10 +6,11 @@ use mathlib.Core.Logic.{⊎_elim}
 use mathlib.Core.Option.{none, some}
 use Prim.Native.Nat.{ℕ, suc, ◌+◌, ◌<◌}
 use native.Mathlib.Omega.{arith}
+use Rattle.std.proofs.lemmas.Bool.{and_right, cases_Bool, cases_eq, false_from_ne_true}
 use Rattle.table.specs.Table.{Table, arc_count, present_at, tail_at, head_at, no_distance}
 use Rattle.auction.specs.Auction.{State, was_reached, distance, kept_at, is_kept, status_at}
 use Rattle.auction.specs.HandOver.{how_many, mark_number, mark, marks, distances, reached_count}
-use Rattle.table.proofs.Basics.{same_or, true_or, refuted, and_false, option_or, some_none, some_same}
+use Rattle.table.proofs.Basics.{option_or, some_none, some_same}
 use Rattle.table.proofs.Present.{absent_tail}
 use Rattle.auction.proofs.Sums.{total, total_same, total_add, total_const, total_only, total_one, total_exchange, how_many_total, only_at, only_same, only_other}
 use Rattle.auction.proofs.Good.{Good}
@@ -68,7 +69,7 @@ module _ (t : Table) (x : State) where
       (λ (p : present_at t i ≡ true).
       rw (present_mark i p) (one_of_four (was_reached x (head_at t i)) (was_reached x (tail_at t i)) (is_kept x i (kept_at x (head_at t i)))))
       (λ (p : present_at t i ≡ false). rw (absent_mark i p))
-      (true_or (present_at t i))
+      (cases_Bool (present_at t i))
 
   -- ALL ARCS have one of the four marks
   pub marks_all : how_many 0 (marks t x) + how_many 1 (marks t x) + how_many 2 (marks t x) + how_many 3 (marks t x) ≡ arc_count t
@@ -95,8 +96,8 @@ module _ (t : Table) (g : Good t) (x : State) (dep : ℕ → ℕ) (s : Sound t x
   not_kept : (i v : ℕ) → (kept_at x v ≡ some i → ⊥) → tree_arc i v ≡ 0
   unfolding tree_arc
   not_kept i v h =
-      let k = refuted (is_kept x i (kept_at x v)) (λ q. h (kept_test x i (kept_at x v) q)) in
-      ap (λ (b : Bool). cond b 1 0) (and_false (was_reached x v) (is_kept x i (kept_at x v)) k)
+      let k = false_from_ne_true (is_kept x i (kept_at x v)) (λ q. h (kept_test x i (kept_at x v) q)) in
+      ap (λ (b : Bool). cond b 1 0) (and_right (was_reached x v) (is_kept x i (kept_at x v)) k)
 
   -- FOR ONE ARC: an absent arc is not kept, since a kept one leaves a node,
   pub absent_unkept : (i v : ℕ) → present_at t i ≡ false → kept_at x v ≡ some i → ⊥
@@ -111,7 +112,7 @@ module _ (t : Table) (g : Good t) (x : State) (dep : ℕ → ℕ) (s : Sound t x
       (λ (p : present_at t i ≡ true).
       rw (present_mark t x i p) (three_if_kept (was_reached x (head_at t i)) (was_reached x (tail_at t i)) (is_kept x i (kept_at x (head_at t i)))))
       (λ (p : present_at t i ≡ false). not_kept i (head_at t i) (absent_unkept i (head_at t i) p) ∙ sym (ap (only_at 3 1) (absent_mark t x i p)))
-      (true_or (present_at t i))
+      (cases_Bool (present_at t i))
 
   one_head : (i v : ℕ) → tree_arc i v ≡ only_at (head_at t i) (marked t x 3 i) v
   one_head i v =
@@ -119,7 +120,7 @@ module _ (t : Table) (g : Good t) (x : State) (dep : ℕ → ℕ) (s : Sound t x
       let z = marked t x 3 i in
       ⊎_elim (λ (e : v ≡ j). ap (tree_arc i) e ∙ at_head i ∙ sym (only_same j z v e))
       (λ (d : v ≡ j → ⊥). not_kept i v (λ q. d (sym (nodes.kept v i q).into)) ∙ sym (only_other j z v d))
-      (same_or v j)
+      (cases_eq v j)
 
   by_arc : (i : ℕ) → i < arc_count t → total t.n (tree_arc i) ≡ marked t x 3 i
   by_arc i h =
@@ -150,7 +151,7 @@ module _ (t : Table) (g : Good t) (x : State) (dep : ℕ → ℕ) (s : Sound t x
   kept_one v k i r e =
       ⊎_elim (λ (q : i ≡ k). kept_here i v r (e ∙ ap some (sym q)) ∙ sym (only_same k 1 i q))
       (λ (d : i ≡ k → ⊥). not_kept i v (λ q. d (some_same q e)) ∙ sym (only_other k 1 i d))
-      (same_or i k)
+      (cases_eq i k)
 
   kept_arcs : (v k : ℕ) → was_reached x v ≡ true → kept_at x v ≡ some k → tree_arcs v ≡ 1
   unfolding tree_arcs
@@ -171,7 +172,7 @@ module _ (t : Table) (g : Good t) (x : State) (dep : ℕ → ℕ) (s : Sound t x
       ⊎_elim
       (λ (e : v ≡ t.origin). omega (arith, one, unkept_arcs v (ap (kept_at x) e ∙ nodes.origin_kept), only_same t.origin 1 v e))
       (λ (d : v ≡ t.origin → ⊥). omega (arith, one, reached_arcs v r d, only_other t.origin 1 v d))
-      (same_or v t.origin)
+      (cases_eq v t.origin)
 
   of_unreached : (v : ℕ) → was_reached x v ≡ false → tree_arcs v + only_at t.origin 1 v ≡ one_if_reached x v
   of_unreached v r =
@@ -180,7 +181,7 @@ module _ (t : Table) (g : Good t) (x : State) (dep : ℕ → ℕ) (s : Sound t x
       omega (arith, unreached_arcs v r, unreached_none x v z, only_other t.origin 1 v d)
 
   by_node : (v : ℕ) → tree_arcs v + only_at t.origin 1 v ≡ one_if_reached x v
-  by_node v = ⊎_elim (of_reached v) (of_unreached v) (true_or (was_reached x v))
+  by_node v = ⊎_elim (of_reached v) (of_unreached v) (cases_Bool (was_reached x v))
 
   -- THE TREE ARCS are as many as the reached nodes but the origin: both count where a reached node keeps an arc
   pub marks_tree : suc (how_many 3 (marks t x)) ≡ reached_count t x
@@ -204,7 +205,7 @@ module _ (t : Table) (g : Good t) (x : State) (dep : ℕ → ℕ) (s : Sound t x
   reached_or_without v =
       ⊎_elim (λ (r : was_reached x v ≡ true). rw r (omega (arith, only_other no_distance 1 (distance x v) (not_no_distance v))))
       (λ (r : was_reached x v ≡ false). rw r (omega (arith, only_same no_distance 1 no_distance refl)))
-      (true_or (was_reached x v))
+      (cases_Bool (was_reached x v))
 
   pub reached_all : reached_count t x + how_many no_distance (distances t x) ≡ t.n
   unfolding distances distance_entry without

@@ -9,10 +9,11 @@ use native.Mathlib.Omega.{arith}
 use lib.Dec.{ltb, eqb}
 use lib.ListN.{length, get_or}
 use borrow.Author.Tests.{eqb-true, lt-ltb, eq-eqb, both_ways}
+use Rattle.std.proofs.lemmas.Bool.{and_from, cases_Bool, cases_eq, cases_lt}
 use Rattle.table.specs.Table.{Table, arc_count, tail_at, head_at, length_at, leads, is_walk, walk_length, no_arc}
 use Rattle.auction.specs.Auction.{State, bound_at, kept_at, status_at, distance, or_zero, was_reached, price_at, deleted}
 use Rattle.auction.specs.HandOver.{horizon, prices, tree, arc_or_none, back_from, returned}
-use Rattle.table.proofs.Basics.{same_or, below_or, true_or, true_both, option_or}
+use Rattle.table.proofs.Basics.{option_or}
 use Rattle.auction.proofs.Sums.{column, past_column, greatest_bound, greatest_least}
 use Rattle.auction.proofs.Good.{Good}
 use Rattle.auction.proofs.Back.{first, at_origin, one_back}
@@ -67,12 +68,12 @@ module _ (t : Table) (g : Good t) (x : State) (dep : ℕ → ℕ) (s : Sound t x
       (λ (r : was_reached x v ≡ true).
       let here : reached_distance v ≡ distance x v = rw r in omega (arith, here, nodes.level v (reached_status x v r)))
       (λ (r : was_reached x v ≡ false). let here : reached_distance v ≡ 0 = rw r in omega (arith, here))
-      (true_or (was_reached x v)))
+      (cases_Bool (was_reached x v)))
 
   far_low : (v : ℕ) → far v ≤ horizon t x
   far_low v =
       ⊎_elim (λ (r : was_reached x v ≡ true). omega (arith, far_reached v r, distance_low v r)) (λ (r : was_reached x v ≡ false). omega (arith, far_unreached v r))
-      (true_or (was_reached x v))
+      (cases_Bool (was_reached x v))
 
   -- on every arc, whatever its ends
   far_fits : (i : ℕ) → i < arc_count t → far (head_at t i) ≤ far (tail_at t i) + length_at t i
@@ -91,9 +92,9 @@ module _ (t : Table) (g : Good t) (x : State) (dep : ℕ → ℕ) (s : Sound t x
         horizon_low,
         unreached_far nodes (head_at t i) a.bounded (unreached_status x (head_at t i) q),
       ))
-      (true_or (was_reached x (head_at t i))))
+      (cases_Bool (was_reached x (head_at t i))))
       (λ (r : was_reached x (tail_at t i) ≡ false). omega (arith, far_unreached (tail_at t i) r, far_low (head_at t i)))
-      (true_or (was_reached x (tail_at t i)))
+      (cases_Bool (was_reached x (tail_at t i)))
 
   -- THE PRICES HANDED OVER are what is left to the horizon
   price_far : (v : ℕ) → get_or (prices t x) v 0 + far v ≡ horizon t x
@@ -108,8 +109,8 @@ module _ (t : Table) (g : Good t) (x : State) (dep : ℕ → ℕ) (s : Sound t x
       let here : f v ≡ 0 = rw r in
       ⊎_elim (λ (h : v < t.n). omega (arith, column t.n v f 0 h, here, far_unreached v r))
       (λ (h : t.n ≤ v). omega (arith, past_column t.n v f 0 h, far_unreached v r))
-      (below_or v t.n))
-      (true_or (was_reached x v))
+      (cases_lt v t.n))
+      (cases_Bool (was_reached x v))
 
   pub prices_fit_at : (i : ℕ) → i < arc_count t → get_or (prices t x) (tail_at t i) 0 ≤ length_at t i + get_or (prices t x) (head_at t i) 0
   prices_fit_at i h =
@@ -179,7 +180,7 @@ module _ (t : Table) (g : Good t) (x : State) (dep : ℕ → ℕ) (s : Sound t x
       (λ (h : was_reached x (head_at t i) ≡ true). omega (arith, unreached_leads is (head_at t i) v f.rest h q, a.low, here))
       (λ (h : was_reached x (head_at t i) ≡ false).
       omega (arith, unreached_far nodes (head_at t i) a.bounded (unreached_status x (head_at t i) h), a.low, here))
-      (true_or (was_reached x (head_at t i)))
+      (cases_Bool (was_reached x (head_at t i)))
 
   pub unreached_walk : (is : List ℕ) (v : ℕ) → was_reached x v ≡ false → is_walk t is v ≡ true → price_at x t.origin ≤ walk_length t is
   unfolding is_walk
@@ -205,7 +206,7 @@ module _ (t : Table) (g : Good t) (x : State) (dep : ℕ → ℕ) (s : Sound t x
   tree_unreached v r =
       let f : ℕ → ℕ = λ u. cond (was_reached x u) (arc_or_none (kept_at x u)) no_arc in
       let here : f v ≡ no_arc = rw r in
-      ⊎_elim (λ (h : v < t.n). column t.n v f no_arc h ∙ here) (λ (h : t.n ≤ v). past_column t.n v f no_arc h) (below_or v t.n)
+      ⊎_elim (λ (h : v < t.n). column t.n v f no_arc h ∙ here) (λ (h : t.n ≤ v). past_column t.n v f no_arc h) (cases_lt v t.n)
 
   pub record KeptLink (v : ℕ) : Type 0 where
     pub position : ℕ
@@ -256,8 +257,8 @@ module _ (t : Table) (g : Good t) (x : State) (dep : ℕ → ℕ) (s : Sound t x
             λ w e.
             ap (λ (p : List ℕ). leads t t.origin p w) step
             ∙ rest.leads_on w
-            (true_both (ltb a (arc_count t) && eqb (tail_at t a) (tail_at t a)) (leads t (head_at t a) is w)
-            (true_both (ltb a (arc_count t)) (eqb (tail_at t a) (tail_at t a)) (lt-ltb a (arc_count t) l.arc.listed) (eq-eqb (tail_at t a) (tail_at t a) refl))
+            (and_from (ltb a (arc_count t) && eqb (tail_at t a) (tail_at t a)) (leads t (head_at t a) is w)
+            (and_from (ltb a (arc_count t)) (eqb (tail_at t a) (tail_at t a)) (lt-ltb a (arc_count t) l.arc.listed) (eq-eqb (tail_at t a) (tail_at t a) refl))
             (ap (λ (u : ℕ). leads t u is w) l.arc.into ∙ e));
         long = omega (arith, ap (walk_length t) step, rest.long, known_distance x v _ l.arc.bound);
         arcs = omega (arith, ap length step, rest.arcs, l.arc.deeper);
@@ -268,14 +269,14 @@ module _ (t : Table) (g : Good t) (x : State) (dep : ℕ → ℕ) (s : Sound t x
   back zero v is r h =
       ⊎_elim (λ (e : v ≡ t.origin). back_origin zero v is e)
       (λ (d : v ≡ t.origin → ⊥). absurd (omega (arith, h, (kept_link v r d).arc.deeper)))
-      (same_or v t.origin)
+      (cases_eq v t.origin)
   back (suc k) v is r h =
       ⊎_elim (λ (e : v ≡ t.origin). back_origin (suc k) v is e)
       (λ (d : v ≡ t.origin → ⊥).
       let l = kept_link v r d in
       back_one k v is r d l
       (back k (tail_at t l.position) (l.position ∷ is) (status_reached x (tail_at t l.position) l.arc.from_reached) (omega (arith, h, l.arc.deeper))))
-      (same_or v t.origin)
+      (cases_eq v t.origin)
 
   from_node : (v : ℕ) → was_reached x v ≡ true → Back t.n v []
   from_node v r = back t.n v [] r (omega (arith, nodes.shallow v (reached_status x v r), reached_low t x))
@@ -310,7 +311,7 @@ module _ (t : Table) (g : Good t) (x : State) (dep : ℕ → ℕ) (s : Sound t x
       (λ (q : was_reached x (tail_at t i) ≡ false).
       absurd
       (omega (arith, far_walk walk (tail_at t i) w, far_unreached (tail_at t i) q, distance_low v r, g.positive i h)))
-      (true_or (was_reached x (tail_at t i)))
+      (cases_Bool (was_reached x (tail_at t i)))
     where
       kept_there : kept_at x v ≡ some k → head_at t i ≡ v → or_zero (kept_at x (head_at t i)) ≡ k
       kept_there e into = ap (λ (u : ℕ). or_zero (kept_at x u)) into ∙ ap or_zero e ∙ plain k
@@ -331,7 +332,7 @@ module _ (t : Table) (g : Good t) (x : State) (dep : ℕ → ℕ) (s : Sound t x
         (λ (o : u ≡ t.origin → ⊥).
         let l = kept_link u (status_reached x u arc.from_reached) o in
         none_alive k u l.position (omega (arith, e, arc.deeper)) l.kept (λ (z : status_at x u ≡ deleted). omega (arith, live.tail_live, z)))
-        (same_or u t.origin)
+        (cases_eq u t.origin)
 
     bounded_reached : (v : ℕ) → (bound_at x v ≡ none → ⊥) → was_reached x v ≡ true
     bounded_reached v b =
@@ -342,7 +343,7 @@ module _ (t : Table) (g : Good t) (x : State) (dep : ℕ → ℕ) (s : Sound t x
         ⊎_elim (λ (n : kept_at x v ≡ none). absurd (b (nodes.unkept v n d)))
         (λ (a : (a : ℕ) × (kept_at x v ≡ some a)). absurd (none_alive (dep v) v a.0 refl a.1 (λ (q : status_at x v ≡ deleted). omega (arith, z, q))))
         (option_or (kept_at x v)))
-        (true_or (was_reached x v))
+        (cases_Bool (was_reached x v))
 
     leads_reached : (is : List ℕ) (u v : ℕ) → leads t u is v ≡ true → was_reached x u ≡ true → was_reached x v ≡ true
     unfolding leads

@@ -8,9 +8,9 @@ use native.Mathlib.Omega.{arith}
 use lib.Dec.{ltb, eqb}
 use lib.ListN.{get_or, length-map, get_or-map}
 use borrow.Author.Tests.{eqb-true, lt-ltb, eq-eqb}
+use Rattle.std.proofs.lemmas.Bool.{and_from, cases_Bool}
 use Rattle.table.specs.Table.{Arc, Table, arc, table, arcs_of, table_of, is_table, arc_good, arcs_good, arc_count, arc_at, present, present_at, tail_at, head_at, length_at, leads, walk_length, no_arc}
 use Rattle.auction.specs.Absent.{present_arcs, without_absent, present_from, place_of}
-use Rattle.table.proofs.Basics.{true_or, true_both}
 use Rattle.table.proofs.Present.{present_tail, leaves_present}
 use Rattle.auction.proofs.Good.{Good, good}
 use Rattle.auction.proofs.Back.{first}
@@ -100,8 +100,8 @@ module _ (t : Table) (g : Good t) where
       let listed : i < arc_count t = omega (arith, f.listed, count_kept t) in
       turned is (i ∷ onward) (tail_at t i) w u (omega (arith, present_tail t i here, g.end_in i listed))
       (subst (λ (z : ℕ). leads (exchanged t) z is w ≡ true) (leads_to_tail t i here) f.rest)
-      (true_both (ltb i (arc_count t) && eqb (tail_at t i) (tail_at t i)) (leads t (head_at t i) onward u)
-      (true_both (ltb i (arc_count t)) (eqb (tail_at t i) (tail_at t i)) (lt-ltb i (arc_count t) listed) (eq-eqb (tail_at t i) (tail_at t i) refl))
+      (and_from (ltb i (arc_count t) && eqb (tail_at t i) (tail_at t i)) (leads t (head_at t i) onward u)
+      (and_from (ltb i (arc_count t)) (eqb (tail_at t i) (tail_at t i)) (lt-ltb i (arc_count t) listed) (eq-eqb (tail_at t i) (tail_at t i) refl))
       (subst (λ (z : ℕ). leads t z onward u ≡ true) (sym f.leaves ∙ leaves_head t i here) on))
 
   turned_walk : (is : List ℕ) (v w : ℕ) → v < t.n → leads (exchanged t) v is w ≡ true → leads t w (reverse is) v ≡ true
@@ -144,7 +144,7 @@ absent_left_out : (arcs : List Arc) → present_arcs (map exchanged_arc arcs) �
 unfolding present_arcs present exchanged_arc arc
 absent_left_out [] = refl
 absent_left_out (a ∷ arcs) =
-    ⊎_elim (λ (p : present a ≡ true). rw (p, absent_left_out arcs)) (λ (p : present a ≡ false). rw (p, absent_left_out arcs)) (true_or (present a))
+    ⊎_elim (λ (p : present a ≡ true). rw (p, absent_left_out arcs)) (λ (p : present a ≡ false). rw (p, absent_left_out arcs)) (cases_Bool (present a))
 
 same_places : (i : ℕ) (arcs : List Arc) → present_from i (map exchanged_arc arcs) ≡ present_from i arcs
 unfolding present_from present exchanged_arc arc

@@ -7,9 +7,9 @@ use Prim.Native.Nat.{ℕ, ◌+◌, ◌<◌}
 use native.Mathlib.Omega.{arith}
 use lib.Dec.{eqb}
 use lib.ListN.{length, get_or, length-reverse}
+use Rattle.std.proofs.lemmas.Bool.{and_from, and_parts}
 use Rattle.table.specs.Table.{Table, table, table_of, is_table, present_at, tail_at, head_at, length_at, leads, is_walk, walk_length}
 use Rattle.table.specs.Refusals.{Refusal}
-use Rattle.table.proofs.Basics.{both_true, true_both}
 use Rattle.table.proofs.Present.{leaves_present}
 use Rattle.auction.specs.HandOver.{Answer}
 use Rattle.auction.specs.Plan.{plan_refusal, refused_plan, routes_of, plan}
@@ -105,9 +105,9 @@ module _ (t : Table) (senders : List ℕ) (table_good : is_table t senders ≡ t
   equal_turned ps (i ∷ is) onward v w low e q on =
       let f = first there v i is w e in
       let here = leaves_there t here_good i (omega (arith, f.leaves, low)) in
-      let p = both_true (eqb (get_or ps (tail_at there i) 0) (length_at there i + get_or ps (head_at there i) 0)) (equal_along there ps is) q in
+      let p = and_parts (eqb (get_or ps (tail_at there i) 0) (length_at there i + get_or ps (head_at there i) 0)) (equal_along there ps is) q in
       equal_turned ps is (i ∷ onward) (head_at there i) w (there_good.head_in i f.listed) f.rest p.1
-      (true_both (eqb (get_or ps (head_at t i) 0) (length_at t i + get_or ps (tail_at t i) 0)) (equal_in t ps onward)
+      (and_from (eqb (get_or ps (head_at t i) 0) (length_at t i + get_or ps (tail_at t i) 0)) (equal_in t ps onward)
       (rw (← leaves_head t i here, ← leads_to_tail t i here, ← length_kept t i) p.0) on)
 
   -- THE DEMANDS on a plan of the exchanged table

@@ -7,9 +7,9 @@ use Prim.Native.Nat.{ℕ, suc}
 use lib.Dec.{leb}
 use lib.ListN.{length}
 use borrow.Author.Tests.{ne_eqb}
+use Rattle.std.proofs.lemmas.Bool.{cases_eq}
 use Rattle.table.specs.Table.{Arc, arc, arcs_of}
 use Rattle.table.specs.Refusals.{columns_bad, arc_fault, arcs_from, arcs_refusal, table_refusal}
-use Rattle.table.proofs.Basics.{same_or}
 use Rattle.auction.specs.Plan.{plan_refusal}
 use Rattle.collector.specs.Exchanged.{exchanged_arc}
 use Rattle.collector.proofs.Exchange.{columns}
@@ -35,4 +35,4 @@ refused_alike n c ts hs ls ss ds ps tr ms =
     ⊎_elim (λ (e : length ts ≡ length hs). rw (e, arcs_refused_alike n ts hs ls))
     (λ (d : length ts ≡ length hs → ⊥).
     rw (unequal (length ts) (length hs) (length ls) d, unequal (length hs) (length ts) (length ls) (λ e. d (sym e))))
-    (same_or (length ts) (length hs))
+    (cases_eq (length ts) (length hs))

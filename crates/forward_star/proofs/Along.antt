@@ -8,8 +8,8 @@ use native.Mathlib.Omega.{arith}
 use lib.ListN.{length, get_or}
 use borrow.Author.Tests.{eq-eqb, ne_eqb}
 use Rattle.table.specs.Table.{Table, arc_count, tail_at, no_arc, most_arcs}
-use Rattle.table.proofs.Basics.{same_or}
 use Rattle.std.proofs.Props.{props}
+use Rattle.std.proofs.lemmas.Bool.{cases_eq}
 use Rattle.forward_star.specs.Lists.{star, next_out, Outgoing, SomeTable}
 
 -- an arc out of v at a position from i on, or none
@@ -42,7 +42,7 @@ module _ (t : Table) (v : ℕ) where
       let r = found k (suc i) (omega arith) in
       subst (λ (q : ℕ). Found t (suc k) i v q) (sym (next_past k i d))
       (record { from = omega (arith, r.from); inside = λ e. (omega (arith, (r.inside e).0), (r.inside e).1) }))
-      (same_or (tail_at t i) v)
+      (cases_eq (tail_at t i) v)
 
   -- the arcs that are jumped over
   skip : {A : Type 0} {made : (left position : ℕ) → A} → OwnArcs t v made → (k i : ℕ) → i + k ≤ most_arcs →
@@ -61,7 +61,7 @@ module _ (t : Table) (v : ℕ) where
       own.past k i d
       ∙ subst (λ (m : ℕ). made k (suc i) ≡ made (m - next_out k (suc i) t v) (next_out k (suc i) t v)) z (skip own k (suc i) (omega arith))
       ∙ sym (ap (λ (q : ℕ). made (i + suc k - q) q) (next_past k i d)))
-      (same_or (tail_at t i) v)
+      (cases_eq (tail_at t i) v)
 
 -- ON A LIST: p is the position of an arc out of the node v, or no arc
 pub record OnList (t : Table) (v p : ℕ) : Type 0 where
@@ -71,7 +71,7 @@ pub record OnList (t : Table) (v p : ℕ) : Type 0 where
 module _ {t : Table} {hs ls first next : List ℕ} (here : Outgoing t (star hs ls first next)) (v : ℕ) where
   pub on_low : {p : ℕ} → OnList t v p → p ≤ no_arc
   on_low {p} on =
-      ⊎_elim (λ (e : p ≡ no_arc). omega arith) (λ (d : p ≡ no_arc → ⊥). omega (arith, (on.inside d).0, here.few)) (same_or p no_arc)
+      ⊎_elim (λ (e : p ≡ no_arc). omega arith) (λ (d : p ≡ no_arc → ⊥). omega (arith, (on.inside d).0, here.few)) (cases_eq p no_arc)
 
   pub on_first : v < t.n → OnList t v (get_or first v 0)
   on_first h =

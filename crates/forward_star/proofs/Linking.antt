@@ -7,8 +7,8 @@ use native.Mathlib.Omega.{arith}
 use lib.ListN.{length, get_or, set, length-set}
 use lib.Seq.{get_or-set_same, get_or-set_other}
 use borrow.Author.Tests.{eq-eqb, ne_eqb}
+use Rattle.std.proofs.lemmas.Bool.{cases_eq}
 use Rattle.table.specs.Table.{Table, arc_count, tail_at, down, no_arc}
-use Rattle.table.proofs.Basics.{same_or}
 use Rattle.forward_star.specs.Lists.{next_out, Tails, Linked}
 
 pub record LinkedFrom (t : Table) (p : ℕ) (first next : List ℕ) : Type 0 where
@@ -55,7 +55,7 @@ module _ (t : Table) {first next : List ℕ} {p : ℕ} (q : ℕ) (f : LinkedFrom
       ⊎_elim
       (λ (s : w ≡ v). rw (z, eq-eqb (tail_at t q) w (at ∙ sym s)) (ap (λ m. get_or (set first v q) m 0) s ∙ get_or-set_same first v q 0 h))
       (λ (d : w ≡ v → ⊥). get_or-set_other first v w q 0 d ∙ other_first w l (λ s. d (sym s ∙ at)))
-      (same_or w v)
+      (cases_eq w v)
 
   one_next : (v : ℕ) → tail_at t q ≡ v → v < t.n → q < length next →
       (i : ℕ) → q ≤ i → i < arc_count t → tail_at t i < t.n →
@@ -66,7 +66,7 @@ module _ (t : Table) {first next : List ℕ} {p : ℕ} (q : ℕ) (f : LinkedFrom
       rw (s, get_or-set_same next q (get_or first v 0) 0 inside, at)
       (subst (λ (m : ℕ). get_or first v 0 ≡ next_out (arc_count t - m) m t v) e (f.first_arc v h)))
       (λ (d : i ≡ q → ⊥). get_or-set_other next q i (get_or first v 0) 0 d ∙ f.next_arc i (omega arith) l leaves)
-      (same_or i q)
+      (cases_eq i q)
 
 -- an arc whose link is not down
 pub goes_on : {tails lengths first₀ first next : List ℕ} {p : ℕ} (v q : ℕ) → Linking tails lengths first₀ first next p → 0 < p →
@@ -109,7 +109,7 @@ goes_past {tails} {lengths} {first₀} {first} {next} {p} inv pos is_down =
                 ⊎_elim
                 (λ (s : i ≡ p - 1). absurd (none (subst (λ (m : ℕ). tail_at t m < t.n) s leaves)))
                 (λ (d : i ≡ p - 1 → ⊥). f.next_arc i (omega arith) l leaves)
-                (same_or i (p - 1));
+                (cases_eq i (p - 1));
           };
     }
 

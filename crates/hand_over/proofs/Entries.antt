@@ -9,7 +9,7 @@ use lib.ListN.{length, get_or}
 use Rattle.std.specs.List.{fold, reduce, filter, count_by}
 use Rattle.std.specs.Option.{unwrap_or}
 use Rattle.std.proofs.lemmas.List.Recursion.{is_count_by}
-use Rattle.table.proofs.Basics.{true_or}
+use Rattle.std.proofs.lemmas.Bool.{cases_Bool}
 use Rattle.auction.specs.HandOver.{entries, greatest, sum}
 
 pub entries_same : (k a : ℕ) (f g : ℕ → ℕ) → ((v : ℕ) → v < a + k → f v ≡ g v) → entries k a f ≡ entries k a g
@@ -52,11 +52,11 @@ module _ {A : Type 0} (test : A → Bool) where
   greatest_passing f [] = refl
   greatest_passing f (x ∷ l) =
       ⊎_elim (λ (e : test x ≡ true). rw e (ap (max (f x)) (greatest_passing f l))) (λ (e : test x ≡ false). rw e (greatest_passing f l ∙ omega arith))
-      (true_or (test x))
+      (cases_Bool (test x))
 
   -- and how many there are
   pub count_passing : (l : List A) → count_by test l ≡ sum (map (λ x. cond (test x) 1 0) l)
   unfolding sum
   count_passing l =
       sym (is_count_by (λ l. sum (map (λ x. cond (test x) 1 0) l)) test refl (λ x xs.
-      ⊎_elim (λ (e : test x ≡ true). rw e refl) (λ (e : test x ≡ false). rw e (omega arith)) (true_or (test x))) l)
+      ⊎_elim (λ (e : test x ≡ true). rw e refl) (λ (e : test x ≡ false). rw e (omega arith)) (cases_Bool (test x))) l)

@@ -10,13 +10,13 @@ use lib.ListN.{length, get_or}
 use borrow.Author.Tests.{ltb-true, lt-ltb, eq-eqb, ne_eqb}
 use Rattle.std.specs.List.{reduce, filter, count_by}
 use Rattle.std.specs.Option.{unwrap_or}
+use Rattle.std.proofs.lemmas.Bool.{cases_Bool, cases_eq}
 use Rattle.table.specs.Table.{Table, arc_count, down, no_arc, no_distance}
 use Rattle.table.specs.declared.links.Columns.{Columns}
 use Rattle.table.specs.Refusals.{Refusal, refusal, no_refusal}
 use Rattle.auction.specs.Auction.{State, auction, iterations, was_reached, distance, kept_at, is_kept, unreached}
 use Rattle.auction.specs.HandOver.{answer, handed_over, route_refusal, entries, greatest, sum, horizon, reached_count, distances, prices, tree, marks, mark, arc_or_none}
 use Rattle.auction.specs.Plan.{routes_of}
-use Rattle.table.proofs.Basics.{same_or, true_or}
 use Rattle.table.proofs.Present.{present_tail, down_absent, up_present}
 use Rattle.auction.proofs.Sums.{greatest_bound}
 use Rattle.steps.specs.declared.state.Node.{Node}
@@ -86,7 +86,7 @@ module _ (ns : List Node) (path price : List ℕ) (g : Progress) where
         (sym bound
         ∙ sym (seen_distance path price (bounds_in ns) (kepts_in ns) (statuses_in ns) g v (omega (arith, as_many (λ m. m.bound) ns)) there)))
         (λ (e : ltb unreached (status_number (node_at v ns).status) ≡ false). rw e)
-        (true_or (ltb unreached (status_number (node_at v ns).status))))
+        (cases_Bool (ltb unreached (status_number (node_at v ns).status))))
 
     pub distances_so : (t : Table) → t.n ≡ length ns → entries (length ns) 0 (distance_entry no_distance ns) ≡ distances t x
     unfolding distances
@@ -105,7 +105,7 @@ module _ (ns : List Node) (path price : List ℕ) (g : Progress) where
         ap (λ m. h - m) (distance_so h v (omega arith))
         ∙ ⊎_elim (λ (r : was_reached x v ≡ true). rw r)
         (λ (r : was_reached x v ≡ false). let z : h - h ≡ 0 = omega arith in rw r z)
-        (true_or (was_reached x v))))
+        (cases_Bool (was_reached x v))))
 
   pub count_so : (t : Table) → t.n ≡ length ns → sum (entries (length ns) 0 (reached_entry ns)) ≡ reached_count t x
   unfolding reached_count
@@ -113,7 +113,7 @@ module _ (ns : List Node) (path price : List ℕ) (g : Progress) where
 
   arc_back : (a : ℕ) → a ≡ arc_or_none (arc_of a)
   unfolding arc_or_none
-  arc_back a = ⊎_elim (λ (z : a ≡ no_arc). rw (no_kept a z) z) (λ (z : a ≡ no_arc → ⊥). rw (some_arc a z)) (same_or a no_arc)
+  arc_back a = ⊎_elim (λ (z : a ≡ no_arc). rw (no_kept a z) z) (λ (z : a ≡ no_arc → ⊥). rw (some_arc a z)) (cases_eq a no_arc)
 
   pub tree_so : (t : Table) → t.n ≡ length ns → entries (length ns) 0 (arc_entry ns) ≡ tree t x
   unfolding tree
@@ -131,7 +131,7 @@ module _ (ns : List Node) (path price : List ℕ) (g : Progress) where
       (⊎_elim
       (λ (z : k ≡ no_arc). rw (no_kept k z) (ne_eqb k i (λ e. d (sym e ∙ z))))
       (λ (z : k ≡ no_arc → ⊥). rw (some_arc k z))
-      (same_or k no_arc))
+      (cases_eq k no_arc))
 
   -- the marks of a table's arcs: an absent arc has mark 1, and a present one leaves its tail
   module _ (t : Table) (c : Columns) (ends : ArcEnds c ns) (arcs : ArcsHeld t c) where
@@ -151,7 +151,7 @@ module _ (ns : List Node) (path price : List ℕ) (g : Progress) where
         let tl = present_tail t i here ∙ arcs.tail i listed in
         let kept = kept_so i (get_or c.heads.now i 0) (ends.head_in i inside) (λ q. omega (arith, c.few, c.heads_are)) in
         rw (ne_eqb here_length down z, here, hd, tl, reached_there (get_or c.heads.now i 0), reached_there (get_or c.tails.now i 0), kept))
-        (same_or here_length down)
+        (cases_eq here_length down)
 
     pub marks_so : entries (length c.heads.now) 0 (mark_entry c ns) ≡ marks t x
     unfolding marks
@@ -173,7 +173,7 @@ not_farther ns h above v low =
     let there = above v low (omega (arith, entry (λ m. status_number m.status) ns v, ltb-true 0 _ e)) in
     rw e (omega (arith, there, entry (λ m. m.bound) ns v)))
     (λ (e : ltb unreached (status_number n.status) ≡ false). rw e (omega arith))
-    (true_or (ltb unreached (status_number n.status)))
+    (cases_Bool (ltb unreached (status_number n.status)))
 
 -- THE WHOLE ANSWER
 module _ (t : Table) (ws : List ℕ) (missing scanned : ℕ) (x : State) (ran : Ran t ws (auction t ws) missing scanned x)

@@ -14,8 +14,9 @@ use Rattle.std.specs.Prelude as code
 use Rattle.std.specs.Option.{option_eq, option_copied}
 use Rattle.std.specs.List.{slice_get}
 use Rattle.std.proofs.lemmas.Option.{none-some, same_Some, slice_get-get_or, slice_get_within}
+use Rattle.std.proofs.lemmas.Bool.{and_right, cases_eq}
 use Rattle.table.specs.Table.{Table}
-use Rattle.table.proofs.Basics.{same_or, and_false, some_none}
+use Rattle.table.proofs.Basics.{some_none}
 use Rattle.keeping.specs.Keeping.{lent_total, first_node, last_node, same_ends, no_greater, stays}
 use Rattle.keeper.specs.Totals.{held}
 use Rattle.keeper.proofs.Totalling.{lent_none}
@@ -52,13 +53,13 @@ module _ (t : Table) (standing fresh : List ℕ) (most : ℕ) (total : some most
   some_node : 0 < length fresh
   some_node =
       ⊎_elim (λ (z : length fresh ≡ 0). absurd (some_none refl (total ∙ sym (lent_none t fresh z)))) (λ (z : length fresh ≡ 0 → ⊥). omega (arith, z))
-      (same_or (length fresh) 0)
+      (cases_eq (length fresh) 0)
 
   none_standing : length standing ≡ 0 → false ≡ stays t standing fresh
   unfolding stays
   none_standing e =
       let none_lent = ap (λ (o : Option ℕ). no_greater o (lent_total t fresh)) (sym (lent_none t standing e)) in
-      sym (and_false (same_ends standing fresh) _ (none_lent ∙ no_greater_none (lent_total t fresh)))
+      sym (and_right (same_ends standing fresh) _ (none_lent ∙ no_greater_none (lent_total t fresh)))
 
   -- two nodes that are read and differ
   differ : (i j : ℕ) → i < length standing → j < length fresh → (slice_get standing i ≡ slice_get fresh j → ⊥) →
@@ -70,7 +71,7 @@ module _ (t : Table) (standing fresh : List ℕ) (most : ℕ) (total : some most
   pub other_first : (slice_get standing 0 ≡ slice_get fresh 0 → ⊥) → false ≡ stays t standing fresh
   unfolding stays same_ends first_node
   other_first d =
-      ⊎_elim none_standing (λ (z : length standing ≡ 0 → ⊥). rw (differ 0 0 (omega (arith, z)) some_node d)) (same_or (length standing) 0)
+      ⊎_elim none_standing (λ (z : length standing ≡ 0 → ⊥). rw (differ 0 0 (omega (arith, z)) some_node d)) (cases_eq (length standing) 0)
 
   pub other_last : (slice_get standing (length standing - 1) ≡ slice_get fresh (length fresh - 1) → ⊥) → false ≡ stays t standing fresh
   unfolding stays same_ends last_node
@@ -79,9 +80,9 @@ module _ (t : Table) (standing fresh : List ℕ) (most : ℕ) (total : some most
       (λ (z : length standing ≡ 0 → ⊥).
       rw (
         differ (length standing - 1) (length fresh - 1) (omega (arith, z)) (omega (arith, some_node)) d,
-        and_false (eqb (first_node standing) (first_node fresh)) false refl,
+        and_right (eqb (first_node standing) (first_node fresh)) false refl,
       ))
-      (same_or (length standing) 0)
+      (cases_eq (length standing) 0)
 
   module _ (first : slice_get standing 0 ≡ slice_get fresh 0)
       (last : slice_get standing (length standing - 1) ≡ slice_get fresh (length fresh - 1)) where

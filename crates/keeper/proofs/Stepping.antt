@@ -10,8 +10,8 @@ use lib.Dec.{leb}
 use lib.ListN.{get_or}
 use borrow.Author.Tests.{eq-eqb, ne_eqb, le-leb, lt-leb, leb-true, leb-false}
 use Rattle.std.specs.Prelude as code
+use Rattle.std.proofs.lemmas.Bool.{cases_Bool}
 use Rattle.table.specs.Table.{Table, arc_count, tail_at, head_at, no_arc}
-use Rattle.table.proofs.Basics.{true_or}
 use Rattle.forward_star.specs.Lists.{star, Outgoing}
 use Rattle.forward_star.proofs.Along.{OwnArcs, OnList, on_first, on_next, here_left, own_first, own_next, none_left}
 use Rattle.keeping.specs.Keeping.{lesser, between, shortest_from, step_length}
@@ -30,13 +30,13 @@ least_same a b c =
     ⊎_elim
     (λ (q : leb a b ≡ true). rw (p, q, le-leb a c (omega (arith, leb-true b c p, leb-true a b q))))
     (λ (q : leb a b ≡ false). rw (p, q, p))
-    (true_or (leb a b)))
+    (cases_Bool (leb a b)))
     (λ (p : leb b c ≡ false).
     ⊎_elim
     (λ (q : leb a b ≡ true). rw (p, q))
     (λ (q : leb a b ≡ false). rw (p, q, p, lt-leb a c (omega (arith, leb-false b c p, leb-false a b q))))
-    (true_or (leb a b)))
-    (true_or (leb b c))
+    (cases_Bool (leb a b)))
+    (cases_Bool (leb b c))
 
 lesser_same : (a b c : Option ℕ) → lesser a (lesser b c) ≡ lesser (lesser a b) c
 unfolding lesser

@@ -10,6 +10,7 @@ use lib.ListN.{length, get_or, take, drop}
 use borrow.Author.Tests.{lt-ltb, le-ltb}
 use Rattle.std.specs.Prelude as code
 use Rattle.std.specs.List.{slice_get}
+use Rattle.std.proofs.lemmas.List.{nil_from_length}
 use Rattle.std.proofs.lemmas.Option.{get_or_from_slice_get}
 use Rattle.table.specs.Table.{Table, most_nodes, longest}
 use Rattle.keeping.specs.Keeping.{step_length, plus, total, lent_total}
@@ -41,11 +42,7 @@ step_first false s r = refl
 module _ (t : Table) (list : List ℕ) where
   pub lent_none : length list ≡ 0 → none ≡ lent_total t list
   unfolding lent_total total
-  lent_none e = rw (le-ltb most_nodes (length list) (omega arith), none_there list e)
-    where
-      none_there : (l : List ℕ) → length l ≡ 0 → l ≡ []
-      none_there [] e = refl
-      none_there (v ∷ vs) e = absurd (omega arith)
+  lent_none e = rw (le-ltb most_nodes (length list) (omega arith), nil_from_length list e)
 
   pub lent_many : most_nodes < length list → none ≡ lent_total t list
   unfolding lent_total

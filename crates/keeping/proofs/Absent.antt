@@ -8,8 +8,9 @@ use Prim.Native.Nat.{ℕ, ◌<◌}
 use native.Mathlib.Omega.{arith}
 use lib.Dec.{ltb}
 use borrow.Author.Tests.{ltb-true}
+use Rattle.std.proofs.lemmas.Bool.{cases_Bool}
 use Rattle.table.specs.Table.{Table, table, is_table, tail_at, head_at, length_at}
-use Rattle.table.proofs.Basics.{true_or, option_or, some_none, some_same}
+use Rattle.table.proofs.Basics.{option_or, some_none, some_same}
 use Rattle.table.proofs.Present.{leaves_present}
 use Rattle.auction.specs.Absent.{without_absent, place_of}
 use Rattle.auction.proofs.Good.{good}
@@ -68,7 +69,7 @@ same_total t ws (u ∷ v ∷ vs) ok =
     ⊎_elim
     (λ (h : ltb u t.n ≡ true). rw (h, same_step t ws ok u v (ltb-true u t.n h), same_total t ws (v ∷ vs) ok))
     (λ (h : ltb u t.n ≡ false). rw h)
-    (true_or (ltb u t.n))
+    (cases_Bool (ltb u t.n))
 
 -- THE CHOICE
 pub same_choice : (t : Table) (ws standing fresh : List ℕ) → is_table t ws ≡ true →

@@ -9,9 +9,10 @@ use native.Mathlib.Omega.{arith}
 use lib.Dec.{ltb, leb, eqb}
 use lib.ListN.{length}
 use borrow.Author.Tests.{eq-eqb, ne_eqb, lt-leb, eqb-false}
+use Rattle.std.proofs.lemmas.Bool.{cases_Bool, cases_eq, or_parts}
 use Rattle.table.specs.Table.{Arc, Table, arcs_of, most_nodes}
 use Rattle.table.specs.Refusals.{Refusal, refusal, no_refusal, or_else, count_bad, columns_bad, rooms_fit, wanted_from, wanted_refusal, arc_fault, arcs_from, arcs_refusal, table_refusal}
-use Rattle.table.proofs.Basics.{true_or, same_or, either_false, option_or}
+use Rattle.table.proofs.Basics.{option_or}
 use Rattle.keeping.specs.declared.Kept.{Kept}
 use Rattle.keeping.specs.Keeping.{lent_total, table_in, fresh_refusal, keep_refusal, kept, choice, keep}
 
@@ -40,9 +41,9 @@ unfolding table_refusal rooms_fit or_else no_refusal refusal wanted_refusal want
 alone n ts hs ls =
     ⊎_elim (λ (c : count_bad n ≡ true). rw c)
     (λ (c : count_bad n ≡ false).
-    let some_node : n ≡ 0 → ⊥ = eqb-false n 0 (either_false (eqb n 0) (ltb most_nodes n) c).0 in
+    let some_node : n ≡ 0 → ⊥ = eqb-false n 0 (or_parts (eqb n 0) (ltb most_nodes n) c).0 in
     rw (lt-leb n 0 (omega (arith, some_node))))
-    (true_or (count_bad n))
+    (cases_Bool (count_bad n))
 
 module _ (n : ℕ) (ts hs ls standing fresh : List ℕ) where
   abbrev t : Table
@@ -124,4 +125,4 @@ module _ (n : ℕ) (ts hs ls standing fresh : List ℕ) where
       (option_or (lent_total t fresh)))
       (λ (d : f.number ≡ 0 → ⊥).
       refuses d (⊎_elim (λ (z : f.number ≡ 0). absurd (d z)) (λ k. k) numbers) (refused_so n ts hs ls standing fresh d))
-      (same_or f.number 0)
+      (cases_eq f.number 0)

@@ -10,8 +10,9 @@ use lib.Dec.{ltb, eqb}
 use lib.ListN.{length}
 use lib.Seq.{take-length}
 use borrow.Author.Tests.{ltb-false, le-ltb, eqb-true, eq-eqb, leb-true, le-leb, both_ways}
+use Rattle.std.proofs.lemmas.Bool.{and_parts, cases_Bool}
 use Rattle.table.specs.Table.{Table, most_nodes}
-use Rattle.table.proofs.Basics.{true_or, both_true, some_none}
+use Rattle.table.proofs.Basics.{some_none}
 use Rattle.keeping.specs.declared.Kept.{Kept}
 use Rattle.keeping.specs.Keeping.{total, lent_total, first_node, last_node, same_ends, no_greater, stays, kept, choice, is_standing, given}
 use Rattle.keeping.specs.Promises.{KeptShort}
@@ -27,7 +28,7 @@ unfolding lent_total
 lent_some t vs d e =
     ⊎_elim (λ (h : ltb most_nodes (length vs) ≡ true). absurd (some_none e (rw h refl)))
     (λ (h : ltb most_nodes (length vs) ≡ false). let few = ltb-false most_nodes (length vs) h in (few, sym (lent_few t vs few) ∙ e))
-    (true_or (ltb most_nodes (length vs)))
+    (cases_Bool (ltb most_nodes (length vs)))
 
 -- a total that is no greater is there
 lesser_so : (a : Option ℕ) (b : ℕ) → no_greater a (some b) ≡ true → AtMost a b
@@ -45,8 +46,8 @@ module _ (t : Table) (standing fresh : List ℕ) (d : ℕ) (e : lent_total t fre
   pub stays_so : stays t standing fresh ≡ true → Stays
   unfolding stays same_ends
   stays_so h =
-      let p = both_true (same_ends standing fresh) (no_greater (lent_total t standing) (lent_total t fresh)) h in
-      let q = both_true (eqb (first_node standing) (first_node fresh)) (eqb (last_node standing) (last_node fresh)) p.0 in
+      let p = and_parts (same_ends standing fresh) (no_greater (lent_total t standing) (lent_total t fresh)) h in
+      let q = and_parts (eqb (first_node standing) (first_node fresh)) (eqb (last_node standing) (last_node fresh)) p.0 in
       record {
         begins = eqb-true (first_node standing) (first_node fresh) q.0;
         ends = eqb-true (last_node standing) (last_node fresh) q.1;
@@ -110,10 +111,10 @@ module _ (t : Table) (standing fresh : List ℕ) (d : ℕ) (e : lent_total t fre
   unfolding choice
   chooses_short =
       ⊎_elim (λ (h : stays t standing fresh ≡ true). rw h (keeps_standing h)) (λ (h : stays t standing fresh ≡ false). rw h (keeps_fresh h))
-      (true_or (stays t standing fresh))
+      (cases_Bool (stays t standing fresh))
 
 -- whichever is chosen, the number is 0
 pub choice_number : (t : Table) (standing fresh : List ℕ) → (choice t standing fresh).number ≡ 0
 unfolding choice kept
 choice_number t standing fresh =
-    ⊎_elim (λ (h : stays t standing fresh ≡ true). rw h refl) (λ (h : stays t standing fresh ≡ false). rw h refl) (true_or (stays t standing fresh))
+    ⊎_elim (λ (h : stays t standing fresh ≡ true). rw h refl) (λ (h : stays t standing fresh ≡ false). rw h refl) (cases_Bool (stays t standing fresh))

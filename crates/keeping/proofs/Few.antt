@@ -9,8 +9,8 @@ use native.Mathlib.Omega.{arith}
 use lib.Dec.{ltb}
 use lib.ListN.{length}
 use borrow.Author.Tests.{eqb-true, lt-ltb, le-ltb}
+use Rattle.std.proofs.lemmas.Bool.{cases_eq, cases_lt}
 use Rattle.table.specs.Table.{Table, is_table, arc_count, tail_at, head_at, length_at, leads, is_walk, walk_length}
-use Rattle.table.proofs.Basics.{same_or, below_or}
 use Rattle.table.proofs.Present.{leaves_present}
 use Rattle.auction.specs.Plan.{routes_of}
 use Rattle.auction.specs.Demands.{DemandsMet, price_of}
@@ -49,8 +49,8 @@ module _ (n : ℕ) (price : ℕ → ℕ) where
             (λ (s : w ≡ v → ⊥).
             ⊎_elim (λ (b : price w < price v). omega (arith, only_other v 1 w s, is_lower (price v) w b, is_lower level w (omega arith)))
             (λ (b : price v ≤ price w). omega (arith, only_other v 1 w s, not_lower (price v) w b))
-            (below_or (price w) (price v)))
-            (same_or w v)),
+            (cases_lt (price w) (price v)))
+            (cases_eq w v)),
       )
 
   -- and none counts more than all nodes
@@ -63,7 +63,7 @@ module _ (n : ℕ) (price : ℕ → ℕ) where
         total_le n (lower level) (λ w. 1)
             (λ w l.
             ⊎_elim (λ (b : price w < level). omega (arith, is_lower level w b)) (λ (b : level ≤ price w). omega (arith, not_lower level w b))
-            (below_or (price w) level)),
+            (cases_lt (price w) level)),
       )
 
 -- ALONG A WALK prices that fit fall by no more than its length. Where they fall by all of it, they fall on each of its arcs.

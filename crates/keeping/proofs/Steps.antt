@@ -7,8 +7,9 @@ use Prim.Native.Nat.{ℕ, zero, suc, ◌+◌, ◌≤◌, ◌<◌}
 use native.Mathlib.Omega.{arith}
 use lib.Dec.{leb, eqb}
 use borrow.Author.Tests.{eqb-true, eq-eqb, leb-true, leb-false}
+use Rattle.std.proofs.lemmas.Bool.{and_parts, cases_Bool, cases_eq}
 use Rattle.table.specs.Table.{Table, arc_count, tail_at, head_at, length_at}
-use Rattle.table.proofs.Basics.{true_or, same_or, both_true, some_none, some_same}
+use Rattle.table.proofs.Basics.{some_none, some_same}
 use Rattle.keeping.specs.Keeping.{lesser, between, shortest_from, step_length}
 
 -- an optional number is there and no greater
@@ -21,20 +22,20 @@ unfolding lesser
 one_of none b d e = inr e
 one_of (some a) none d e = inl e
 one_of (some a) (some b) d e =
-    ⊎_elim (λ (h : leb a b ≡ true). inl (rw h at e)) (λ (h : leb a b ≡ false). inr (rw h at e)) (true_or (leb a b))
+    ⊎_elim (λ (h : leb a b ≡ true). inl (rw h at e)) (λ (h : leb a b ≡ false). inr (rw h at e)) (cases_Bool (leb a b))
 
 lesser_first : (a : ℕ) (b : Option ℕ) → AtMost (lesser (some a) b) a
 unfolding lesser
 lesser_first a none = (a, refl, omega arith)
 lesser_first a (some b) =
     ⊎_elim (λ (h : leb a b ≡ true). (a, rw h refl, omega arith)) (λ (h : leb a b ≡ false). (b, rw h refl, omega (arith, leb-false a b h)))
-    (true_or (leb a b))
+    (cases_Bool (leb a b))
 
 lesser_second : (a : Option ℕ) (b : ℕ) → AtMost (lesser a (some b)) b
 unfolding lesser
 lesser_second none b = (b, refl, omega arith)
 lesser_second (some a) b =
-    ⊎_elim (λ (h : leb a b ≡ true). (a, rw h refl, leb-true a b h)) (λ (h : leb a b ≡ false). (b, rw h refl, omega arith)) (true_or (leb a b))
+    ⊎_elim (λ (h : leb a b ≡ true). (a, rw h refl, leb-true a b h)) (λ (h : leb a b ≡ false). (b, rw h refl, omega arith)) (cases_Bool (leb a b))
 
 module _ (t : Table) (u v : ℕ) where
   -- an arc from u to v that is so long
@@ -52,10 +53,10 @@ module _ (t : Table) (u v : ℕ) where
   joins d i e =
       ⊎_elim
       (λ (h : (eqb (tail_at t i) u && eqb (head_at t i) v) ≡ true).
-      let p = both_true (eqb (tail_at t i) u) (eqb (head_at t i) v) h in
+      let p = and_parts (eqb (tail_at t i) u) (eqb (head_at t i) v) h in
       record { leaves = eqb-true (tail_at t i) u p.0; into = eqb-true (head_at t i) v p.1; long = some_same refl (rw h at e) })
       (λ (h : (eqb (tail_at t i) u && eqb (head_at t i) v) ≡ false). absurd (some_none e (rw h refl)))
-      (true_or (eqb (tail_at t i) u && eqb (head_at t i) v))
+      (cases_Bool (eqb (tail_at t i) u && eqb (head_at t i) v))
 
   found : (k i d : ℕ) → shortest_from k i t u v ≡ some d → (j : ℕ) × (j < i + k) × Joins d j
   unfolding shortest_from
@@ -75,7 +76,7 @@ module _ (t : Table) (u v : ℕ) where
       let r = no_shorter k (suc i) j d (omega arith) (omega arith) x in
       let m = lesser_second (between t u v i) r.0 in
       (m.0, rw r.1 m.1, omega (arith, m.2, r.2)))
-      (same_or i j)
+      (cases_eq i j)
 
   -- THE STEP
   pub step_arc : (d : ℕ) → step_length t u v ≡ some d → (j : ℕ) × (j < arc_count t) × Joins d j

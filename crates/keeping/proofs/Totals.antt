@@ -10,8 +10,9 @@ use native.Mathlib.Omega.{arith}
 use lib.Dec.{ltb, eqb}
 use lib.ListN.{length, get_or, drop}
 use borrow.Author.Tests.{eqb-true, lt-ltb, eq-eqb}
+use Rattle.std.proofs.lemmas.Bool.{and_from, and_parts, cases_Bool}
 use Rattle.table.specs.Table.{Table, arc_count, tail_at, head_at, length_at, leads, walk_length, nodes_below}
-use Rattle.table.proofs.Basics.{true_or, both_true, true_both, some_none, some_same}
+use Rattle.table.proofs.Basics.{some_none, some_same}
 use Rattle.auction.proofs.Good.{Good}
 use Rattle.auction.proofs.Back.{first}
 use Rattle.listing.specs.Promises.{heads_along, nodes_from}
@@ -41,8 +42,8 @@ module _ (t : Table) where
       let rest : on ≡ true = rw (last_on u v vs, j.into) x.leads_on in
       record {
         leads_on =
-            true_both (ltb i (arc_count t) && eqb (tail_at t i) u) on
-            (true_both (ltb i (arc_count t)) (eqb (tail_at t i) u) (lt-ltb i (arc_count t) h) (eq-eqb (tail_at t i) u j.leaves)) rest;
+            and_from (ltb i (arc_count t) && eqb (tail_at t i) u) on
+            (and_from (ltb i (arc_count t)) (eqb (tail_at t i) u) (lt-ltb i (arc_count t) h) (eq-eqb (tail_at t i) u j.leaves)) rest;
         nodes = ap (λ (z : ℕ). u ∷ z ∷ heads_along t is) j.into ∙ ap (λ (l : List ℕ). u ∷ l) x.nodes;
       }
 
@@ -76,10 +77,10 @@ module _ (t : Table) where
   pub has_total : (vs walk : List ℕ) → nodes_below t.n vs ≡ true → Through t walk vs → AtMost (total t vs) (walk_length t walk)
   unfolding total nodes_below nodes_from first_node walk_length heads_along
   has_total [] walk low x = absurd (omega (arith, ap length x.nodes))
-  has_total (v ∷ []) walk low x = (0, rw (both_true (ltb v t.n) true low).0 refl, omega arith)
+  has_total (v ∷ []) walk low x = (0, rw (and_parts (ltb v t.n) true low).0 refl, omega arith)
   has_total (u ∷ v ∷ vs) [] low x = absurd (omega (arith, ap length x.nodes))
   has_total (u ∷ v ∷ vs) (i ∷ is) low x =
-      let p = both_true (ltb u t.n) (nodes_below t.n (v ∷ vs)) low in
+      let p = and_parts (ltb u t.n) (nodes_below t.n (v ∷ vs)) low in
       let a = taken_apart u v i vs is x in
       let s = step_least t u v i (length_at t i) a.listed a.arc in
       let r = has_total (v ∷ vs) is p.1 a.rest in
@@ -105,17 +106,17 @@ module _ (t : Table) where
       (λ (h : ltb v t.n ≡ true).
       none_shorter (v ∷ []) [] d e (rw h refl) (record { leads_on = eq-eqb v v refl; nodes = refl }) (some_same refl (rw h at e)))
       (λ (h : ltb v t.n ≡ false). absurd (some_none e (rw h refl)))
-      (true_or (ltb v t.n))
+      (cases_Bool (ltb v t.n))
   least_through (u ∷ v ∷ vs) d e =
       ⊎_elim
       (λ (h : ltb u t.n ≡ true).
       let s = summed (step_length t u v) (total t (v ∷ vs)) d (rw h at e) in
       let a = step_arc t u v s.0 s.2 in
       let r = least_through (v ∷ vs) s.1 s.3 in
-      none_shorter (u ∷ v ∷ vs) (a.0 ∷ r.walk) d e (true_both (ltb u t.n) (nodes_below t.n (v ∷ vs)) h r.below)
+      none_shorter (u ∷ v ∷ vs) (a.0 ∷ r.walk) d e (and_from (ltb u t.n) (nodes_below t.n (v ∷ vs)) h r.below)
       (put_together u v s.0 a.0 vs r.walk a.1 a.2 r.through) (omega (arith, a.2.long, r.as_long, s.4)))
       (λ (h : ltb u t.n ≡ false). absurd (some_none e (rw h refl)))
-      (true_or (ltb u t.n))
+      (cases_Bool (ltb u t.n))
 
   -- A WALK of a table that is not refused goes through its nodes, which are below n
   ends_there : (is : List ℕ) (u v : ℕ) → leads t u is v ≡ true → last_node (nodes_from t u is) ≡ v
@@ -128,7 +129,7 @@ module _ (t : Table) where
   all_low g [] u v low e = rw (lt-ltb u t.n low) refl
   all_low g (i ∷ is) u v low e =
       let f = first t u i is v e in
-      true_both (ltb u t.n) (nodes_below t.n (nodes_from t (head_at t i) is)) (lt-ltb u t.n low)
+      and_from (ltb u t.n) (nodes_below t.n (nodes_from t (head_at t i) is)) (lt-ltb u t.n low)
       (all_low g is (head_at t i) v (g.head_in i f.listed) f.rest)
 
   -- so the nodes of a shortest walk are a shortest path

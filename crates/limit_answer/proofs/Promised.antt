@@ -6,9 +6,10 @@ use mathlib.Core.Logic.{◌⊎◌, inl, inr, ⊎_elim}
 use Prim.Native.Nat.{ℕ, ◌<◌}
 use native.Mathlib.Omega.{arith}
 use borrow.Author.Tests.{both_ways}
+use Rattle.std.proofs.lemmas.Bool.{cases_eq}
 use Rattle.table.specs.Table.{Table, table_of, is_table}
 use Rattle.table.specs.Refusals.{rooms_fit}
-use Rattle.table.proofs.Basics.{same_or, some_none}
+use Rattle.table.proofs.Basics.{some_none}
 use Rattle.auction.specs.Auction.{was_reached}
 use Rattle.auction.specs.HandOver.{Answer, handed_over}
 use Rattle.auction.specs.Plan.{refused_plan, routes_of}
@@ -69,7 +70,7 @@ limits_kept n o v limit ts hs ls r low e number =
     subst (λ (a : Within). LimitKept t v limit a) (sym (e ∙ asked n o v ts hs ls f refl limit z))
     (limit_kept t v limit (fine n o v ts hs ls f refl low z).table_good))
     (λ (d : f.number ≡ 0 → ⊥). absurd (d (ap (λ (a : Within). a.number) (sym (e ∙ refused n o v ts hs ls f refl limit d)) ∙ number)))
-    (same_or f.number 0)
+    (cases_eq f.number 0)
 
 pub limits_refused : LimitsRefused
 unfolding LimitsRefused within limit_of limit_refusal rooms_fit refused_plan
@@ -89,7 +90,7 @@ limits_refused n o v limit ts hs ls r e d =
           (number ∙ ap (λ (a : Answer). a.number) (sym planned), ap (λ (a : Within). a.place) so ∙ ap (λ (a : Answer). a.place) (sym planned));
       zeros = (ap (λ (a : Within). a.within) so, ap (λ (a : Within). a.iterations) so);
     })
-    (same_or f.number 0)
+    (cases_eq f.number 0)
 
 -- TWO ANSWERS: the one cannot be yes where the other is no, nor stop before the other
 module _ {t : Table} {v limit : ℕ} where

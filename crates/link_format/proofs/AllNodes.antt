@@ -6,7 +6,7 @@ use Prim.Native.Nat.{ℕ, zero, suc}
 use lib.Dec.{eqb}
 use lib.ListN.{length}
 use borrow.Author.Tests.{eq-eqb, eqb-true}
-use Rattle.table.proofs.Basics.{both_true}
+use Rattle.std.proofs.lemmas.Bool.{and_parts}
 use Rattle.link_format.specs.Format.{count_up, counts_from, all_nodes}
 
 -- the list of all nodes is all nodes
@@ -29,12 +29,12 @@ counts_up : (i : ℕ) (ws : List ℕ) → counts_from i ws ≡ true → ws ≡ c
 unfolding counts_from count_up
 counts_up i [] e = refl
 counts_up i (w ∷ ws) e =
-    let here_is : w ≡ i = eqb-true w i (both_true (eqb w i) (counts_from (suc i) ws) e).0 in
-    let more : ws ≡ count_up (suc i) (length ws) = counts_up (suc i) ws (both_true (eqb w i) (counts_from (suc i) ws) e).1 in
+    let here_is : w ≡ i = eqb-true w i (and_parts (eqb w i) (counts_from (suc i) ws) e).0 in
+    let more : ws ≡ count_up (suc i) (length ws) = counts_up (suc i) ws (and_parts (eqb w i) (counts_from (suc i) ws) e).1 in
     rw here_is (ap (λ (l : List ℕ). i ∷ l) more)
 
 pub all_nodes_are : (n : ℕ) (ws : List ℕ) → all_nodes n ws ≡ true → ws ≡ count_up 0 n
 unfolding all_nodes
 all_nodes_are n ws e =
-    let size : length ws ≡ n = eqb-true (length ws) n (both_true (eqb (length ws) n) (counts_from 0 ws) e).0 in
-    counts_up 0 ws (both_true (eqb (length ws) n) (counts_from 0 ws) e).1 ∙ rw size
+    let size : length ws ≡ n = eqb-true (length ws) n (and_parts (eqb (length ws) n) (counts_from 0 ws) e).0 in
+    counts_up 0 ws (and_parts (eqb (length ws) n) (counts_from 0 ws) e).1 ∙ rw size

@@ -6,11 +6,11 @@ use Prim.Native.Nat.{ℕ, zero, suc, ◌+◌, ◌≤◌}
 use native.Mathlib.Omega.{arith}
 use lib.Dec.{ltb, eqb}
 use borrow.Author.Tests.{ltb-false, eq-eqb, eqb-true, not-false, both_ways}
+use Rattle.std.proofs.lemmas.Bool.{or_parts}
 use Rattle.table.specs.Table.{arc}
 use Rattle.link_format.specs.Format.{bit_map, has, all_nodes, header_bits, record_bits}
 use Rattle.link_format.specs.Promises.{needless, needless_header, NeedlessIsNotCanonical, NeedlessHeaderIsNotCanonical}
 use Rattle.link_format.specs.Reading.{forbidden_header, forbidden, implied}
-use Rattle.table.proofs.Basics.{either_false}
 
 -- A bit map has the bits that it was made of, and no other.
 pub record MadeOf (a b c : Bool) : Type 0 where
@@ -93,7 +93,7 @@ needless_record (some p) bits a good said =
 pub needless_header_bits : NeedlessHeaderIsNotCanonical
 unfolding needless_header header_bits Agree forbidden_header
 needless_header_bits bits n o ws allowed no_Origin no_list =
-    let tests = either_false (ltb 7 bits) (not (has 1 bits)) allowed in
+    let tests = or_parts (ltb 7 bits) (not (has 1 bits)) allowed in
     let low : bits ≤ 7 = ltb-false 7 bits tests.0 in
     let count : has 1 bits ≡ true = not-false (has 1 bits) tests.1 in
     let e = not_canonical true false (has 2 bits) (eqb o 0) (has 4 bits) (all_nodes n ws)

@@ -7,19 +7,19 @@ use native.Mathlib.Omega.{arith}
 use borrow.Author.Tests.{le-ltb, ltb-false, eqb-true, eqb-false, ne_eqb, not-false}
 use lib.Dec.{eqb, ltb}
 use lib.ListN.{length}
+use Rattle.std.proofs.lemmas.Bool.{and_parts, or_parts}
 use Rattle.table.specs.Refusals.{count_bad, columns_bad}
 use Rattle.table.specs.Table.{most_nodes, most_arcs, most_wanted}
-use Rattle.table.proofs.Basics.{both_true, either_false}
 use Rattle.link_format.specs.Buffers.{too_short, EqualColumns}
 
 -- 1: a node count that is not refused, and one that is in range
 pub some_nodes : {n : ℕ} → count_bad n ≡ false → 0 < n
 unfolding count_bad
-some_nodes {n} e = let nonzero : n ≡ 0 → ⊥ = eqb-false n 0 (either_false (eqb n 0) (ltb most_nodes n) e).0 in omega (arith, nonzero)
+some_nodes {n} e = let nonzero : n ≡ 0 → ⊥ = eqb-false n 0 (or_parts (eqb n 0) (ltb most_nodes n) e).0 in omega (arith, nonzero)
 
 pub few_nodes : {n : ℕ} → count_bad n ≡ false → n ≤ most_nodes
 unfolding count_bad
-few_nodes {n} e = ltb-false most_nodes n (either_false (eqb n 0) (ltb most_nodes n) e).1
+few_nodes {n} e = ltb-false most_nodes n (or_parts (eqb n 0) (ltb most_nodes n) e).1
 
 pub good_count : (n : ℕ) → 0 < n → n ≤ most_nodes → count_bad n ≡ false
 unfolding count_bad
@@ -29,8 +29,8 @@ good_count n positive low = rw (ne_eqb n 0 (omega arith), le-ltb most_nodes n lo
 pub equal_columns : (ts hs ls : List ℕ) → columns_bad (length ts) (length hs) (length ls) ≡ false → EqualColumns ts hs ls
 unfolding columns_bad
 equal_columns ts hs ls e =
-    let passed = either_false (not (eqb (length ts) (length hs) && eqb (length hs) (length ls))) (ltb most_arcs (length ts)) e in
-    let same = both_true (eqb (length ts) (length hs)) (eqb (length hs) (length ls)) (not-false _ passed.0) in
+    let passed = or_parts (not (eqb (length ts) (length hs) && eqb (length hs) (length ls))) (ltb most_arcs (length ts)) e in
+    let same = and_parts (eqb (length ts) (length hs)) (eqb (length hs) (length ls)) (not-false _ passed.0) in
     record {
       heads_are = eqb-true (length ts) (length hs) same.0;
       lengths_are = eqb-true (length hs) (length ls) same.1;
@@ -47,9 +47,9 @@ pub record Roomy (tails heads lengths wanted : ℕ) : Type 0 where
 pub roomy : (t h l w : ℕ) → too_short t h l w ≡ false → Roomy t h l w
 unfolding too_short
 roomy t h l w e =
-    let halves = either_false (ltb t most_arcs || ltb h most_arcs) (ltb l most_arcs || ltb w most_wanted) e in
-    let first = either_false (ltb t most_arcs) (ltb h most_arcs) halves.0 in
-    let second = either_false (ltb l most_arcs) (ltb w most_wanted) halves.1 in
+    let halves = or_parts (ltb t most_arcs || ltb h most_arcs) (ltb l most_arcs || ltb w most_wanted) e in
+    let first = or_parts (ltb t most_arcs) (ltb h most_arcs) halves.0 in
+    let second = or_parts (ltb l most_arcs) (ltb w most_wanted) halves.1 in
     record {
       tails_room = ltb-false t most_arcs first.0;
       heads_room = ltb-false h most_arcs first.1;

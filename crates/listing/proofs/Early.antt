@@ -5,9 +5,9 @@ use Prim.Native.Nat.{ℕ, ◌≤◌, ◌<◌}
 use native.Mathlib.Omega.{arith}
 use lib.Dec.{ltb, leb, eqb}
 use borrow.Author.Tests.{eq-eqb, ne_eqb, lt-leb, leb-false, le-ltb, ltb-false, eqb-true, not-false}
+use Rattle.std.proofs.lemmas.Bool.{and_parts, false_from_ne_true, or_parts}
 use Rattle.table.specs.Table.{most_nodes, most_arcs}
 use Rattle.table.specs.Refusals.{count_bad, columns_bad}
-use Rattle.table.proofs.Basics.{both_true, either_false, refuted}
 use Rattle.listing.specs.Listing.{early_number}
 
 pub count_fine : (n : ℕ) → (n ≡ 0 → ⊥) → n ≤ most_nodes → count_bad n ≡ false
@@ -32,13 +32,13 @@ module _ (n a b o v : ℕ) where
   pub passed : early_number n a b o v ≡ 0 → Passed n a b v
   unfolding early_number count_bad columns_bad
   passed e =
-      let c = refuted (eqb n 0 || ltb most_nodes n) (λ h. let z : ◌≡◌ {A = ℕ} 1 0 = rw h at e in omega arith) in
+      let c = false_from_ne_true (eqb n 0 || ltb most_nodes n) (λ h. let z : ◌≡◌ {A = ℕ} 1 0 = rw h at e in omega arith) in
       let same = eqb a b && eqb b b in
-      let d = refuted (not same || ltb most_arcs a) (λ h. let z : ◌≡◌ {A = ℕ} 2 0 = rw (c, h) at e in omega arith) in
-      let f = refuted (leb n o) (λ h. let z : ◌≡◌ {A = ℕ} 4 0 = rw (c, d, h) at e in omega arith) in
-      let g = refuted (leb n v) (λ h. let z : ◌≡◌ {A = ℕ} 5 0 = rw (c, d, f, h) at e in omega arith) in
+      let d = false_from_ne_true (not same || ltb most_arcs a) (λ h. let z : ◌≡◌ {A = ℕ} 2 0 = rw (c, h) at e in omega arith) in
+      let f = false_from_ne_true (leb n o) (λ h. let z : ◌≡◌ {A = ℕ} 4 0 = rw (c, d, h) at e in omega arith) in
+      let g = false_from_ne_true (leb n v) (λ h. let z : ◌≡◌ {A = ℕ} 5 0 = rw (c, d, f, h) at e in omega arith) in
       record {
-        few_nodes = ltb-false most_nodes n (either_false (eqb n 0) (ltb most_nodes n) c).1;
-        equal = eqb-true a b (both_true (eqb a b) (eqb b b) (not-false same (either_false (not same) (ltb most_arcs a) d).0)).0;
+        few_nodes = ltb-false most_nodes n (or_parts (eqb n 0) (ltb most_nodes n) c).1;
+        equal = eqb-true a b (and_parts (eqb a b) (eqb b b) (not-false same (or_parts (not same) (ltb most_arcs a) d).0)).0;
         node_in = leb-false n v g;
       }

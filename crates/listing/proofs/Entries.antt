@@ -7,7 +7,7 @@ use Prim.Native.Nat.{ℕ, suc, ◌<◌}
 use lib.Dec.{ltb, eqb}
 use lib.ListN.{length, get_or}
 use borrow.Author.Tests.{ltb-true, eqb-true, lt-ltb, eq-eqb, ne_eqb}
-use Rattle.table.proofs.Basics.{both_true}
+use Rattle.std.proofs.lemmas.Bool.{and_parts}
 use Rattle.listing.specs.Listing.{Tree, node_count, entry, node_before, leads_back, back_to}
 
 pub record Leads (k : Tree) (v : ℕ) : Type 0 where
@@ -20,8 +20,8 @@ unfolding leads_back
 leads k v e =
     let arc = ltb (entry k v) (length k.tails) in
     let into = eqb (get_or k.heads (entry k v) 0) v in
-    let p = both_true (arc && into) (ltb (node_before k v) (node_count k)) e in
-    let q = both_true arc into p.0 in
+    let p = and_parts (arc && into) (ltb (node_before k v) (node_count k)) e in
+    let q = and_parts arc into p.0 in
     record {
       listed = ltb-true (entry k v) (length k.tails) q.0;
       into = eqb-true (get_or k.heads (entry k v) 0) v q.1;

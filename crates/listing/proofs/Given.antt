@@ -7,8 +7,8 @@ use mathlib.Core.Option.{none}
 use Prim.Native.Nat.{ℕ, zero, suc, ◌^◌, ◌≤◌, ◌<◌}
 use native.Mathlib.Omega.{arith}
 use lib.ListN.{length}
+use Rattle.std.proofs.lemmas.Bool.{cases_Bool, cases_eq, cases_lt}
 use Rattle.table.specs.Table.{table, table_of, Below}
-use Rattle.table.proofs.Basics.{true_or, same_or, below_or}
 use Rattle.auction.specs.HandOver.{Answer}
 use Rattle.auction.specs.Plan.{plan, routes_of}
 use Rattle.auction.specs.Demands.{Given, link_of}
@@ -33,8 +33,8 @@ lists_back o v k room z d =
     absurd
     (⊎_elim (λ (early : early_of o v k ≡ 0). omega (arith, z, ap (λ (l : Listing). l.number) (without_path o v k room early empty)))
     (λ (early : early_of o v k ≡ 0 → ⊥). early (sym (ap (λ (l : Listing). l.number) (refused_early o v k room early)) ∙ z))
-    (same_or (early_of o v k) 0)))
-    (true_or (leads_back k v))
+    (cases_eq (early_of o v k) 0)))
+    (cases_Bool (leads_back k v))
 
 -- and so it was given a walk: a node without one has no link
 pub listed_given : (n o : ℕ) (ts hs ls ws ds ps tr ms : List ℕ) (v room : ℕ) →
@@ -53,7 +53,7 @@ listed_given n o ts hs ls ws ds ps tr ms v room low number z =
     (λ (d : v ≡ o → ⊥).
     let k = tree_in ts hs a.tree in
     linked_given t ws ok v (λ q. omega (arith, (leads k v (lists_back o v k room there d)).listed, q, m.fine.few_arcs)))
-    (same_or v o))
+    (cases_eq v o))
 
 -- what is listed, where these nodes are listed wherever there is room for them
 pub only_listed : (l : (room : ℕ) → Listing) (vs : List ℕ) → ((room : ℕ) → length vs ≤ room → l room ≡ listed vs) →
@@ -62,4 +62,4 @@ unfolding listed refused
 only_listed l vs roomy short room z =
     ⊎_elim (λ (h : room < length vs). absurd (omega (arith, z, ap (λ (m : Listing). m.number) (short room h))))
     (λ (h : length vs ≤ room). ap (λ (m : Listing). m.nodes) (roomy room h))
-    (below_or room (length vs))
+    (cases_lt room (length vs))

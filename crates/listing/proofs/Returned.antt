@@ -9,9 +9,9 @@ use Prim.Native.Nat.{ℕ, zero, suc, ◌+◌, ◌<◌}
 use native.Mathlib.Omega.{arith}
 use lib.ListN.{length, get_or}
 use borrow.Author.Tests.{eqb-true, lt-ltb}
+use Rattle.std.proofs.lemmas.Bool.{cases_Bool, cases_eq}
 use Rattle.table.specs.Table.{Table, arc_count, tail_at, head_at, leads, is_walk, no_arc}
 use Rattle.auction.specs.HandOver.{back_from, returned}
-use Rattle.table.proofs.Basics.{true_or, same_or}
 use Rattle.auction.proofs.Good.{Good}
 use Rattle.auction.proofs.Back.{first, ends, stays, goes, back_longer}
 use Rattle.auction.proofs.Back as back
@@ -59,7 +59,7 @@ module _ (t : Table) (ts : List ℕ) where
       let r = ends_with g fuel (tail_at t i) (i ∷ is) u w low (rw (goes t ts fuel v is h) at e) in
       let f = first t r.node i is w r.walk in
       record { node = head_at t i; low = g.head_in i f.listed; walk = f.rest })
-      (true_or (ends t ts v))
+      (cases_Bool (ends t ts v))
 
 -- Away from the origin a walk takes the node's entry: an arc from a node into this one, after which the way back goes on from its tail.
 record Takes (t : Table) (ts : List ℕ) (fuel v : ℕ) (is : List ℕ) : Type 0 where
@@ -90,7 +90,7 @@ takes t g ts (suc fuel) v is w b away e =
       leaves = omega (arith, f.leaves, last.low);
       into = begins_there t (head_at t i) is w f.rest ∙ b;
     })
-    (true_or (ends t ts v))
+    (cases_Bool (ends t ts v))
 
 -- the way back and the walk, arc by arc
 module _ (t : Table) (k : Tree) (columns : Columns t k) (g : Good t) (w : ℕ) where
@@ -124,7 +124,7 @@ module _ (t : Table) (k : Tree) (columns : Columns t k) (g : Good t) (w : ℕ) w
       ∙ ap (λ (a : ℕ). back_to left o k (tail_at t i) (a ∷ heads_along t is)) (sym m.into)
       ∙ agree left m.left (tail_at t i) (i ∷ is) refl (rw m.goes_on at e) (omega (arith, ap length m.goes_on))
       ∙ ap (λ (l : List ℕ). some (o ∷ heads_along t l)) (sym m.goes_on))
-      (same_or v o)
+      (cases_eq v o)
 
 -- the listing's path is the origin and the heads of the arcs of the walk returned
 pub path_is_walk : (t : Table) (k : Tree) → Columns t k → Good t → (v : ℕ) →

@@ -7,7 +7,8 @@ use mathlib.Core.Option.{Option, none, some}
 use Prim.Native.Nat.{ℕ, zero, suc, ◌+◌, ◌≤◌, ◌<◌}
 use native.Mathlib.Omega.{arith}
 use lib.ListN.{length}
-use Rattle.table.proofs.Basics.{true_or, same_or, some_none, some_same}
+use Rattle.std.proofs.lemmas.Bool.{cases_Bool, cases_eq}
+use Rattle.table.proofs.Basics.{some_none, some_same}
 use Rattle.listing.specs.Listing.{Tree, node_before, leads_back, back_to, nodes_of}
 use Rattle.listing.proofs.Entries.{at_origin, one_back, not_back}
 
@@ -28,8 +29,8 @@ ends_or_goes (suc l) o k v passed vs e =
     ⊎_elim
     (λ (b : leads_back k v ≡ true). inr (record { leads_on = b; left = l; whole = sym (one_back l o k v passed h b) ∙ e }))
     (λ (b : leads_back k v ≡ false). absurd (some_none e (not_back l o k v passed h b)))
-    (true_or (leads_back k v)))
-    (same_or v o)
+    (cases_Bool (leads_back k v)))
+    (cases_eq v o)
 
 -- a path has v and the nodes passed, and at most `left` nodes before those
 pub path_size : (left o : ℕ) (k : Tree) (v : ℕ) (passed vs : List ℕ) → back_to left o k v passed ≡ some vs →
@@ -44,8 +45,8 @@ path_size (suc l) o k v passed vs e =
     (λ (b : leads_back k v ≡ true).
     omega (arith, path_size l o k (node_before k v) (v ∷ passed) vs (sym (one_back l o k v passed h b) ∙ e)))
     (λ (b : leads_back k v ≡ false). absurd (some_none e (not_back l o k v passed h b)))
-    (true_or (leads_back k v)))
-    (same_or v o)
+    (cases_Bool (leads_back k v)))
+    (cases_eq v o)
 
 -- a path with a node in it
 pub is_some : (p : Option (List ℕ)) → 0 < length (nodes_of p) → p ≡ some (nodes_of p)

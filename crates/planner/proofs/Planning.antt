@@ -9,13 +9,14 @@ use lib.Dec.{eqb}
 use lib.ListN.{length, get_or, take}
 use lib.Seq.{length-take-le}
 use borrow.Author.Tests.{lt-ltb, eq-eqb, ne_eqb}
+use Rattle.std.proofs.lemmas.Bool.{cases_Bool, cases_eq}
 use Rattle.table.specs.Table.{Table, table_of, is_table, most_nodes, longest, Below, most_wanted}
 use Rattle.table.specs.Refusals.{Refusal, refusal}
 use Rattle.auction.specs.Auction.{State, Ended, fresh, was_reached, all_reached, auction}
 use Rattle.auction.specs.HandOver.{Answer, answer}
 use Rattle.auction.specs.Promises.{last_state, EndsByItself}
 use Rattle.auction.specs.Limit.{Unlimited}
-use Rattle.table.proofs.Basics.{inside, same_or, true_or}
+use Rattle.table.proofs.Basics.{inside}
 use Rattle.auction.proofs.Good.{good, parts}
 use Rattle.auction.proofs.Promised.{ends_by_itself}
 use Rattle.auction.proofs.Limit.{unlimited}
@@ -44,7 +45,7 @@ all_found {ws = ws} {m = m} {x = x} ran =
     ⊎_elim
     (λ (z : m ≡ length ws). none_missing ws x (omega (arith, z, ran.first_so)) ∙ sym (eq-eqb m (length ws) z))
     (λ (z : m ≡ length ws → ⊥). some_missing ws x (omega (arith, z, ran.first_so, ran.inside)) ∙ sym (ne_eqb m (length ws) z))
-    (same_or m (length ws))
+    (cases_eq m (length ws))
 
 -- without a limit it is the plan's
 module _ {t : Table} {ws : List ℕ} (ok : is_table t ws ≡ true) where
@@ -60,7 +61,7 @@ module _ {t : Table} {ws : List ℕ} (ok : is_table t ws ≡ true) where
       let found = ap (all_reached ws) ran.last_so ∙ all_found ran in
       ⊎_elim (λ (r : (auction t ws).routed ≡ true). r ∙ sym (end.found r) ∙ found)
       (λ (r : (auction t ws).routed ≡ false). r ∙ sym (end.missing r) ∙ found)
-      (true_or (auction t ws).routed)
+      (cases_Bool (auction t ws).routed)
 
 -- and the nodes can be handed over
 module _ (t : Table) (ws : List ℕ) (e : Ended) (m c : ℕ) (r : RunState) (ran : Ran t ws e m c (held r)) where

@@ -4,12 +4,12 @@ use mathlib.Core.Bool.{true, false}
 use mathlib.Core.List.{List}
 use mathlib.Core.Logic.{◌⊎◌, inl, inr, ⊎_elim}
 use Prim.Native.Nat.{ℕ}
+use Rattle.std.proofs.lemmas.Bool.{cases_Bool}
 use Rattle.table.specs.Table.{Table, table_of}
 use Rattle.table.specs.Refusals.{refusal, no_refusal}
 use Rattle.auction.specs.Auction.{auction}
 use Rattle.auction.specs.HandOver.{Answer, handed_over, route_refusal}
 use Rattle.auction.specs.Demands.{Demands, DemandsMet}
-use Rattle.table.proofs.Basics.{true_or}
 use Rattle.auction.proofs.Demanded.{demands_met}
 use Rattle.auction.proofs.Made.{made, routes_so, refused_so}
 use Rattle.auction.specs.Plan.{plan_refusal, plan, routes_of, refused_plan}
@@ -30,7 +30,7 @@ plans_kept n o ts hs ls ws ds ps tr ms ds' ps' tr' ms' r fits e number =
 route_number : (t : Table) (ws : List ℕ) → ((routes_of t ws).number ≡ 0) ⊎ ((routes_of t ws).number ≡ 8)
 unfolding routes_of handed_over route_refusal no_refusal refusal
 route_number t ws =
-    ⊎_elim (λ (r : (auction t ws).routed ≡ true). inl (rw r)) (λ (r : (auction t ws).routed ≡ false). inr (rw r)) (true_or (auction t ws).routed)
+    ⊎_elim (λ (r : (auction t ws).routed ≡ true). inl (rw r)) (λ (r : (auction t ws).routed ≡ false). inr (rw r)) (cases_Bool (auction t ws).routed)
 
 pub refusals_touch_nothing : RefusalsTouchNothing
 unfolding RefusalsTouchNothing answered refused_plan

@@ -8,8 +8,8 @@ use native.Mathlib.Omega.{arith}
 use lib.Dec.{ltb}
 use lib.ListN.{length}
 use borrow.Author.Tests.{eq-eqb, ne_eqb, lt-ltb, ltb-true, both_ways}
+use Rattle.std.proofs.lemmas.Bool.{and_from, and_parts, and_right, cases_Bool, cases_eq}
 use Rattle.table.specs.Table.{Table, table, table_of, most_nodes, Below}
-use Rattle.table.proofs.Basics.{both_true, true_both, and_false, true_or, same_or}
 use Rattle.auction.specs.HandOver.{Answer, handed_over, how_many, distances, tree}
 use Rattle.auction.specs.Plan.{plan, routes_of}
 use Rattle.auction.specs.Demands.{walk_of, Demands, DemandsMet}
@@ -31,16 +31,16 @@ each_once o ts hs ws a v =
     record {
       once =
           λ low t.
-          let both = both_true (has_distance ds v) (holds v ws) t in
-          stands_once ds v ws (true_both (ltb v (node_count ds)) (has_distance ds v) (lt-ltb v (node_count ds) low) both.0) both.1;
+          let both = and_parts (has_distance ds v) (holds v ws) t in
+          stands_once ds v ws (and_from (ltb v (node_count ds)) (has_distance ds v) (lt-ltb v (node_count ds) low) both.0) both.1;
       never =
           λ h.
           ⊎_elim (λ (z : how_many v (path_nodes ds ws) ≡ 0). z)
           (λ (z : how_many v (path_nodes ds ws) ≡ 0 → ⊥).
           let l = line_wanted ds v ws (omega (arith, z)) in
-          let line = both_true (ltb v (node_count ds)) (has_distance ds v) l.0 in
-          absurd (both_ways (has_distance ds v && holds v ws) (h (ltb-true v (node_count ds) line.0)) (true_both (has_distance ds v) (holds v ws) line.1 l.1)))
-          (same_or (how_many v (path_nodes ds ws)) 0);
+          let line = and_parts (ltb v (node_count ds)) (has_distance ds v) l.0 in
+          absurd (both_ways (has_distance ds v && holds v ws) (h (ltb-true v (node_count ds) line.0)) (and_from (has_distance ds v) (holds v ws) line.1 l.1)))
+          (cases_eq (how_many v (path_nodes ds ws)) 0);
     }
 
 pub in_order : InOrder
@@ -107,7 +107,7 @@ module _ (n o : ℕ) (ts hs ls ws ds ps tr ms : List ℕ) (low : Below (2 ^ 32) 
   unfolding has_line listed PlansListed
   path_shown v c =
       let line = (line_wanted a.distances v ws c).0 in
-      let has = (both_true (ltb v (node_count a.distances)) (has_distance a.distances v) line).1 in
+      let has = (and_parts (ltb v (node_count a.distances)) (has_distance a.distances v) line).1 in
       let g = plans_listed n o ts hs ls ws ds ps tr ms v low number (has_given a v has) in
       ap (λ l. path_line v l.nodes) (g.roomy most_nodes (omega (arith, g.within, few, long.1)))
 
@@ -122,15 +122,15 @@ module _ (n o : ℕ) (ts hs ls ws ds ps tr ms : List ℕ) (low : Below (2 ^ 32) 
         no_others = λ v d. absent (has_distance a.distances) v (node_count a.distances) 0 (λ x y. not_given a v d);
         paths =
             λ v g w.
-            (each_once o ts hs ws a v).once (omega (arith, count, given_low a v g)) (true_both (has_distance a.distances v) (holds v ws) (given_has a v g) w);
+            (each_once o ts hs ws a v).once (omega (arith, count, given_low a v g)) (and_from (has_distance a.distances v) (holds v ws) (given_has a v g) w);
         no_other_paths =
             λ v d.
             (each_once o ts hs ws a v).never
             (λ x.
             ⊎_elim
-            (λ (h : has_distance a.distances v ≡ true). and_false (has_distance a.distances v) (holds v ws) (d (has_given a v h)))
+            (λ (h : has_distance a.distances v ≡ true). and_right (has_distance a.distances v) (holds v ws) (d (has_given a v h)))
             (λ (h : has_distance a.distances v ≡ false). rw h refl)
-            (true_or (has_distance a.distances v)));
+            (cases_Bool (has_distance a.distances v)));
         nearest_first = in_order o ts hs ws a;
         tallied = record { all = demands.marks_all; tree = demands.marks_tree };
         reached = reached_lines;

@@ -7,9 +7,9 @@ use Prim.Native.Nat.{ℕ}
 use native.Mathlib.Omega.{arith}
 use lib.ListN.{length}
 use borrow.Author.Tests.{ne_eqb}
+use Rattle.std.proofs.lemmas.Bool.{cases_eq}
 use Rattle.table.specs.Table.{table_of}
 use Rattle.table.specs.Refusals.{Refusal}
-use Rattle.table.proofs.Basics.{same_or}
 use Rattle.auction.specs.HandOver.{Answer}
 use Rattle.auction.specs.Plan.{plan_refusal, plan, routes_of, refused_plan}
 use Rattle.auction.proofs.Made.{refusal_low, routes_so}
@@ -42,4 +42,4 @@ module _ (n o : ℕ) (ts hs ls ws : List ℕ) where
       refused_line_only ds ps tr ms z
       ∙ ap (λ (f : Refusal). refused_line f.number f.place ∷ []) same
       ∙ sym (refused_line_only ds' ps' tr' ms' (λ e. z (ap (λ (f : Refusal). f.number) same ∙ e))))
-      (same_or (plan_refusal n o ts hs ls ws ds ps tr ms).number 0)
+      (cases_eq (plan_refusal n o ts hs ls ws ds ps tr ms).number 0)

@@ -9,9 +9,9 @@ use native.Mathlib.Omega.{arith}
 use lib.Dec.{leb}
 use lib.ListN.{get_or}
 use borrow.Author.Tests.{ne_eqb, leb-true, leb-false, le-leb, lt-leb}
+use Rattle.std.proofs.lemmas.Bool.{cases_Bool}
 use Rattle.table.specs.Table.{Table, arc_count, tail_at, head_at, length_at, no_arc}
 use Rattle.auction.specs.Auction.{State, Bid, bid, offer, offers, takes, best_from, to_child, with_bid, lower_bid, price_at}
-use Rattle.table.proofs.Basics.{true_or}
 use Rattle.forward_star.specs.Lists.{star, Outgoing}
 use Rattle.forward_star.proofs.Along.{OwnArcs, OnList, here_left, own_first, own_next, none_left}
 use Rattle.steps.specs.Steps.{lower_of}
@@ -38,15 +38,15 @@ lower_bid_same a b (some c) =
     let h : a.value ≤ c.value = omega (arith, leb-true b.value c.value p, leb-true a.value b.value q) in
     rw (p, q, le-leb a.value c.value h))
     (λ (q : leb a.value b.value ≡ false). rw (p, q, p))
-    (true_or (leb a.value b.value)))
+    (cases_Bool (leb a.value b.value)))
     (λ (p : leb b.value c.value ≡ false).
     ⊎_elim
     (λ (q : leb a.value b.value ≡ true). rw (p, q))
     (λ (q : leb a.value b.value ≡ false).
     let h : c.value < a.value = omega (arith, leb-false b.value c.value p, leb-false a.value b.value q) in
     rw (p, q, p, lt-leb a.value c.value h))
-    (true_or (leb a.value b.value)))
-    (true_or (leb b.value c.value))
+    (cases_Bool (leb a.value b.value)))
+    (cases_Bool (leb b.value c.value))
 
 pub lower_of_none : (a : Option Bid) → lower_of a none ≡ a
 unfolding lower_of lower_bid

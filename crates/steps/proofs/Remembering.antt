@@ -7,9 +7,9 @@ use Prim.Native.Nat.{ℕ, ◌<◌}
 use lib.ListN.{length, get_or, set}
 use lib.Seq.{get_or-set_same, get_or-set_other}
 use borrow.Author.Tests.{both_ways}
+use Rattle.std.proofs.lemmas.Bool.{cases_eq, false_from_ne_true}
 use Rattle.table.specs.Table.{Table, head_at}
 use Rattle.auction.specs.Auction.{State, state, kept_at, status_at, is_kept, is_deleted, to_child}
-use Rattle.table.proofs.Basics.{same_or, refuted}
 use Rattle.steps.specs.declared.state.Progress.{Progress}
 use Rattle.steps.specs.Seen.{seen}
 use Rattle.steps.specs.Memory.{KeptArcs, Keeps, Loses, Remembering}
@@ -49,7 +49,7 @@ marked_alike p u b k s g v h e =
       kept = λ w. refl;
       gone = λ w.
           ⊎_elim (λ (z : w ≡ v). rw (z, get_or-set_same s v 1 0 h, e)) (λ (d : w ≡ v → ⊥). rw (get_or-set_other s v w 1 0 d))
-          (same_or w v);
+          (cases_eq w v);
     }
 
 -- IN TWO STEPS, the second from y to z
@@ -86,7 +86,7 @@ module _ {t : Table} {u : ℕ} {m' m'' : List ℕ} {x y z : State} where
         arc = a.arc;
         listed = a.listed;
         child = a.child;
-        lost = refuted (to_child t u a.arc z) (λ e. both_ways (to_child t u a.arc y) a.lost (b.gains_none a.arc e));
+        lost = false_from_ne_true (to_child t u a.arc z) (λ e. both_ways (to_child t u a.arc y) a.lost (b.gains_none a.arc e));
         gains_none = λ i e. a.gains_none i (b.gains_none i e);
         memory = b.memory;
       }

@@ -5,8 +5,8 @@ use mathlib.Core.Logic.{⊎_elim}
 use Prim.Native.Nat.{ℕ, ◌≤◌, ◌<◌}
 use native.Mathlib.Omega.{arith}
 use borrow.Author.Tests.{eq-eqb, ne_eqb, both_ways}
+use Rattle.std.proofs.lemmas.Bool.{cases_Bool}
 use Rattle.table.specs.Table.{Table, arc_at, length_at, tail_at, present, present_at, most_nodes, down, no_node}
-use Rattle.table.proofs.Basics.{true_or}
 
 module _ (t : Table) (i : ℕ) where
   -- a present arc leaves its tail, an absent one no node
@@ -22,7 +22,7 @@ module _ (t : Table) (i : ℕ) where
   pub leaves_present : t.n ≤ most_nodes → tail_at t i < t.n → present_at t i ≡ true
   leaves_present few low =
       ⊎_elim (λ (p : present_at t i ≡ true). p) (λ (p : present_at t i ≡ false). absurd (omega (arith, few, low, absent_tail p)))
-      (true_or (present_at t i))
+      (cases_Bool (present_at t i))
 
   -- an arc is absent just where its length says that its link is down
   pub down_absent : length_at t i ≡ down → present_at t i ≡ false

@@ -7,9 +7,9 @@ use Prim.Native.Nat.{ℕ, suc, ◌+◌, ◌≤◌, ◌<◌}
 use native.Mathlib.Omega.{arith}
 use lib.ListN.{length, get_or}
 use borrow.Author.Tests.{eq-eqb, ne_eqb}
+use Rattle.std.proofs.lemmas.Bool.{cases_eq}
 use Rattle.table.specs.Table.{Table, arc_count, tail_at, head_at, length_at}
 use Rattle.auction.specs.Auction.{State, Bid, state, price_at, kept_at, status_at, or_zero, terminal, without_terminal, contraction, iterations, unreached, reached, deleted}
-use Rattle.table.proofs.Basics.{same_or}
 use Rattle.auction.proofs.Sums.{total, total_same, total_trade}
 use Rattle.auction.proofs.Good.{Good}
 use Rattle.auction.proofs.Steps.Effects.{estimate, same_distance, same_estimate, Repriced, repriced, status_in}
@@ -58,12 +58,12 @@ module _ (t : Table) (g : Good t) (x : State) (dep : ℕ → ℕ) (s : Sound t x
   was_lower = omega (arith, effect.here, same_distance x y v (effect.bounds v), less)
 
   rises : (u : ℕ) → estimate x u ≤ estimate y u
-  rises u = ⊎_elim (λ (e : u ≡ v). omega (arith, was_lower, ap (estimate x) e, ap (estimate y) e)) (λ (d : u ≡ v → ⊥). omega (arith, same_at u d)) (same_or u v)
+  rises u = ⊎_elim (λ (e : u ≡ v). omega (arith, was_lower, ap (estimate x) e, ap (estimate y) e)) (λ (d : u ≡ v → ⊥). omega (arith, same_at u d)) (cases_eq u v)
 
   price_rises : (u : ℕ) → price_at x u ≤ price_at y u
   price_rises u =
       ⊎_elim (λ (e : u ≡ v). omega (arith, less, effect.here, ap (price_at x) e, ap (price_at y) e)) (λ (d : u ≡ v → ⊥). omega (arith, (effect.others u d).price))
-      (same_or u v)
+      (cases_eq u v)
 
   -- no child is passed
   under : (i : ℕ) → i < arc_count t → Child t v i x → estimate y v ≤ estimate x (head_at t i)
@@ -94,7 +94,7 @@ module _ (t : Table) (g : Good t) (x : State) (dep : ℕ → ℕ) (s : Sound t x
             } in
             omega (arith, ap (estimate y) at_v, under i a.listed c, ap (estimate x) a.into, same_at u apart))
             (λ (d : tail_at t i ≡ v → ⊥). omega (arith, same_at (tail_at t i) d, l.rising, rises u))
-            (same_or (tail_at t i) v);
+            (cases_eq (tail_at t i) v);
       }
 
   contracted_nodes : Nodes t y dep
@@ -136,7 +136,7 @@ module _ (t : Table) (g : Good t) (x : State) (dep : ℕ → ℕ) (s : Sound t x
             λ u.
             ⊎_elim (λ (e : u ≡ v). omega (arith, ap (estimate y) e, lifted, nodes.small_estimate child))
             (λ (d : u ≡ v → ⊥). omega (arith, same_at u d, nodes.small_estimate u))
-            (same_or u v);
+            (cases_eq u v);
       }
 
   contracted_relaxed : (i : ℕ) → i < arc_count t → unreached < status_at y (tail_at t i) → Relaxed t y i
@@ -170,7 +170,7 @@ module _ (t : Table) (g : Good t) (x : State) (dep : ℕ → ℕ) (s : Sound t x
       (λ (d : v ≡ t.origin → ⊥).
       subst (λ (p : List ℕ). Chain t y p × (length p ≡ suc (dep (get_or p 0 0)))) (sym (leaves_path d))
       (pop nodes y x.path s.chain d s.path_depth (λ u h l. effect.others u (shallower u l))))
-      (same_or v t.origin) in
+      (cases_eq v t.origin) in
       record { nodes = contracted_nodes; relaxed = contracted_relaxed; chain = path.0; path_depth = path.1 }
 
   -- the potential falls
@@ -195,7 +195,7 @@ module _ (t : Table) (g : Good t) (x : State) (dep : ℕ → ℕ) (s : Sound t x
   path_length =
       ⊎_elim (λ (e : v ≡ t.origin). omega (arith, ap length (stays_path e)))
       (λ (d : v ≡ t.origin → ⊥). omega (arith, ap length (leaves_path d), shorter x.path))
-      (same_or v t.origin)
+      (cases_eq v t.origin)
 
   contracted_counts : Counts t y dep
   unfolding contraction state

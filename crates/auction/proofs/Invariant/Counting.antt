@@ -8,10 +8,10 @@ use native.Mathlib.Omega.{arith}
 use lib.Dec.{eqb}
 use lib.ListN.{length}
 use borrow.Author.Tests.{eq-eqb, ne_eqb}
+use Rattle.std.proofs.lemmas.Bool.{cases_eq}
 use Rattle.table.specs.Table.{Table, tail_at}
 use Rattle.auction.specs.Auction.{State, price_at, kept_at, status_at, distance, terminal, iterations, most_iterations, unreached, deleted}
 use Rattle.auction.specs.HandOver.{reached_count}
-use Rattle.table.proofs.Basics.{same_or}
 use Rattle.auction.proofs.Sums.{total, total_le, total_const, total_one, only_at, only_same, only_other}
 use Rattle.auction.proofs.Good.{Good}
 use Rattle.auction.proofs.Invariant.Sound.{Sound, terminal_status, reached_low}
@@ -85,8 +85,8 @@ module _ {t : Table} (g : Good t) {x : State} {dep : ℕ → ℕ} (s : Sound t x
       (λ (d : v ≡ o → ⊥).
       ⊎_elim (λ (q : status_at x v ≡ deleted). omega (arith, only_other o 1 v d, deleted_one x v q))
       (λ (q : status_at x v ≡ deleted → ⊥). omega (arith, only_other o 1 v d, undeleted_none x v q))
-      (same_or (status_at x v) deleted))
-      (same_or v o)) in
+      (cases_eq (status_at x v) deleted))
+      (cases_eq v o)) in
       omega (arith, a, c.deleted, total_one t.n (one_if_deleted x) o 1 g.origin_in, total_const t.n 1)
 
   pub path_short : length x.path ≤ t.n

@@ -4,10 +4,10 @@ use mathlib.Core.Logic.{⊎_elim}
 use mathlib.Core.Option.{none, some}
 use Prim.Native.Nat.{ℕ, ◌+◌, ◌<◌}
 use native.Mathlib.Omega.{arith}
+use Rattle.std.proofs.lemmas.Bool.{cases_eq}
 use Rattle.table.specs.Table.{Table, tail_at, head_at, length_at}
 use Rattle.auction.specs.Auction.{State, state, kept_at, status_at, or_zero, terminal, deletion, best, iterations, unreached, reached, deleted}
 use Rattle.auction.specs.HandOver.{reached_count}
-use Rattle.table.proofs.Basics.{same_or}
 use Rattle.auction.proofs.Sums.{total_le, total_same, total_one, only_at, only_same, only_other}
 use Rattle.auction.proofs.Good.{Good}
 use Rattle.auction.proofs.Steps.Effects.{Same, estimate, same_distance, Restatused, deletion_effect, status_in}
@@ -48,26 +48,26 @@ module _ (t : Table) (g : Good t) (x : State) (dep : ℕ → ℕ) (s : Sound t x
 
   still : (u : ℕ) → unreached < status_at x u → unreached < status_at left u
   still u h =
-      ⊎_elim (λ (e : u ≡ gone). omega (arith, change.here, ap (status_at left) e)) (λ (d : u ≡ gone → ⊥). omega (arith, change.elsewhere u d, h)) (same_or u gone)
+      ⊎_elim (λ (e : u ≡ gone). omega (arith, change.here, ap (status_at left) e)) (λ (d : u ≡ gone → ⊥). omega (arith, change.elsewhere u d, h)) (cases_eq u gone)
 
   earlier : (u : ℕ) → unreached < status_at left u → unreached < status_at x u
   earlier u h =
-      ⊎_elim (λ (e : u ≡ gone). omega (arith, gone_status, ap (status_at x) e)) (λ (d : u ≡ gone → ⊥). omega (arith, change.elsewhere u d, h)) (same_or u gone)
+      ⊎_elim (λ (e : u ≡ gone). omega (arith, gone_status, ap (status_at x) e)) (λ (d : u ≡ gone → ⊥). omega (arith, change.elsewhere u d, h)) (cases_eq u gone)
 
   still_deleted : (u : ℕ) → status_at x u ≡ deleted → status_at left u ≡ deleted
   still_deleted u q =
-      ⊎_elim (λ (e : u ≡ gone). ap (status_at left) e ∙ change.here) (λ (d : u ≡ gone → ⊥). change.elsewhere u d ∙ q) (same_or u gone)
+      ⊎_elim (λ (e : u ≡ gone). ap (status_at left) e ∙ change.here) (λ (d : u ≡ gone → ⊥). change.elsewhere u d ∙ q) (cases_eq u gone)
 
   never : (u : ℕ) → status_at left u ≡ unreached → status_at x u ≡ unreached
   never u e =
-      ⊎_elim (λ (q : u ≡ gone). absurd (omega (arith, change.here, ap (status_at left) q))) (λ (d : u ≡ gone → ⊥). sym (change.elsewhere u d) ∙ e) (same_or u gone)
+      ⊎_elim (λ (q : u ≡ gone). absurd (omega (arith, change.here, ap (status_at left) q))) (λ (d : u ≡ gone → ⊥). sym (change.elsewhere u d) ∙ e) (cases_eq u gone)
 
   as_before : reached_count t left ≡ reached_count t x
   as_before =
       as_reached t x left
       (λ u e.
       ⊎_elim (λ (q : u ≡ gone). absurd (omega (arith, gone_status, ap (status_at x) q))) (λ (d : u ≡ gone → ⊥). change.elsewhere u d ∙ e)
-      (same_or u gone))
+      (cases_eq u gone))
       still
 
   deleted_live : (u i : ℕ) → kept_at left u ≡ some i → (status_at left u ≡ deleted → ⊥) → LiveArc t left u i
@@ -98,7 +98,7 @@ module _ (t : Table) (g : Good t) (x : State) (dep : ℕ → ℕ) (s : Sound t x
         status_low =
             λ u.
             ⊎_elim (λ (e : u ≡ gone). omega (arith, change.here, ap (status_at left) e)) (λ (d : u ≡ gone → ⊥). omega (arith, change.elsewhere u d, before.status_low u))
-            (same_or u gone);
+            (cases_eq u gone);
         kept =
             λ u i e.
             let a = before.kept u i (sym (change.kepts u) ∙ e) in
@@ -164,7 +164,7 @@ module _ (t : Table) (g : Good t) (x : State) (dep : ℕ → ℕ) (s : Sound t x
         undeleted_none x u (λ (q : status_at x u ≡ deleted). omega (arith, gone_status, ap (status_at x) e)),
       ))
       (λ (d : u ≡ gone → ⊥). omega (arith, only_other gone 1 u d, same_deleted x left u (change.elsewhere u d)))
-      (same_or u gone)) in
+      (cases_eq u gone)) in
       record {
         contracted = omega (arith, low, k.contracted, ap (stages t.n) as_before);
         deleted = omega (arith, k.deleted, one_more, total_one t.n (one_if_deleted x) gone 1 gone_in);

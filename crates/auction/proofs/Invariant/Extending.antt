@@ -7,10 +7,11 @@ use mathlib.Core.Option.{some}
 use Prim.Native.Nat.{ℕ, suc, ◌+◌, ◌≤◌, ◌<◌}
 use native.Mathlib.Omega.{arith}
 use lib.ListN.{length, get_or}
+use Rattle.std.proofs.lemmas.Bool.{cases_Bool, cases_eq}
 use Rattle.table.specs.Table.{Table, arc_count, tail_at, head_at, length_at}
 use Rattle.auction.specs.Auction.{State, Bid, state, price_at, bound_at, kept_at, status_at, distance, or_zero, was_reached, terminal, longer, extension, with_status, reach, iterations, unreached, reached, deleted}
 use Rattle.auction.specs.HandOver.{reached_count}
-use Rattle.table.proofs.Basics.{same_or, true_or, some_none}
+use Rattle.table.proofs.Basics.{some_none}
 use Rattle.auction.proofs.Sums.{total_le, total_same}
 use Rattle.auction.proofs.Good.{Good}
 use Rattle.auction.proofs.Steps.Effects.{Sizes, Same, estimate, same_distance, same_estimate, Restatused, restatused, longer_same, longer_sizes, kept_below, reached_status, unreached_status}
@@ -181,14 +182,14 @@ module _ (t : Table) (g : Good t) (x : State) (dep : ℕ → ℕ) (s : Sound t x
     -- which nodes are reached: those of before, and j
     still : (u : ℕ) → unreached < status_at x u → unreached < status_at z u
     still u h =
-        ⊎_elim (λ (e : u ≡ j). omega (arith, marked.here, ap (status_at z) e)) (λ (d : u ≡ j → ⊥). omega (arith, elsewhere u d, h)) (same_or u j)
+        ⊎_elim (λ (e : u ≡ j). omega (arith, marked.here, ap (status_at z) e)) (λ (d : u ≡ j → ⊥). omega (arith, elsewhere u d, h)) (cases_eq u j)
 
     reached_cases : (u : ℕ) → unreached < status_at z u → (u ≡ j) ⊎ (unreached < status_at x u)
-    reached_cases u h = ⊎_elim (λ (e : u ≡ j). inl e) (λ (d : u ≡ j → ⊥). inr (omega (arith, elsewhere u d, h))) (same_or u j)
+    reached_cases u h = ⊎_elim (λ (e : u ≡ j). inl e) (λ (d : u ≡ j → ⊥). inr (omega (arith, elsewhere u d, h))) (cases_eq u j)
 
     never : (u : ℕ) → status_at z u ≡ unreached → status_at x u ≡ unreached
     never u e =
-        ⊎_elim (λ (q : u ≡ j). absurd (omega (arith, marked.here, ap (status_at z) q))) (λ (d : u ≡ j → ⊥). sym (elsewhere u d) ∙ e) (same_or u j)
+        ⊎_elim (λ (q : u ≡ j). absurd (omega (arith, marked.here, ap (status_at z) q))) (λ (d : u ≡ j → ⊥). sym (elsewhere u d) ∙ e) (cases_eq u j)
 
     still_deleted : (u : ℕ) → status_at x u ≡ deleted → status_at z u ≡ deleted
     still_deleted u q = elsewhere u (λ (e : u ≡ j). omega (arith, j_status, ap (status_at x) e)) ∙ q
@@ -214,7 +215,7 @@ module _ (t : Table) (g : Good t) (x : State) (dep : ℕ → ℕ) (s : Sound t x
           status_low =
               λ u.
               ⊎_elim (λ (e : u ≡ j). omega (arith, marked.here, ap (status_at z) e)) (λ (d : u ≡ j → ⊥). omega (arith, elsewhere u d, nodes.status_low u))
-              (same_or u j);
+              (cases_eq u j);
           kept =
               λ u i e.
               let a = nodes.kept u i (sym (kepts u) ∙ e) in
@@ -331,7 +332,7 @@ module _ (t : Table) (g : Good t) (x : State) (dep : ℕ → ℕ) (s : Sound t x
         undeleted_none x u (λ (q : status_at x u ≡ deleted). omega (arith, j_status, ap (status_at x) e))
         ∙ sym (undeleted_none y u (λ (q : status_at y u ≡ deleted). omega (arith, m.statuses u, marked.here, ap (status_at z) e))))
         (λ (d : u ≡ j → ⊥). sym (same_deleted x y u (m.statuses u ∙ elsewhere u d)))
-        (same_or u j)) in
+        (cases_eq u j)) in
         record {
           contracted = omega (arith, gain, k.contracted, m.contractions);
           deleted = m.deletions ∙ k.deleted ∙ deleted_same;
@@ -380,7 +381,7 @@ module _ (t : Table) (g : Good t) (x : State) (dep : ℕ → ℕ) (s : Sound t x
   by_extension =
       ⊎_elim (λ (r : was_reached x j ≡ true). subst (λ (c : Bool). Stepped t x (cond c l (reach t j l))) (sym r) (onto_reached r))
       (λ (r : was_reached x j ≡ false). subst (λ (c : Bool). Stepped t x (cond c l (reach t j l))) (sym r) (onto_new r))
-      (true_or (was_reached x j))
+      (cases_Bool (was_reached x j))
 
   -- and makes no contraction and no deletion
   pub as_many : (extension t j x).contractions + (extension t j x).deletions ≡ x.contractions + x.deletions
@@ -388,4 +389,4 @@ module _ (t : Table) (g : Good t) (x : State) (dep : ℕ → ℕ) (s : Sound t x
   as_many =
       ⊎_elim (λ (r : was_reached x j ≡ true). rw r)
       (λ (r : was_reached x j ≡ false). let m = (done r).unmoved in rw r (omega (arith, m.contractions, m.deletions)))
-      (true_or (was_reached x j))
+      (cases_Bool (was_reached x j))

@@ -12,10 +12,11 @@ use native.Mathlib.Omega.{arith}
 use native.Mathlib.Nat.{mul-add, mul-zero, mul-one}
 use lib.Dec.{ltb}
 use borrow.Author.Tests.{not-true, ltb-true, lt-ltb, le-ltb}
+use Rattle.std.proofs.lemmas.Bool.{and_parts, cases_Bool, cases_eq}
 use Rattle.table.specs.Table.{Table, tail_at}
 use Rattle.auction.specs.Auction.{State, kept_at, status_at, is_deleted, unreached, deleted}
 use Rattle.auction.specs.HandOver.{reached_count}
-use Rattle.table.proofs.Basics.{same_or, true_or, both_true, option_or}
+use Rattle.table.proofs.Basics.{option_or}
 use Rattle.auction.proofs.Sums.{total, total_le, total_add, total_scale, total_const}
 use Rattle.auction.proofs.Steps.Effects.{estimate, deleted_status, undeleted_status}
 use Rattle.auction.proofs.Invariant.Sound.{Nodes, reached_low, one_if_reached, reached_one, unreached_none, reached_total}
@@ -54,7 +55,7 @@ module _ (t : Table) (x : State) (dep : ℕ → ℕ) (v : ℕ) where
   unfolding slack loose
   slack_loose k e d h =
       let live : is_deleted x v ≡ false =
-      ⊎_elim (λ (p : is_deleted x v ≡ true). absurd (d (deleted_status x v p))) (λ (p : is_deleted x v ≡ false). p) (true_or (is_deleted x v)) in
+      ⊎_elim (λ (p : is_deleted x v ≡ true). absurd (d (deleted_status x v p))) (λ (p : is_deleted x v ≡ false). p) (cases_Bool (is_deleted x v)) in
       rw (e, live, lt-ltb (estimate x (tail_at t k)) (estimate x v) h)
 
   -- the node is loose
@@ -67,7 +68,7 @@ module _ (t : Table) (x : State) (dep : ℕ → ℕ) (v : ℕ) where
   loose_arc : (k : ℕ) → kept_at x v ≡ some k → loose t x v (some k) ≡ true → Loose
   unfolding loose
   loose_arc k e l =
-      let p = both_true (not (is_deleted x v)) (ltb (estimate x (tail_at t k)) (estimate x v)) l in
+      let p = and_parts (not (is_deleted x v)) (ltb (estimate x (tail_at t k)) (estimate x v)) l in
       record {
         by_arc = k;
         kept = e;
@@ -82,7 +83,7 @@ module _ (t : Table) (x : State) (dep : ℕ → ℕ) (v : ℕ) where
       ⊎_elim (λ (n : kept_at x v ≡ none). inl (slack_unkept n))
       (λ (k : (k : ℕ) × (kept_at x v ≡ some k)).
       ⊎_elim (λ (l : loose t x v (some k.0) ≡ true). inr (loose_arc k.0 k.1 l)) (λ (l : loose t x v (some k.0) ≡ false). inl (rw (k.1, l)))
-      (true_or (loose t x v (some k.0))))
+      (cases_Bool (loose t x v (some k.0))))
       (option_or (kept_at x v))
 
 -- a node that is loose only where it was before
@@ -123,7 +124,7 @@ reach_sum t y dep f s low =
     let h : unreached < status_at y u = omega arith in
     let one_there : r * one u ≡ r = ap (λ (a : ℕ). r * a) (reached_one y u h) ∙ mul-one r in
     omega (arith, low u h))
-    (same_or (status_at y u) unreached) in
+    (cases_eq (status_at y u) unreached) in
     let a = total_le t.n (λ u. slack t y dep u + r * one u) (λ u. f u + r) each in
     let b = total_add t.n (slack t y dep) (λ u. r * one u) in
     let c = total_scale t.n r one in

@@ -8,9 +8,10 @@ use native.Mathlib.Omega.{arith}
 use lib.Dec.{eqb}
 use lib.ListN.{length}
 use borrow.Author.Tests.{eq-eqb, ne_eqb}
+use Rattle.std.proofs.lemmas.Bool.{cases_Bool, cases_eq}
 use Rattle.table.specs.Table.{Table, arc_count, tail_at, head_at, length_at, longest}
 use Rattle.auction.specs.Auction.{State, state, price_at, bound_at, kept_at, status_at, distance, or_zero, terminal, takes, with_kept, offer, offers, unreached, reached, deleted}
-use Rattle.table.proofs.Basics.{same_or, true_or, option_or, some_none, some_same}
+use Rattle.table.proofs.Basics.{option_or, some_none, some_same}
 use Rattle.auction.proofs.Good.{Good}
 use Rattle.auction.proofs.Steps.Effects.{Same, estimate, same_distance, same_estimate, known_distance, Rehung, rehung}
 use Rattle.auction.proofs.Steps.Offers.{Taken, NoBetter, taken, dropped}
@@ -170,7 +171,7 @@ module _ (t : Table) (g : Good t) (j q : ℕ) (x : State) (dep : ℕ → ℕ) (l
   kept_cases v i e =
       ⊎_elim (λ (h : v ≡ u). inl (h, some_same e (ap (kept_at y) h ∙ effect.kept)))
       (λ (h : v ≡ u → ⊥). inr (h, sym (effect.others v h).kept ∙ e))
-      (same_or v u)
+      (cases_eq v u)
 
   small : b ≤ suc (dep j) * longest
   unfolding b
@@ -223,12 +224,12 @@ module _ (t : Table) (g : Good t) (j q : ℕ) (x : State) (dep : ℕ → ℕ) (l
             λ v e h.
             ⊎_elim (λ (q : v ≡ u). absurd (some_none (ap (kept_at y) q ∙ effect.kept) e))
             (λ (d : v ≡ u → ⊥). (effect.others v d).bound ∙ nodes.unkept v (sym (effect.others v d).kept ∙ e) h)
-            (same_or v u);
+            (cases_eq v u);
         unbounded =
             λ v e.
             ⊎_elim (λ (q : v ≡ u). absurd (some_none (ap (bound_at y) q ∙ effect.bound) e))
             (λ (d : v ≡ u → ⊥). effect.statuses v ∙ nodes.unbounded v (sym (effect.others v d).bound ∙ e))
-            (same_or v u);
+            (cases_eq v u);
         unpriced = λ v e. effect.prices v ∙ nodes.unpriced v (sym (effect.statuses v) ∙ e);
         live =
             λ v i e h.
@@ -257,13 +258,13 @@ module _ (t : Table) (g : Good t) (j q : ℕ) (x : State) (dep : ℕ → ℕ) (l
             (λ (e : v ≡ u). omega (arith, ap (distance y) e, new_distance, depth_here u (suc (dep j)) dep v e, small))
             (λ (d : v ≡ u → ⊥).
             omega (arith, same_distance x y v (effect.others v d).bound, depth_else u (suc (dep j)) dep v d, nodes.small_distance v))
-            (same_or v u);
+            (cases_eq v u);
         small_estimate =
             λ v.
             ⊎_elim
             (λ (e : v ≡ u). omega (arith, ap (estimate y) e, new_estimate, small, nodes.shallow j (omega (arith, s.status)), reached_low t x))
             (λ (d : v ≡ u → ⊥). omega (arith, same_estimate (effect.others v d), nodes.small_estimate v))
-            (same_or v u);
+            (cases_eq v u);
       }
 
   -- the arcs offered before, and this one
@@ -314,8 +315,8 @@ module _ (t : Table) (g : Good t) (j q : ℕ) (x : State) (dep : ℕ → ℕ) (l
         low = omega (arith, old.low);
         earliest = λ e. omega (arith, ap or_zero same.kept, old.earliest (omega arith));
       })
-      (same_or (head_at t i) u))
-      (same_or i q)
+      (cases_eq (head_at t i) u))
+      (cases_eq i q)
 
   kept_unmoved : Unmoved t j x y dep dep'
   unfolding y with_kept state
@@ -393,9 +394,9 @@ module _ (t : Table) (g : Good t) (j q : ℕ) (x : State) (dep : ℕ → ℕ) (l
             ⊎_elim
             (λ (leaves : tail_at t q ≡ j). subst (λ (a : ℕ). Relaxed t x a) (sym at_q) (dropped_here e leaves))
             (λ (stays : tail_at t q ≡ j → ⊥). s.relaxed i h r (λ (l : tail_at t i ≡ j). absurd (stays (ap (tail_at t) (sym at_q) ∙ l))))
-            (same_or (tail_at t q) j))
+            (cases_eq (tail_at t q) j))
             (λ (d : i ≡ q → ⊥). s.relaxed i h r (λ (l : tail_at t i ≡ j). omega (arith, passed l, d)))
-            (same_or i q);
+            (cases_eq i q);
         chain = s.chain;
         path_depth = s.path_depth;
         status = s.status;
@@ -421,7 +422,7 @@ module _ (t : Table) (g : Good t) (j : ℕ) where
       (λ (e : takes t j q x ≡ false).
       subst (λ (y : State). Offered t j (suc q) x y dep) (sym (offer_dropped t j q x e))
       (record { depth = dep; reaching = dropped_reaching t g j q x dep h s e; unmoved = unmoved t j x dep }))
-      (true_or (takes t j q x))
+      (cases_Bool (takes t j q x))
 
   pub all_offered : (left q : ℕ) (x : State) (dep : ℕ → ℕ) → q + left ≡ arc_count t → Reaching t j q x dep →
       Offered t j (arc_count t) x (offers left q t j x) dep

@@ -14,10 +14,11 @@ use mathlib.Core.Option.{none, some}
 use Prim.Native.Nat.{ℕ, zero, suc, ◌+◌, ◌*◌, ◌≤◌, ◌<◌}
 use native.Mathlib.Omega.{arith}
 use lib.ListN.{length, get_or}
+use Rattle.std.proofs.lemmas.Bool.{cases_eq}
 use Rattle.table.specs.Table.{Table, arc_count, tail_at, head_at, length_at, longest}
 use Rattle.auction.specs.Auction.{State, price_at, bound_at, kept_at, status_at, distance, or_zero, was_reached, terminal, unreached, reached, deleted}
 use Rattle.auction.specs.HandOver.{reached_count}
-use Rattle.table.proofs.Basics.{same_or, option_or}
+use Rattle.table.proofs.Basics.{option_or}
 use Rattle.auction.proofs.Sums.{total, total_same, total_le, total_const, total_one, only_at, only_same, only_other}
 use Rattle.auction.proofs.Steps.Effects.{Sizes, Same, estimate, same_estimate, known_distance, status_reached, status_unreached}
 
@@ -132,14 +133,14 @@ module _ {t : Table} {x : State} {dep : ℕ → ℕ} (s : Nodes t x dep) where
       ⊎_elim
       (λ (e : kept_at x v ≡ none).
       ⊎_elim (λ (o : v ≡ t.origin). omega (arith, origin_estimate, ap (estimate x) o)) (λ (o : v ≡ t.origin → ⊥). absurd (b (s.unkept v e o)))
-      (same_or v t.origin))
+      (cases_eq v t.origin))
       (λ (e : (k : ℕ) × (kept_at x v ≡ some k)). absurd (omega (arith, (s.kept v e.0 e.1).deeper)))
       (option_or (kept_at x v))
   ordered_at (suc k) v d b h =
       ⊎_elim
       (λ (e : kept_at x v ≡ none).
       ⊎_elim (λ (o : v ≡ t.origin). omega (arith, origin_estimate, ap (estimate x) o)) (λ (o : v ≡ t.origin → ⊥). absurd (b (s.unkept v e o)))
-      (same_or v t.origin))
+      (cases_eq v t.origin))
       (λ (e : (k : ℕ) × (kept_at x v ≡ some k)).
       let a = s.kept v e.0 e.1 in
       let l = s.live v e.0 e.1 h in
@@ -229,7 +230,7 @@ same_one x y v stays moves =
     (λ (d : status_at x v ≡ unreached → ⊥).
     let h : unreached < status_at x v = omega arith in
     reached_one y v (moves h) ∙ sym (reached_one x v h))
-    (same_or (status_at x v) unreached)
+    (cases_eq (status_at x v) unreached)
 
 pub reached_total : (t : Table) (x : State) → reached_count t x ≡ total t.n (one_if_reached x)
 unfolding reached_count one_if_reached
@@ -247,7 +248,7 @@ same_reached t x y h = as_reached t x y (λ v e. h v ∙ e) (λ v l. omega (arit
 pub one_low : (x : State) (v : ℕ) → one_if_reached x v ≤ 1
 one_low x v =
     ⊎_elim (λ (z : status_at x v ≡ unreached). omega (arith, unreached_none x v z)) (λ (d : status_at x v ≡ unreached → ⊥). omega (arith, reached_one x v (omega (arith, d))))
-    (same_or (status_at x v) unreached)
+    (cases_eq (status_at x v) unreached)
 
 pub reached_low : (t : Table) (x : State) → reached_count t x ≤ t.n
 reached_low t x =
@@ -265,5 +266,5 @@ one_more_reached t x y j h old new others =
     omega
     (arith, only_same j 1 v e, reached_one y v (omega (arith, new, ap (status_at y) e)), unreached_none x v (ap (status_at x) e ∙ old)))
     (λ (d : v ≡ j → ⊥). omega (arith, only_other j 1 v d, same_one x y v (λ e. others v d ∙ e) (λ p. omega (arith, others v d, p))))
-    (same_or v j)) in
+    (cases_eq v j)) in
     omega (arith, a, reached_total t x, reached_total t y, total_one t.n (one_if_reached x) j 1 h)

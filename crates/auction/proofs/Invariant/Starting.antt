@@ -7,10 +7,11 @@ use native.Mathlib.Omega.{arith}
 use native.Mathlib.Nat.{zero-mul}
 use lib.ListN.{length, get_or, replicate, length-set, length-replicate}
 use lib.Seq.{get_or-set_same, get_or-set_other}
+use Rattle.std.proofs.lemmas.Bool.{cases_eq}
 use Rattle.table.specs.Table.{Table, arc_count, tail_at}
 use Rattle.auction.specs.Auction.{State, state, price_at, bound_at, kept_at, status_at, distance, terminal, with_status, reach, fresh, start, iterations, unreached, reached, deleted}
 use Rattle.auction.specs.HandOver.{reached_count}
-use Rattle.table.proofs.Basics.{same_or, some_none}
+use Rattle.table.proofs.Basics.{some_none}
 use Rattle.auction.proofs.Sums.{total_same, total_const}
 use Rattle.auction.proofs.Good.{Good}
 use Rattle.auction.proofs.Steps.Effects.{Sizes, estimate, known_distance, zero_distance, Restatused, restatused}
@@ -68,14 +69,14 @@ module _ (t : Table) (g : Good t) where
 
   only_origin : (v : ℕ) → unreached < status_at first v → v ≡ o
   only_origin v h =
-      ⊎_elim (λ (e : v ≡ o). e) (λ (d : v ≡ o → ⊥). absurd (omega (arith, h, marked_origin.elsewhere v d, fresh_status v))) (same_or v o)
+      ⊎_elim (λ (e : v ≡ o). e) (λ (d : v ≡ o → ⊥). absurd (omega (arith, h, marked_origin.elsewhere v d, fresh_status v))) (cases_eq v o)
 
   first_distance : (v : ℕ) → distance first v ≡ 0
   first_distance v =
       ⊎_elim
       (λ (e : v ≡ o). known_distance first v 0 (marked_origin.bounds v ∙ ap (bound_at (fresh t)) e ∙ fresh_origin))
       (λ (d : v ≡ o → ⊥). zero_distance first v (marked_origin.bounds v ∙ fresh_bound v d))
-      (same_or v o)
+      (cases_eq v o)
 
   first_price : (v : ℕ) → price_at first v ≡ 0
   first_price v = marked_origin.prices v ∙ fresh_price v
@@ -100,7 +101,7 @@ module _ (t : Table) (g : Good t) where
         status_low =
             λ v.
             ⊎_elim (λ (e : v ≡ o). omega (arith, marked_origin.here, ap (status_at first) e)) (λ (d : v ≡ o → ⊥). omega (arith, marked_origin.elsewhere v d, fresh_status v))
-            (same_or v o);
+            (cases_eq v o);
         kept = λ v i e. absurd (some_none e (first_kept v));
         unkept = λ v e d. marked_origin.bounds v ∙ fresh_bound v d;
         unbounded =
@@ -108,7 +109,7 @@ module _ (t : Table) (g : Good t) where
             ⊎_elim
             (λ (q : v ≡ o). absurd (some_none (marked_origin.bounds v ∙ ap (bound_at (fresh t)) q ∙ fresh_origin) e))
             (λ (d : v ≡ o → ⊥). marked_origin.elsewhere v d ∙ fresh_status v)
-            (same_or v o);
+            (cases_eq v o);
         unpriced = λ v e. first_price v;
         live = λ v i e h. absurd (some_none e (first_kept v));
         level = λ v h. omega (arith, first_distance v);

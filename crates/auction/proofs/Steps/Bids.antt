@@ -7,9 +7,9 @@ use Prim.Native.Nat.{ℕ, zero, suc, ◌+◌, ◌≤◌, ◌<◌}
 use native.Mathlib.Omega.{arith}
 use lib.Dec.{leb, eqb}
 use borrow.Author.Tests.{leb-true, leb-false, eqb-true, eq-eqb, not-true, both_ways}
+use Rattle.std.proofs.lemmas.Bool.{and_parts, cases_Bool, cases_eq}
 use Rattle.table.specs.Table.{Table, arc_count, tail_at, head_at, length_at}
 use Rattle.auction.specs.Auction.{State, Bid, bid, price_at, kept_at, status_at, is_kept, is_deleted, to_child, lower_bid, with_bid, best_from, best, deleted}
-use Rattle.table.proofs.Basics.{same_or, true_or, both_true}
 use Rattle.auction.proofs.Steps.Effects.{undeleted_status, deleted_status}
 
 -- the arc at a position leads from v to a child of it
@@ -38,8 +38,8 @@ module _ (t : Table) (v : ℕ) (x : State) where
   pub child : (i : ℕ) → to_child t v i x ≡ true → Child t v i x
   unfolding to_child
   child i e =
-      let p = both_true (eqb (tail_at t i) v) (is_kept x i (kept_at x (head_at t i)) && not (is_deleted x (head_at t i))) e in
-      let q = both_true (is_kept x i (kept_at x (head_at t i))) (not (is_deleted x (head_at t i))) p.1 in
+      let p = and_parts (eqb (tail_at t i) v) (is_kept x i (kept_at x (head_at t i)) && not (is_deleted x (head_at t i))) e in
+      let q = and_parts (is_kept x i (kept_at x (head_at t i))) (not (is_deleted x (head_at t i))) p.1 in
       record {
         leaves = eqb-true (tail_at t i) v p.0;
         kept = kept_test x i (kept_at x (head_at t i)) q.0;
@@ -51,7 +51,7 @@ module _ (t : Table) (v : ℕ) (x : State) where
   child_test i c =
       let d : is_deleted x (head_at t i) ≡ false =
       ⊎_elim (λ (e : is_deleted x (head_at t i) ≡ true). absurd (c.undeleted (deleted_status x (head_at t i) e))) (λ (e : is_deleted x (head_at t i) ≡ false). e)
-      (true_or (is_deleted x (head_at t i))) in
+      (cases_Bool (is_deleted x (head_at t i))) in
       rw (eq-eqb (tail_at t i) v c.leaves, test_kept x i (kept_at x (head_at t i)) c.kept, d)
 
   -- the best of the bids from the positions a to a + k
@@ -74,7 +74,7 @@ module _ (t : Table) (v : ℕ) (x : State) where
   skipped k a none e s = λ i h l c.
       ⊎_elim (λ (p : i ≡ a). both_ways (to_child t v a x) e (ap (λ (j : ℕ). to_child t v j x) (sym p) ∙ child_test i c))
       (λ (d : i ≡ a → ⊥). s i (omega (arith, d)) (omega arith) c)
-      (same_or i a)
+      (cases_eq i a)
   skipped k a (some b) e s =
       let other : (i : ℕ) → Child t v i x → i ≡ a → ⊥ =
       λ i c p. both_ways (to_child t v a x) e (ap (λ (j : ℕ). to_child t v j x) (sym p) ∙ child_test i c) in
@@ -92,7 +92,7 @@ module _ (t : Table) (v : ℕ) (x : State) where
   unfolding Says lower_bid bid
   joined k a none c s =
       let only : (i : ℕ) → a ≤ i → i < a + suc k → Child t v i x → i ≡ a =
-      λ i h l d. ⊎_elim (λ (p : i ≡ a). p) (λ (q : i ≡ a → ⊥). absurd (s i (omega (arith, q)) (omega arith) d)) (same_or i a) in
+      λ i h l d. ⊎_elim (λ (p : i ≡ a). p) (λ (q : i ≡ a → ⊥). absurd (s i (omega (arith, q)) (omega arith) d)) (cases_eq i a) in
       record {
         from = omega arith;
         to = omega arith;
@@ -114,7 +114,7 @@ module _ (t : Table) (v : ℕ) (x : State) where
         least =
             λ i h l d.
             ⊎_elim (λ (p : i ≡ a). omega (arith, ap (bid_at t x) p)) (λ (q : i ≡ a → ⊥). omega (arith, s.least i (omega (arith, q)) (omega arith) d))
-            (same_or i a);
+            (cases_eq i a);
         first = λ i h l d. absurd (omega arith);
       }))
       (λ (e : leb (bid_at t x a) b.value ≡ false).
@@ -128,13 +128,13 @@ module _ (t : Table) (v : ℕ) (x : State) where
         least =
             λ i h l d.
             ⊎_elim (λ (p : i ≡ a). omega (arith, ap (bid_at t x) p)) (λ (q : i ≡ a → ⊥). s.least i (omega (arith, q)) (omega arith) d)
-            (same_or i a);
+            (cases_eq i a);
         first =
             λ i h l d.
             ⊎_elim (λ (p : i ≡ a). omega (arith, ap (bid_at t x) p)) (λ (q : i ≡ a → ⊥). s.first i (omega (arith, q)) l d)
-            (same_or i a);
+            (cases_eq i a);
       }))
-      (true_or (leb (bid_at t x a) b.value))
+      (cases_Bool (leb (bid_at t x a) b.value))
 
   best_says : (k a : ℕ) → Says k a (best_from k a t v x)
   unfolding Says best_from with_bid bid_at
@@ -147,7 +147,7 @@ module _ (t : Table) (v : ℕ) (x : State) where
       (λ (e : to_child t v a x ≡ false).
       subst (λ (r : Bool). Says (suc k) a (with_bid r (bid (bid_at t x a) a) (best_from k (suc a) t v x))) (sym e)
       (skipped k a (best_from k (suc a) t v x) e (best_says k (suc a))))
-      (true_or (to_child t v a x))
+      (cases_Bool (to_child t v a x))
 
   pub no_child : best t v x ≡ none → (i : ℕ) → i < arc_count t → Child t v i x → ⊥
   unfolding best Says

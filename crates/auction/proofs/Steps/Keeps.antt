@@ -10,16 +10,17 @@ use lib.Dec.{ltb}
 use lib.ListN.{length, get_or, set}
 use lib.Seq.{get_or-set_same, get_or-set_other}
 use borrow.Author.Tests.{ltb-true, eq-eqb, ne_eqb}
+use Rattle.std.proofs.lemmas.Bool.{cases_Bool, cases_eq}
 use Rattle.table.specs.Table.{Table, arc_count, head_at}
 use Rattle.auction.specs.Auction.{State, Bid, state, terminal, price_at, status_at, was_reached, best, takes, offer, offers, with_kept, with_status, reach, longer, extension, without_terminal, deletion, contraction, next, fresh, start, unreached, reached, deleted}
-use Rattle.table.proofs.Basics.{same_or, true_or, inside}
+use Rattle.table.proofs.Basics.{inside}
 use Rattle.auction.proofs.Steps.Kinds.{Kind, deletes, contracts, extends, kind}
 
 -- offering arcs changes neither the path nor a price
 offer_keeps : (t : Table) (v i : ℕ) (x : State) → ((offer t v i x).path ≡ x.path) × ((offer t v i x).price ≡ x.price)
 unfolding offer with_kept state
 offer_keeps t v i x =
-    ⊎_elim (λ (e : takes t v i x ≡ true). rw e (refl, refl)) (λ (e : takes t v i x ≡ false). rw e (refl, refl)) (true_or (takes t v i x))
+    ⊎_elim (λ (e : takes t v i x ≡ true). rw e (refl, refl)) (λ (e : takes t v i x ≡ false). rw e (refl, refl)) (cases_Bool (takes t v i x))
 
 offers_keep : (k i : ℕ) (t : Table) (v : ℕ) (x : State) → ((offers k i t v x).path ≡ x.path) × ((offers k i t v x).price ≡ x.price)
 unfolding offers
@@ -35,7 +36,7 @@ unfolding extension longer reach with_status state
 extension_keeps t j x =
     ⊎_elim (λ (e : was_reached x j ≡ true). rw e (refl, refl))
     (λ (e : was_reached x j ≡ false). rw e (offers_keep (arc_count t) 0 t j (with_status j reached (longer j x))))
-    (true_or (was_reached x j))
+    (cases_Bool (was_reached x j))
 
 pub start_path : (t : Table) → (start t).path ≡ t.origin ∷ []
 unfolding start reach with_status fresh state
@@ -73,7 +74,7 @@ module _ (t : Table) (x y : State) (e : next t x ≡ some y) where
       (shorter x.path some_node
       (ap (λ (c : Bool). length (cond c x.path (without_terminal x.path))) (sym (ne_eqb (terminal x) t.origin q))
       ∙ ap (λ (z : State). length z.path) same ∙ h)))
-      (same_or (terminal x) t.origin)
+      (cases_eq (terminal x) t.origin)
   same_long some_node inside (extends b there equal same) h =
       absurd (omega (arith, h, ap (λ (z : State). length z.path) same, ap length (extension_keeps t (head_at t b.by_arc) x).0))
 
@@ -93,7 +94,7 @@ module _ (t : Table) (x y : State) (e : next t x ≡ some y) where
       ∙ ap (λ (c : Bool). length (cond c x.path (without_terminal x.path))) (eq-eqb (terminal x) t.origin q))))
       (λ (q : terminal x ≡ t.origin → ⊥).
       ap (λ (z : State). get_or z.price t.origin 0) (sym same) ∙ get_or-set_other x.price (terminal x) t.origin b.value 0 (λ z. q (sym z)))
-      (same_or (terminal x) t.origin)
+      (cases_eq (terminal x) t.origin)
   changed_long (extends b there equal same) d =
       ap (λ (z : State). get_or z.price t.origin 0) (sym same)
       ∙ ap (λ (l : List ℕ). get_or l t.origin 0) (extension_keeps t (head_at t b.by_arc) x).1
@@ -112,7 +113,7 @@ module _ (t : Table) (x y : State) (e : next t x ≡ some y) where
         ap (λ (u : ℕ). ltb unreached (get_or (set x.status (terminal x) deleted) u unreached)) e
         ∙ ap (ltb unreached) (get_or-set_same x.status (terminal x) deleted unreached inside) ∙ sym here ∙ ap (was_reached x) (sym e))
         (λ (d : v ≡ terminal x → ⊥). ap (ltb unreached) (get_or-set_other x.status (terminal x) v deleted unreached d))
-        (same_or v (terminal x))
+        (cases_eq v (terminal x))
 
     same_reached : Kind t x y → length y.path ≤ length x.path → (v : ℕ) → was_reached y v ≡ was_reached x v
     unfolding was_reached status_at contraction state

@@ -6,9 +6,10 @@ use mathlib.Core.Option.{Option, none, some}
 use Prim.Native.Nat.{◌≤◌, ◌<◌}
 use lib.Dec.{ltb, eqb}
 use borrow.Author.Tests.{ltb-true, ltb-false, eqb-false}
+use Rattle.std.proofs.lemmas.Bool.{cases_Bool}
 use Rattle.table.specs.Table.{Table, head_at}
 use Rattle.auction.specs.Auction.{State, Bid, price_at, terminal, best, deletion, contraction, extension, iteration, next}
-use Rattle.table.proofs.Basics.{true_or, some_none, some_same}
+use Rattle.table.proofs.Basics.{some_none, some_same}
 
 -- a deletion, where there is no bid; a contraction, where the best bid is above the price; else an extension
 pub data Kind (t : Table) (x y : State) : Type 0 where
@@ -24,13 +25,13 @@ module _ (t : Table) (x y : State) where
       ⊎_elim (λ (h : eqb (terminal x) t.origin ≡ true). absurd (some_none e (ap left h)))
       (λ (h : eqb (terminal x) t.origin ≡ false).
       deletes none_there (eqb-false (terminal x) t.origin h) (some_same refl (sym (ap left h) ∙ e)))
-      (true_or (eqb (terminal x) t.origin))
+      (cases_Bool (eqb (terminal x) t.origin))
   by_bid (some b) there e =
       let price = price_at x (terminal x) in
       let changed : Bool → Option State = λ c. some (cond c (contraction t (terminal x) b.value x) (extension t (head_at t b.by_arc) x)) in
       ⊎_elim (λ (h : ltb price b.value ≡ true). contracts b there (ltb-true price b.value h) (some_same refl (sym (ap changed h) ∙ e)))
       (λ (h : ltb price b.value ≡ false). extends b there (ltb-false price b.value h) (some_same refl (sym (ap changed h) ∙ e)))
-      (true_or (ltb price b.value))
+      (cases_Bool (ltb price b.value))
 
   pub kind : next t x ≡ some y → Kind t x y
   unfolding next

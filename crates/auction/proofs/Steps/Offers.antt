@@ -6,9 +6,10 @@ use mathlib.Core.Option.{Option, none, some}
 use Prim.Native.Nat.{ℕ, ◌+◌, ◌≤◌, ◌<◌}
 use lib.Dec.{ltb, eqb}
 use borrow.Author.Tests.{ltb-true, ltb-false, eqb-true, eq-eqb, not-true, both_ways}
+use Rattle.std.proofs.lemmas.Bool.{and_parts, cases_Bool, or_cases, or_parts}
 use Rattle.table.specs.Table.{Table, tail_at, head_at, length_at}
 use Rattle.auction.specs.Auction.{State, bound_at, kept_at, status_at, distance, or_zero, was_reached, improves, takes, unreached}
-use Rattle.table.proofs.Basics.{either_true, either_false, true_or, both_true, option_or}
+use Rattle.table.proofs.Basics.{option_or}
 use Rattle.auction.proofs.Steps.Effects.{reached_status, unreached_status}
 
 both_false : (a b : Bool) → (a && b) ≡ false → a ≡ true → b ≡ false
@@ -20,14 +21,14 @@ unfolding improves
 better b i c k e =
     ⊎_elim (λ (h : ltb b c ≡ true). inl (ltb-true b c h))
     (λ (h : (eqb b c && ltb i (or_zero k)) ≡ true).
-    let p = both_true (eqb b c) (ltb i (or_zero k)) h in
+    let p = and_parts (eqb b c) (ltb i (or_zero k)) h in
     inr (eqb-true b c p.0, ltb-true i (or_zero k) p.1))
-    (either_true (ltb b c) (eqb b c && ltb i (or_zero k)) e)
+    (or_cases (ltb b c) (eqb b c && ltb i (or_zero k)) e)
 
 no_better : (b i c : ℕ) (k : Option ℕ) → improves b i (some c) k ≡ false → (c ≤ b) × (c ≡ b → or_zero k ≤ i)
 unfolding improves
 no_better b i c k e =
-    let p = either_false (ltb b c) (eqb b c && ltb i (or_zero k)) e in (
+    let p = or_parts (ltb b c) (eqb b c && ltb i (or_zero k)) e in (
       ltb-false b c p.0,
       λ (s : c ≡ b). ltb-false i (or_zero k) (both_false (eqb b c) (ltb i (or_zero k)) p.1 (eq-eqb b c (sym s))),
     )
@@ -52,9 +53,9 @@ module _ (t : Table) (v i : ℕ) (x : State) where
   taken e =
       let b = distance x v + length_at t i in
       let p =
-      both_true (eqb (tail_at t i) v)
+      and_parts (eqb (tail_at t i) v)
       (not (was_reached x (head_at t i)) && improves b i (bound_at x (head_at t i)) (kept_at x (head_at t i))) e in
-      let q = both_true (not (was_reached x (head_at t i))) (improves b i (bound_at x (head_at t i)) (kept_at x (head_at t i))) p.1 in
+      let q = and_parts (not (was_reached x (head_at t i))) (improves b i (bound_at x (head_at t i)) (kept_at x (head_at t i))) p.1 in
       record {
         leaves = eqb-true (tail_at t i) v p.0;
         new = unreached_status x (head_at t i) (not-true (was_reached x (head_at t i)) q.0);
@@ -81,4 +82,4 @@ module _ (t : Table) (v i : ℕ) (x : State) where
       let f = no_better b i s.0 k (subst (λ (o : Option ℕ). improves b i o k ≡ false) s.1 q) in
       inr (record { c = s.0; bound = s.1; low = f.0; earlier = f.1 }))
       (option_or (bound_at x (head_at t i))))
-      (true_or (was_reached x (head_at t i)))
+      (cases_Bool (was_reached x (head_at t i)))

@@ -7,6 +7,7 @@ use mathlib.Core.Option.{Option, none, some}
 use Prim.Native.Nat.{ℕ, zero, suc, ◌≤◌, ◌<◌}
 use native.Mathlib.Omega.{arith}
 use lib.ListN.{get_or, get_or-map}
+use Rattle.std.proofs.lemmas.Bool.{cases_Bool, cases_eq}
 use Rattle.table.specs.Table.{Table, table, is_table, arc_count, tail_at, head_at, no_arc, most_arcs}
 use Rattle.table.specs.Refusals.{Refusal, refusal, no_refusal}
 use Rattle.auction.specs.Auction.{State, state, Ended, ended, auction, was_reached, status_at, bound_at, kept_at, distance, iterations}
@@ -15,7 +16,6 @@ use Rattle.auction.specs.Plan.{routes_of}
 use Rattle.auction.specs.Demands.{walk_of}
 use Rattle.auction.specs.Promises.{last_state}
 use Rattle.auction.specs.Absent.{without_absent, place_of, told, told_state, told_end, AuctionWithoutAbsent, AsWithout, PlanWithoutAbsent}
-use Rattle.table.proofs.Basics.{same_or, true_or}
 use Rattle.auction.proofs.Good.{Good, good, parts}
 use Rattle.auction.proofs.Back.{at_origin, without_entry, one_back}
 use Rattle.auction.proofs.Sums.{column}
@@ -75,7 +75,7 @@ module _ (t : Table) where
     told_link_entry x v =
         ⊎_elim (λ (r : was_reached x v ≡ true). rw (r, told_kept (place_of t) x v) (told_link (kept_at x v)))
         (λ (r : was_reached x v ≡ false). rw r (sym (no_place t few)))
-        (true_or (was_reached x v))
+        (cases_Bool (was_reached x v))
 
     told_tree : (x : State) → tree t (told_state (place_of t) x) ≡ map (place_of t) (tree s x)
     unfolding tree link_entry without_absent table
@@ -110,7 +110,7 @@ module _ (t : Table) where
           ∙ told_back k (tail_at s i) (i ∷ is)
           ∙ ap (map (place_of t)) (sym (one_back s ts k v is d found')))
           (listed v))
-          (same_or v t.origin)
+          (cases_eq v t.origin)
 
   -- ALL THAT THE LAST STATE of the run hands over
   module _ (ws : List ℕ) (e : is_table t ws ≡ true) where
@@ -139,9 +139,9 @@ module _ (t : Table) where
         (λ (r : was_reached x v ≡ true).
         ⊎_elim (λ (o : v ≡ s.origin). inl (ap (λ (u : ℕ). get_or (tree s x) u no_arc) o ∙ tree_origin s g x i.depth i.sound))
         (λ (d : v ≡ s.origin → ⊥). let l = kept_link s g x i.depth i.sound v r d in inr (omega (arith, l.entry, l.arc.listed)))
-        (same_or v s.origin))
+        (cases_eq v s.origin))
         (λ (r : was_reached x v ≡ false). inl (tree_unreached s g x i.depth i.sound v r))
-        (true_or (was_reached x v))
+        (cases_Bool (was_reached x v))
 
     told_walk : (v : ℕ) → returned t (tree t y) v ≡ map (place_of t) (returned s (tree s x) v)
     unfolding returned without_absent table

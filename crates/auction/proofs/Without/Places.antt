@@ -8,9 +8,9 @@ use native.Mathlib.Omega.{arith}
 use lib.Dec.{ltb, eqb}
 use lib.ListN.{length, get_or, get_or-eq_default}
 use borrow.Author.Tests.{lt-ltb, le-ltb, le-leb, eq-eqb, ne_eqb}
+use Rattle.std.proofs.lemmas.Bool.{and_from, and_parts, cases_Bool, cases_eq, cases_lt}
 use Rattle.table.specs.Table.{Arc, Table, table, arc, is_table, arc_good, arcs_good, arc_count, arc_at, present, present_at, tail_at, head_at, length_at, no_arc, most_nodes, most_arcs, most_wanted}
 use Rattle.auction.specs.Absent.{present_arcs, without_absent, present_from, place_of, AbsentClosedUp}
-use Rattle.table.proofs.Basics.{same_or, below_or, true_or, both_true, true_both}
 use Rattle.auction.proofs.Good.{parts}
 
 -- THE PLACE of the k-th present arc in a list. Past the last present arc it goes on counting, so that it rises for every k.
@@ -44,11 +44,11 @@ rising [] j k h = h
 rising (a ∷ more) j zero h = absurd (omega (arith, h))
 rising (a ∷ more) zero (suc k) h =
     ⊎_elim (λ (p : present a ≡ true). rw p (omega arith)) (λ (p : present a ≡ false). rw p (omega (arith, rising more 0 (suc k) h)))
-    (true_or (present a))
+    (cases_Bool (present a))
 rising (a ∷ more) (suc j) (suc k) h =
     ⊎_elim (λ (p : present a ≡ true). rw p (omega (arith, rising more j k (omega (arith, h)))))
     (λ (p : present a ≡ false). rw p (omega (arith, rising more (suc j) (suc k) h)))
-    (true_or (present a))
+    (cases_Bool (present a))
 
 module _ (l : List Arc) (j k : ℕ) where
   pub same_order : ltb (spread l j) (spread l k) ≡ ltb j k
@@ -56,9 +56,9 @@ module _ (l : List Arc) (j k : ℕ) where
       ⊎_elim (λ (h : j < k). lt-ltb (spread l j) (spread l k) (rising l j k h) ∙ sym (lt-ltb j k h))
       (λ (h : k ≤ j).
       let up : spread l k ≤ spread l j =
-      ⊎_elim (λ (e : k ≡ j). omega (arith, ap (spread l) e)) (λ (d : k ≡ j → ⊥). omega (arith, rising l k j (omega (arith, h, d)))) (same_or k j) in
+      ⊎_elim (λ (e : k ≡ j). omega (arith, ap (spread l) e)) (λ (d : k ≡ j → ⊥). omega (arith, rising l k j (omega (arith, h, d)))) (cases_eq k j) in
       le-ltb (spread l j) (spread l k) up ∙ sym (le-ltb j k h))
-      (below_or j k)
+      (cases_lt j k)
 
   pub same_equal : eqb (spread l j) (spread l k) ≡ eqb j k
   same_equal =
@@ -66,32 +66,32 @@ module _ (l : List Arc) (j k : ℕ) where
       (λ (d : j ≡ k → ⊥).
       let apart : spread l j ≡ spread l k → ⊥ =
       λ e.
-      ⊎_elim (λ (h : j < k). omega (arith, e, rising l j k h)) (λ (h : k ≤ j). omega (arith, e, rising l k j (omega (arith, h, d)))) (below_or j k) in
+      ⊎_elim (λ (h : j < k). omega (arith, e, rising l j k h)) (λ (h : k ≤ j). omega (arith, e, rising l k j (omega (arith, h, d)))) (cases_lt j k) in
       ne_eqb (spread l j) (spread l k) apart ∙ sym (ne_eqb j k d))
-      (same_or j k)
+      (cases_eq j k)
 
 -- THE ARC at the place is the k-th present one; past the last there is none, here and there
 arc_there : (l : List Arc) (k : ℕ) (d : Arc) → get_or l (spread l k) d ≡ get_or (present_arcs l) k d
 unfolding spread later present_arcs
 arc_there [] k d = refl
 arc_there (a ∷ more) zero d =
-    ⊎_elim (λ (p : present a ≡ true). rw p) (λ (p : present a ≡ false). rw p (arc_there more 0 d)) (true_or (present a))
+    ⊎_elim (λ (p : present a ≡ true). rw p) (λ (p : present a ≡ false). rw p (arc_there more 0 d)) (cases_Bool (present a))
 arc_there (a ∷ more) (suc k) d =
-    ⊎_elim (λ (p : present a ≡ true). rw p (arc_there more k d)) (λ (p : present a ≡ false). rw p (arc_there more (suc k) d)) (true_or (present a))
+    ⊎_elim (λ (p : present a ≡ true). rw p (arc_there more k d)) (λ (p : present a ≡ false). rw p (arc_there more (suc k) d)) (cases_Bool (present a))
 
 -- it is present,
 present_there : (l : List Arc) (k : ℕ) (d : Arc) → k < length (present_arcs l) → present (get_or (present_arcs l) k d) ≡ true
 unfolding present_arcs
 present_there [] k d h = absurd (omega (arith, h))
 present_there (a ∷ more) zero d h =
-    ⊎_elim (λ (p : present a ≡ true). rw p p) (λ (p : present a ≡ false). rw p (present_there more 0 d (rw p at h))) (true_or (present a))
+    ⊎_elim (λ (p : present a ≡ true). rw p p) (λ (p : present a ≡ false). rw p (present_there more 0 d (rw p at h))) (cases_Bool (present a))
 present_there (a ∷ more) (suc k) d h =
     ⊎_elim
     (λ (p : present a ≡ true).
     let l : suc k < suc (length (present_arcs more)) = rw p at h in
     rw p (present_there more k d (omega (arith, l))))
     (λ (p : present a ≡ false). rw p (present_there more (suc k) d (rw p at h)))
-    (true_or (present a))
+    (cases_Bool (present a))
 
 -- and stands in the list
 listed_there : (l : List Arc) (k : ℕ) → k < length (present_arcs l) → spread l k < length l
@@ -99,14 +99,14 @@ unfolding spread later present_arcs
 listed_there [] k h = h
 listed_there (a ∷ more) zero h =
     ⊎_elim (λ (p : present a ≡ true). rw p (omega arith)) (λ (p : present a ≡ false). rw p (omega (arith, listed_there more 0 (rw p at h))))
-    (true_or (present a))
+    (cases_Bool (present a))
 listed_there (a ∷ more) (suc k) h =
     ⊎_elim
     (λ (p : present a ≡ true).
     let l : suc k < suc (length (present_arcs more)) = rw p at h in
     rw p (omega (arith, listed_there more k (omega (arith, l)))))
     (λ (p : present a ≡ false). rw p (omega (arith, listed_there more (suc k) (rw p at h))))
-    (true_or (present a))
+    (cases_Bool (present a))
 
 -- each present arc of the list has a number
 every_there : (l : List Arc) (i : ℕ) (d : Arc) → i < length l → present (get_or l i d) ≡ true →
@@ -118,7 +118,7 @@ every_there (a ∷ more) (suc i) d h q =
     let r = every_there more i d (omega (arith, h)) q in
     ⊎_elim (λ (p : present a ≡ true). (suc r.0, rw p (omega (arith, r.1)), rw p (ap suc r.2)))
     (λ (p : present a ≡ false). (r.0, rw p r.1, rw p (ap suc r.2)))
-    (true_or (present a))
+    (cases_Bool (present a))
 
 -- THE LIST OF PLACES holds just these
 from_there : (l : List Arc) (i k d : ℕ) → k < length (present_arcs l) → get_or (present_from i l) k d ≡ i + spread l k
@@ -126,21 +126,21 @@ unfolding spread later present_arcs present_from
 from_there [] i k d h = absurd (omega (arith, h))
 from_there (a ∷ more) i zero d h =
     ⊎_elim (λ (p : present a ≡ true). rw p (omega arith)) (λ (p : present a ≡ false). rw p (omega (arith, from_there more (suc i) 0 d (rw p at h))))
-    (true_or (present a))
+    (cases_Bool (present a))
 from_there (a ∷ more) i (suc k) d h =
     ⊎_elim
     (λ (p : present a ≡ true).
     let l : suc k < suc (length (present_arcs more)) = rw p at h in
     rw p (omega (arith, from_there more (suc i) k d (omega (arith, l)))))
     (λ (p : present a ≡ false). rw p (omega (arith, from_there more (suc i) (suc k) d (rw p at h))))
-    (true_or (present a))
+    (cases_Bool (present a))
 
 from_count : (l : List Arc) (i : ℕ) → length (present_from i l) ≡ length (present_arcs l)
 unfolding present_arcs present_from
 from_count [] i = refl
 from_count (a ∷ more) i =
     ⊎_elim (λ (p : present a ≡ true). rw p (ap suc (from_count more (suc i)))) (λ (p : present a ≡ false). rw p (from_count more (suc i)))
-    (true_or (present a))
+    (cases_Bool (present a))
 
 -- THE PRESENT ARCS are not more, and as good
 not_more : (l : List Arc) → length (present_arcs l) ≤ length l
@@ -148,16 +148,16 @@ unfolding present_arcs
 not_more [] = omega arith
 not_more (a ∷ more) =
     ⊎_elim (λ (p : present a ≡ true). rw p (omega (arith, not_more more))) (λ (p : present a ≡ false). rw p (omega (arith, not_more more)))
-    (true_or (present a))
+    (cases_Bool (present a))
 
 as_good : (n : ℕ) (l : List Arc) → arcs_good n l ≡ true → arcs_good n (present_arcs l) ≡ true
 unfolding present_arcs arcs_good
 as_good n [] e = refl
 as_good n (a ∷ more) e =
-    let q = both_true (arc_good n a) (arcs_good n more) e in
-    ⊎_elim (λ (p : present a ≡ true). rw p (true_both (arc_good n a) (arcs_good n (present_arcs more)) q.0 (as_good n more q.1)))
+    let q = and_parts (arc_good n a) (arcs_good n more) e in
+    ⊎_elim (λ (p : present a ≡ true). rw p (and_from (arc_good n a) (arcs_good n (present_arcs more)) q.0 (as_good n more q.1)))
     (λ (p : present a ≡ false). rw p (as_good n more q.1))
-    (true_or (present a))
+    (cases_Bool (present a))
 
 -- THE SAME OF A TABLE
 module _ (t : Table) where

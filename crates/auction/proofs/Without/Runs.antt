@@ -7,11 +7,12 @@ use mathlib.Core.Option.{Option, none, some}
 use Prim.Native.Nat.{ℕ, zero, suc, ◌<◌}
 use native.Mathlib.Omega.{arith}
 use lib.ListN.{get_or}
+use Rattle.std.proofs.lemmas.Bool.{cases_Bool}
 use Rattle.table.specs.Table.{Table, table, no_node}
 use Rattle.auction.specs.Auction.{State, state, ended, price_at, terminal, kept_at, status_at, was_reached, start, next, go_on, run, all_reached, most_iterations, auction, after, then_next}
 use Rattle.auction.specs.Limit.{above, decided, limited}
 use Rattle.auction.specs.Absent.{without_absent, place_of, told, told_state, told_step, told_end, StepsWithoutAbsent, AuctionWithoutAbsent, LimitedWithoutAbsent}
-use Rattle.table.proofs.Basics.{true_or, option_or}
+use Rattle.table.proofs.Basics.{option_or}
 use Rattle.auction.proofs.Good.{Good, good}
 use Rattle.auction.proofs.Invariant.Counting.{Invariant}
 use Rattle.auction.proofs.Invariant.Starting.{started}
@@ -82,7 +83,7 @@ module _ (t : Table) (g : Good (without_absent t)) where
         (⊎_elim (λ (n : next s x ≡ none). rw n)
         (λ (y : (y : State) × (next s x ≡ some y)). rw y.1 (told_run k y.0 (stepped s g x i y.0 y.1).invariant))
         (option_or (next s x))))
-        (true_or (other x))
+        (cases_Bool (other x))
 
   -- a kept arc stands in the table without the absent arcs, so that its place is in the list of places
   pub placed : (x : State) → Invariant s x → told_state place x ≡ told_state (place_of t) x

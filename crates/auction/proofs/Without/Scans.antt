@@ -7,11 +7,12 @@ use mathlib.Core.Option.{Option, none, some}
 use Prim.Native.Nat.{ℕ, zero, suc, ◌<◌}
 use lib.Dec.{eqb}
 use lib.ListN.{length}
+use Rattle.std.proofs.lemmas.Bool.{cases_Bool}
 use Rattle.table.specs.Table.{Arc, Table, table, arc_count, present, present_at, no_node}
 use Rattle.auction.specs.Auction.{State, state, Bid, bid, terminal, price_at, best, after}
 use Rattle.auction.specs.Scans.{same_at, same_children_from, same_children, same_price, scans_now, and_earlier, history, or_now, last_scan, scan_count, scans}
 use Rattle.auction.specs.Absent.{present_arcs, without_absent, told_state, told_step, ScansWithoutAbsent}
-use Rattle.table.proofs.Basics.{true_or, option_or}
+use Rattle.table.proofs.Basics.{option_or}
 use Rattle.auction.proofs.Good.{Good, good}
 use Rattle.auction.proofs.Without.Places.{spread, same_head, closed_good}
 use Rattle.auction.proofs.Without.Told.{Aligned, all_left, here, here_place, after_present, after_absent, told_bid, told_child, absent_child, told_best}
@@ -53,7 +54,7 @@ module _ (t : Table) where
       (λ (p : present a ≡ false).
       rw (p, absent_same_at v i (retold x) (retold y) h (here t a more i j l ∙ p))
       (told_same_children_from v h more (suc i) j x y (after_absent t a more i j l p)))
-      (true_or (present a))
+      (cases_Bool (present a))
 
   told_same_children : (v : ℕ) (x y : State) → v < no_node → same_children t v (retold x) (retold y) ≡ same_children s v x y
   unfolding same_children arc_count without_absent table
@@ -77,7 +78,7 @@ module _ (t : Table) where
   unfolding or_now terminal told_state state told_step
   told_or_now v h x o =
       let now = eqb (terminal x) v && scans_now s v o x in
-      ⊎_elim (λ (q : now ≡ true). rw (told_scans_now v h o x, q)) (λ (q : now ≡ false). rw (told_scans_now v h o x, q)) (true_or now)
+      ⊎_elim (λ (q : now ≡ true). rw (told_scans_now v h o x, q)) (λ (q : now ≡ false). rw (told_scans_now v h o x, q)) (cases_Bool now)
 
   told_last_scan : (v : ℕ) → v < no_node → (xs : List State) → last_scan t v (map retold xs) ≡ told_step place (last_scan s v xs)
   unfolding last_scan told_step

@@ -11,10 +11,10 @@ use lib.ListN.{length, get_or, get_or-map}
 use borrow.Author.Tests.{le-ltb, ne_eqb}
 use lib.Seq.{map-set}
 use lib.LanesLaws.{map-replicate}
+use Rattle.std.proofs.lemmas.Bool.{cases_Bool}
 use Rattle.table.specs.Table.{Arc, Table, table, arc, arc_count, arc_at, present, present_at, tail_at, head_at, length_at, no_arc, no_node}
 use Rattle.auction.specs.Auction.{State, state, terminal, price_at, bound_at, kept_at, status_at, or_zero, distance, was_reached, is_deleted, improves, with_kept, with_status, takes, offer, offers, reach, reached, fresh, start, Bid, bid, is_kept, to_child, lower_bid, with_bid, best_from, best, deletion, contraction, longer, extension, iteration, next}
 use Rattle.auction.specs.Absent.{present_arcs, without_absent, told, told_state, told_step}
-use Rattle.table.proofs.Basics.{true_or}
 use Rattle.table.proofs.Present.{absent_tail}
 use Rattle.auction.proofs.Good.{Good}
 use Rattle.auction.proofs.Steps.Bids.{best_bid}
@@ -64,7 +64,7 @@ module _ (t : Table) where
       (λ (q : takes s v i x ≡ true).
       rw (told_takes v i x, q, same_head t i, same_length t i) (told_with_kept (head_at s i) i (distance x v + length_at s i) x))
       (λ (q : takes s v i x ≡ false). rw (told_takes v i x, q))
-      (true_or (takes s v i x))
+      (cases_Bool (takes s v i x))
 
   -- an absent arc offers nothing, since it leaves no node
   absent_offer : (v i : ℕ) (y : State) → v < no_node → present_at t i ≡ false → offer t v i y ≡ y
@@ -122,7 +122,7 @@ module _ (t : Table) where
       rw p
       (ap (λ (y : State). offers (length more) (suc i) t v y) (absent_offer v i (retold x) h (here a more i j l ∙ p))
       ∙ told_offers v h more (suc i) j x (after_absent a more i j l p)))
-      (true_or (present a))
+      (cases_Bool (present a))
 
   told_reach : (v : ℕ) (x : State) → v < no_node → reach t v (retold x) ≡ retold (reach s v x)
   unfolding reach with_status told_state state arc_count without_absent table
@@ -160,7 +160,7 @@ module _ (t : Table) where
   told_lower false b i o = refl
   told_lower true b i none = refl
   told_lower true b i (some d) =
-      ⊎_elim (λ (q : leb b d.value ≡ true). rw q) (λ (q : leb b d.value ≡ false). rw q) (true_or (leb b d.value))
+      ⊎_elim (λ (q : leb b d.value ≡ true). rw q) (λ (q : leb b d.value ≡ false). rw q) (cases_Bool (leb b d.value))
 
   told_with_bid : (v i : ℕ) (x : State) (o : Option Bid) →
       with_bid (to_child t v (place i) (retold x)) (bid (length_at t (place i) + price_at (retold x) (head_at t (place i))) (place i)) (told_bid o)
@@ -184,7 +184,7 @@ module _ (t : Table) where
       ∙ told_with_bid v j x (best_from (length (present_arcs more)) (suc j) s v x)))
       (λ (p : present a ≡ false).
       rw (p, absent_child v i y h (here a more i j l ∙ p)) (told_best_from v h more (suc i) j x (after_absent a more i j l p)))
-      (true_or (present a))
+      (cases_Bool (present a))
 
   pub told_best : (v : ℕ) (x : State) → v < no_node → best t v (retold x) ≡ told_bid (best s v x)
   unfolding best arc_count without_absent table
@@ -194,7 +194,7 @@ module _ (t : Table) where
   told_extension : (j : ℕ) (x : State) → j < no_node → extension t j (retold x) ≡ retold (extension s j x)
   unfolding extension was_reached status_at longer told_state state
   told_extension j x h =
-      ⊎_elim (λ (q : was_reached x j ≡ true). rw q) (λ (q : was_reached x j ≡ false). rw q (told_reach j (longer j x) h)) (true_or (was_reached x j))
+      ⊎_elim (λ (q : was_reached x j ≡ true). rw q) (λ (q : was_reached x j ≡ false). rw q (told_reach j (longer j x) h)) (cases_Bool (was_reached x j))
 
   module _ (g : Good s) (x : State) (h : terminal x < no_node) where
     told_iteration : (o : Option Bid) → best s (terminal x) x ≡ o →
@@ -202,14 +202,14 @@ module _ (t : Table) where
     unfolding iteration told_step told_bid bid contraction deletion price_at told_state state without_absent table
     told_iteration none e =
         ⊎_elim (λ (q : eqb (terminal x) t.origin ≡ true). rw q) (λ (q : eqb (terminal x) t.origin ≡ false). rw q)
-        (true_or (eqb (terminal x) t.origin))
+        (cases_Bool (eqb (terminal x) t.origin))
     told_iteration (some b) e =
         let listed = (best_bid s (terminal x) x b e).listed in
         let low : head_at s b.by_arc < no_node = omega (arith, g.head_in b.by_arc listed, g.few_nodes) in
         ⊎_elim (λ (q : ltb (price_at x (terminal x)) b.value ≡ true). rw q)
         (λ (q : ltb (price_at x (terminal x)) b.value ≡ false).
         rw (q, same_head t b.by_arc) (ap some (told_extension (head_at s b.by_arc) x low)))
-        (true_or (ltb (price_at x (terminal x)) b.value))
+        (cases_Bool (ltb (price_at x (terminal x)) b.value))
 
     pub told_next : next t (retold x) ≡ told_step place (next s x)
     unfolding next terminal told_state state

@@ -6,9 +6,9 @@ use Prim.Native.Nat.{ℕ, ◌<◌}
 use native.Mathlib.Omega.{arith}
 use lib.Dec.{ltb, eqb}
 use borrow.Author.Tests.{lt-ltb, eq-eqb}
+use Rattle.std.proofs.lemmas.Bool.{and_from}
 use Rattle.table.specs.Table.{Table, table, arc_count, tail_at, head_at, leads, is_walk, walk_length}
 use Rattle.auction.specs.Absent.{without_absent, place_of, WalksWithoutAbsent}
-use Rattle.table.proofs.Basics.{true_both}
 use Rattle.table.proofs.Present.{leaves_present}
 use Rattle.auction.proofs.Good.{Good, good}
 use Rattle.auction.proofs.Back.{first}
@@ -25,8 +25,8 @@ module _ (t : Table) where
   leads_there (k ∷ is) u v e =
       let f = first s u k is v e in
       let i = place_of t k in
-      true_both (ltb i (arc_count t) && eqb (tail_at t i) u) (leads t (head_at t i) (map (place_of t) is) v)
-      (true_both (ltb i (arc_count t)) (eqb (tail_at t i) u) (lt-ltb i (arc_count t) (place_in t k f.listed))
+      and_from (ltb i (arc_count t) && eqb (tail_at t i) u) (leads t (head_at t i) (map (place_of t) is) v)
+      (and_from (ltb i (arc_count t)) (eqb (tail_at t i) u) (lt-ltb i (arc_count t) (place_in t k f.listed))
       (eq-eqb (tail_at t i) u (tail_there t k f.listed ∙ f.leaves)))
       (ap (λ (w : ℕ). leads t w (map (place_of t) is) v) (head_there t k f.listed) ∙ leads_there is (head_at s k) v f.rest)
 
@@ -49,8 +49,8 @@ module _ (t : Table) where
       let leaves = sym (tail_there t k q.1) ∙ ap (tail_at t) q.2 ∙ f.leaves in
       let head = sym (head_there t k q.1) ∙ ap (head_at t) q.2 in (
         k ∷ r.0,
-        true_both (ltb k (arc_count s) && eqb (tail_at s k) u) (leads s (head_at s k) r.0 v)
-            (true_both (ltb k (arc_count s)) (eqb (tail_at s k) u) (lt-ltb k (arc_count s) q.1) (eq-eqb (tail_at s k) u leaves))
+        and_from (ltb k (arc_count s) && eqb (tail_at s k) u) (leads s (head_at s k) r.0 v)
+            (and_from (ltb k (arc_count s)) (eqb (tail_at s k) u) (lt-ltb k (arc_count s) q.1) (eq-eqb (tail_at s k) u leaves))
             (ap (λ (w : ℕ). leads s w r.0 v) head ∙ r.1),
         rw (q.2, r.2),
       )

@@ -9,6 +9,7 @@ use native.Mathlib.Omega.{arith}
 use lib.ListN.{length, take, drop, get_or, length-drop, length-append, take-append-drop}
 use lib.Seq.{drop-drop, drop_at}
 use Rattle.std.proofs.Common.{length-take-le}
+use Rattle.std.proofs.lemmas.List.{nil_from_length}
 use borrow.Author.Tests.{le-leb, lt-leb}
 use mir.Syntax.{Width}
 use mir.Val.{Fits, bits}
@@ -107,11 +108,7 @@ module _ {width value : ℕ} {part left : List ℕ} (p : Passed width part value
 
   -- all bytes passed: the whole number
   pub passed_all : length left ≡ 0 → value ≡ number width part
-  passed_all none = p.is ∙ ap₂ number (omega (arith, p.count)) (sym (p.all ∙ ap (λ (l : List ℕ). l ++ p.behind) (empty left none)))
-    where
-      empty : (l : List ℕ) → length l ≡ 0 → l ≡ []
-      empty [] e = refl
-      empty (b ∷ l) e = absurd (omega arith)
+  passed_all none = p.is ∙ ap₂ number (omega (arith, p.count)) (sym (p.all ∙ ap (λ (l : List ℕ). l ++ p.behind) (nil_from_length left none)))
 
 -- what a field that was got is: the number in its bytes, and the offset behind them
 pub field_value : {part : List ℕ} {from width bound : ℕ} {f : Read ℕ} → Got (field width) part from width bound f

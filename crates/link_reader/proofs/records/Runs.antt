@@ -4,10 +4,10 @@ use mathlib.Core.Option.{Option, some}
 use mathlib.Core.Bool.{true}
 use mathlib.Core.Path.{◌≡◌, refl, sym, ap, ◌∙◌}
 use Prim.Native.Nat.{ℕ, suc, ◌+◌, ◌-◌, ◌*◌, ◌≤◌, ◌<◌}
-use native.Mathlib.Nat.{le_of_eq, add-zero}
+use native.Mathlib.Nat.{add-zero}
 use native.Mathlib.Omega.{arith}
-use lib.ListN.{length, take, drop, length-drop, drop_of_length-le}
-use lib.Seq.{take_all, drop-drop}
+use lib.ListN.{length, drop, length-drop, drop_of_length-le}
+use lib.Seq.{drop-drop}
 use Rattle.table.specs.Table.{Arc, most_arcs}
 use Rattle.link_format.specs.Reading.{Outcome, got, refused, accepted, list_got, and_then, give, read_record, read_records}
 use Rattle.link_format.proofs.Outcomes.{got_value, refused_got}
@@ -17,10 +17,6 @@ use Rattle.table.specs.declared.links.Arc as links
 use Rattle.link_fields.specs.declared.fields.Read.{Read}
 use Rattle.link_reader.specs.Says.{RecordGot}
 use Rattle.link_format.specs.Format.{most_record, most_header}
-
--- the part of a file from an offset on
-pub part_is : (file : List ℕ) (at : ℕ) → take (length file - at) (drop at file) ≡ drop at file
-part_is file at = take_all (length file - at) (drop at file) (le_of_eq (length-drop at file))
 
 -- what is left to read at an offset, after so many records
 abbrev pub remaining : (file : List ℕ) → (at count : ℕ) → (before : Option Arc) → Outcome (List Arc)

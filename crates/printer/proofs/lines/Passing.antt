@@ -9,8 +9,9 @@ use native.Mathlib.Numerals.{add-one}
 use lib.Dec.{eqb}
 use lib.ListN.{length, get_or}
 use Rattle.std.proofs.Common.{Option, None, Some, MatchOption}
+use Rattle.std.proofs.lemmas.Bool.{cases_lt}
+use Rattle.std.proofs.lemmas.List.{get_or_default}
 use Rattle.table.specs.Table.{most_nodes, no_distance}
-use Rattle.table.proofs.Basics.{inside_same, below_or}
 use Rattle.sheet.specs.Sheet.{node_count, passing, with_node, has_distance}
 use Rattle.printer.specs.Lines.{FirstWithDistance}
 
@@ -55,7 +56,7 @@ read ds v = not (eqb (get_or ds v 0) no_distance)
 module _ (ds : List ℕ) (from n : ℕ) (all : n ≡ min (length ds) most_nodes) where
   read_so : (v : ℕ) → v < n → has_distance ds v ≡ read ds v
   unfolding has_distance
-  read_so v h = ap (λ (d : ℕ). not (eqb d no_distance)) (inside_same ds v no_distance 0 (omega arith))
+  read_so v h = ap (λ (d : ℕ). not (eqb d no_distance)) (get_or_default ds v no_distance 0 (omega arith))
 
   pub first_passing : (r : Option ℕ) →
       MatchOption r ((v : ℕ) → from ≤ v → v < n → read ds v ≡ false)
@@ -68,7 +69,7 @@ module _ (ds : List ℕ) (from n : ℕ) (all : n ≡ min (length ds) most_nodes)
       passed_up_to (has_distance ds) n from n (omega arith) (omega arith) (λ v a b. read_so v b ∙ none v a b)
       ∙ passing_none (has_distance ds) n n (omega arith))
       (λ (h : n ≤ from). passing_none (has_distance ds) n from h)
-      (below_or from n))
+      (cases_lt from n))
   first_passing (Some u) f =
       rw (← all) (
         omega (arith, f.1, all),

@@ -5,10 +5,10 @@ use mathlib.Core.Logic.{⊎_elim}
 use Prim.Native.Nat.{ℕ, suc, ◌+◌, ◌-◌, ◌≤◌, ◌<◌}
 use native.Mathlib.Omega.{arith}
 use Rattle.std.proofs.Common.{None, Some}
+use Rattle.std.proofs.lemmas.Bool.{cases_eq}
 use lib.ListN.{length, take, drop, length-append, length-drop}
 use lib.Seq.{take_at, length-take-le}
 use borrow.Rule.Slice.PartMut.{mid_of, post_of, put_mid, same_len_mid}
-use Rattle.table.proofs.Basics.{same_or}
 use Rattle.sheet.specs.Sheet.{Finished}
 use Rattle.sheet.specs.Printed.{joined}
 use Rattle.sheet_lines.specs.Buffers.{Begins}
@@ -97,6 +97,6 @@ module _ (p : Finished) (from : Cursor) (before out : List ℕ) (at : ℕ) (next
         fewer =
             λ h.
             ⊎_elim (λ (z : at ≡ 0). omega (arith, one_less, ap (λ (c : Cursor). length (rest p c)) (f.nothing_yet z)))
-            (λ (d : at ≡ 0 → ⊥). omega (arith, one_less, f.fewer (omega arith))) (same_or at 0);
+            (λ (d : at ≡ 0 → ⊥). omega (arith, one_less, f.fewer (omega arith))) (cases_eq at 0);
         nothing_yet = λ h. absurd (omega (arith, a.some));
       }

@@ -5,8 +5,8 @@ use Prim.Native.Nat.{ℕ, zero, suc, ◌+◌, ◌-◌, ◌^◌, ◌≤◌, ◌<�
 use native.Mathlib.Omega.{arith}
 use native.Mathlib.Nat.{pow-le-pow_right, le_trans}
 use borrow.Author.Tests.{lt-ltb, le-ltb}
+use Rattle.std.proofs.lemmas.Bool.{cases_eq, cases_lt}
 use Rattle.io.specs.Digits.{last_digits, IsDigitCount}
-use Rattle.table.proofs.Basics.{same_or, below_or}
 use Rattle.sheet.specs.Text.{places_from, places, decimal}
 
 tens_rise : (a b : ℕ) → a ≤ b → 10 ^ a ≤ 10 ^ b
@@ -23,12 +23,12 @@ module _ (n k : ℕ) (f : IsDigitCount 10 1 n k) where
   found (suc l) j p h b =
       ⊎_elim (λ (e : j ≡ k). rw (lt-ltb n (10 ^ j) (omega (arith, f.1, ap (λ (a : ℕ). 10 ^ a) e))) e)
       (λ (d : j ≡ k → ⊥). rw (le-ltb n (10 ^ j) (too_few j p (omega arith))) (found l (suc j) (omega arith) (omega arith) (omega arith)))
-      (same_or j k)
+      (cases_eq j k)
 
   module _ (small : n < 2 ^ 64) where
     few : k ≤ 20
     few =
-        ⊎_elim (λ (h : 20 < k). absurd (omega (arith, too_few 20 (omega arith) h, small))) (λ (h : k ≤ 20). h) (below_or 20 k)
+        ⊎_elim (λ (h : 20 < k). absurd (omega (arith, too_few 20 (omega arith) h, small))) (λ (h : k ≤ 20). h) (cases_lt 20 k)
 
     pub fewest_places : k ≡ places n
     unfolding places

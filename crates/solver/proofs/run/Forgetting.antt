@@ -6,8 +6,8 @@ use Prim.Native.Nat.{ℕ, ◌+◌, ◌<◌}
 use native.Mathlib.Omega.{arith}
 use lib.ListN.{length, length-set}
 use lib.Seq.{get_or-set_same, get_or-set_other}
+use Rattle.std.proofs.lemmas.Bool.{cases_eq}
 use Rattle.table.specs.Table.{no_node}
-use Rattle.table.proofs.Basics.{same_or}
 use Rattle.steps.specs.declared.state.Node.{Node}
 use Rattle.steps.specs.declared.state.Progress.{Progress}
 use Rattle.steps.specs.Seen.{run_of, held}
@@ -33,6 +33,6 @@ one_more {i} {ns₀} {ns} f h =
           ⊎_elim
           (λ (e : v ≡ i). rw e (ap (λ (m : Node). m.remembered) (get_or-set_same ns i n nobody h)))
           (λ (d : v ≡ i → ⊥). ap (λ (m : Node). m.remembered) (get_or-set_other ns i v n nobody d) ∙ f.none v (omega arith) (omega (arith, long)))
-          (same_or v i);
+          (cases_eq v i);
       same = λ path g. held_with_memory path ns g i no_node ∙ f.same path g;
     }

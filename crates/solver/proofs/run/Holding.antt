@@ -14,10 +14,11 @@ use native.Mathlib.Omega.{arith}
 use lib.ListN.{length, get_or, set}
 use lib.Seq.{get_or-set_same, get_or-set_other}
 use borrow.Author.Tests.{both_ways}
+use Rattle.std.proofs.lemmas.Bool.{cases_eq, false_from_ne_true}
 use Rattle.table.specs.Table.{Table, arc_count, tail_at, head_at, no_node}
 use Rattle.auction.specs.Auction.{State, Bid, terminal, price_at, kept_at, status_at, is_deleted, to_child, best, without_terminal, unreached, reached, deleted}
 use Rattle.auction.specs.Scans.{scans_now}
-use Rattle.table.proofs.Basics.{same_or, option_or, refuted, some_none, some_same}
+use Rattle.table.proofs.Basics.{option_or, some_none, some_same}
 use Rattle.auction.proofs.Steps.Effects.{Restatused, Repriced}
 use Rattle.auction.proofs.Steps.Bids.{child, child_test, best_bid}
 use Rattle.auction.proofs.Invariant.Sound.{Nodes, Chain}
@@ -155,7 +156,7 @@ module _ {t : Table} {x : State} {dep : ℕ → ℕ} (s : Nodes t x dep) (chain 
             (λ (d : u ≡ v → ⊥).
             subst (λ (o : Option State). Holds t u (get_or (set l v c) u 0) o x) (sym (look.others u d))
             (subst (λ (k : ℕ). Holds t u k (m u) x) (sym (get_or-set_other l v u c 0 d)) (h.each u low live)))
-            (same_or u v);
+            (cases_eq u v);
         led = path_led s m m' look.others x.path refl chain h.led;
       }
 
@@ -202,7 +203,7 @@ extended {t} {m} {l} {l'} {x} {y} {j} old e next r h =
           (λ (k : Keeps t u l l' x y). holds_still (λ i q. k.children i) (λ s b q p. e.prices (head_at t b.by_arc)) k.memory here)
           (λ (k : Loses t u l' x y). holds_none (lost_scans t u (m u) x y (old u) k.arc k.listed k.child k.lost) k.memory)
           (r.each u (omega (arith, z))))
-          (same_or (status_at x u) unreached);
+          (cases_eq (status_at x u) unreached);
       led = subst (λ (p : List ℕ). Led t m p) (sym e.path) (onto t m x.path j next h.led);
     }
 
@@ -250,7 +251,7 @@ module _ (t : Table) (m : Memory) (x : State) where
         let i = p.0.by_arc in
         let was = best_bid t u q.0 p.0 p.1 in
         let then = child_test t u q.0 i was.child in
-        let gone = refuted (to_child t u i x) (no_child i z) in
+        let gone = false_from_ne_true (to_child t u i x) (no_child i z) in
         let must : (a : State) → to_child t u i a ≡ false → scans_now t u (m u) a ≡ true =
         λ a n. subst (λ (o : Option State). scans_now t u o a ≡ true) (sym q.1) (scans_lost t u q.0 a i was.listed then n) in
         holds_none (must y (same_children u i ∙ gone)) (h.forgotten (must x gone)))
@@ -259,7 +260,7 @@ module _ (t : Table) (m : Memory) (x : State) where
         (λ s b r o.
         let same = some_same (ap (best t u) (some_same q.1 r) ∙ o) p.1 in
         λ w. z (ap (λ (a : Bid). head_at t a.by_arc) (sym same) ∙ w)))
-        (same_or (head_at t p.0.by_arc) (terminal x)))
+        (cases_eq (head_at t p.0.by_arc) (terminal x)))
         (option_or (best t u q.0)))
         (option_or (m u))
 
@@ -298,7 +299,7 @@ module _ (t : Table) (m : Memory) (x : State) where
               (λ (d : u ≡ p → ⊥).
               subst (λ (k : ℕ). Holds t u k (m u) y) (sym (get_or-set_other l p u no_node 0 d))
               (untouched u (λ i z q. d (only_before b u i z q)) here))
-              (same_or u p);
+              (cases_eq u p);
           led = subst (λ (q : List ℕ). Led t m q) (sym ep) (shorter_led t m x.path h.led);
         }
 
@@ -308,7 +309,7 @@ module _ (t : Table) (m : Memory) (x : State) where
       y.path ≡ without_terminal x.path → Holding t m l x → Holding t m' (set l p no_node) y
   removed {y} {m'} {l} {p} long top old e b others led ep h =
       let gone : (u i : ℕ) → head_at t i ≡ terminal x → to_child t u i y ≡ false =
-      λ u i z. refuted (to_child t u i y) (λ q. (child t u y i q).undeleted (ap (status_at y) z ∙ e.here)) in
+      λ u i z. false_from_ne_true (to_child t u i y) (λ q. (child t u y i q).undeleted (ap (status_at y) z ∙ e.here)) in
       record {
         each =
             λ u low live.
@@ -328,11 +329,11 @@ module _ (t : Table) (m : Memory) (x : State) where
             let children : (i : ℕ) → to_child t u i y ≡ to_child t u i x =
             λ i.
             ⊎_elim
-            (λ (z : head_at t i ≡ terminal x). gone u i z ∙ sym (refuted (to_child t u i x) (λ q. d (only_before b u i z q))))
+            (λ (z : head_at t i ≡ terminal x). gone u i z ∙ sym (false_from_ne_true (to_child t u i x) (λ q. d (only_before b u i z q))))
             (λ (z : head_at t i ≡ terminal x → ⊥). same_child x y t u i (e.kepts (head_at t i)) (same_gone x y (head_at t i) (e.elsewhere (head_at t i) z)))
-            (same_or (head_at t i) (terminal x)) in
+            (cases_eq (head_at t i) (terminal x)) in
             holds_still (λ i q. children i) (λ s a q r. e.prices (head_at t a.by_arc)) (get_or-set_other l p u no_node 0 d)
             (h.each u low (λ q. live (e.elsewhere u other ∙ q))))
-            (same_or u p));
+            (cases_eq u p));
         led = subst (λ (q : List ℕ). Led t m' q) (sym ep) (shorter_led t m' x.path led);
       }

@@ -11,13 +11,13 @@ use lib.ListN.{length, get_or}
 use lib.Dec.{ltb}
 use borrow.Author.Tests.{lt-ltb, le-ltb}
 use Rattle.std.specs.Prelude.{Option, Some, None}
+use Rattle.std.proofs.lemmas.Bool.{cases_eq, or_from, or_left, or_right}
 use Rattle.table.specs.Table.{Table, no_node}
 use Rattle.table.specs.Lent.{table_in}
 use Rattle.auction.specs.Auction.{State, Ended, state, ended, bid, best, next, terminal, price_at, kept_at, all_reached, iterations, iteration, start, extension}
 use Rattle.auction.specs.Scans.{history, scan_count, scans}
 use Rattle.auction.specs.HandOver.{first_missing}
 use Rattle.auction.specs.Limit.{above, decided, limited}
-use Rattle.table.proofs.Basics.{same_or, either_first, either_second, neither}
 use Rattle.auction.proofs.Good.{wanted_in}
 use Rattle.auction.proofs.Steps.Effects.{reached_status, status_reached, kept_below}
 use Rattle.auction.proofs.Steps.Keeps.{extension_keeps, start_path, lifts, moves_keep_price, reaches_none}
@@ -150,7 +150,7 @@ module _ (linked : LinkedTable) where
     undecided : w < length ws → decided t ws limit x ≡ false
     unfolding decided above
     undecided h =
-        neither (all_reached ws x) (ltb limit (price_at x t.origin)) (some_missing ws x (omega (arith, i.round.missing)))
+        or_from (all_reached ws x) (ltb limit (price_at x t.origin)) (some_missing ws x (omega (arith, i.round.missing)))
         (le-ltb limit (price_at x t.origin) (omega (arith, price_read r, i.below)))
 
     -- what the loop's body needs
@@ -274,7 +274,7 @@ module _ (linked : LinkedTable) where
               let long : length y.path ≡ length x.path → ⊥ = λ e. other (sym (path_length r) ∙ sym e ∙ path_length r') in
               let same = moves_keep_price t x y made.to.is_next long in
               omega (arith, same, price_read r, price_read r', i.below))
-              (same_or r.progress.depth r'.progress.depth)
+              (cases_eq r.progress.depth r'.progress.depth)
 
         -- the iteration is counted
         pub counted : iterations_in r'.progress ≡ suc (iterations_in r.progress)
@@ -337,7 +337,7 @@ module _ (linked : LinkedTable) where
     pub ends : length ws ≤ w → RanWithin t ws limit w c x
     unfolding limited decided above ended
     ends h =
-        let all = either_first (all_reached ws x) (ltb limit (price_at x t.origin)) (none_missing ws x (omega (arith, i.round.missing))) in
+        let all = or_left (all_reached ws x) (ltb limit (price_at x t.origin)) (none_missing ws x (omega (arith, i.round.missing))) in
         ran limit run (ap (λ (e : Ended). e.last) (done run all)) i.round.missing i.low i.round.scanned
 
     -- the origin has no children,
@@ -359,6 +359,6 @@ module _ (linked : LinkedTable) where
         let more = goes_on run y (undecided h) n.is_next in
         let high : limit < price_at y t.origin = omega (arith, above, lifted h made v ev least bids same b is_bid, price_read r') in
         let there = still_missing h made (omega (arith, same)) in
-        let passed = either_second (all_reached ws y) (ltb limit (price_at y t.origin)) (lt-ltb limit (price_at y t.origin) high) in
+        let passed = or_right (all_reached ws y) (ltb limit (price_at y t.origin)) (lt-ltb limit (price_at y t.origin) high) in
         ran limit more.0 (ap (λ (e : Ended). e.last) (done more.0 passed)) there.missing there.low
         (n.scanned ∙ ap (λ (a : ℕ). scans a t) (sym more.1))

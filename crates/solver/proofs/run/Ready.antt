@@ -9,10 +9,10 @@ use native.Mathlib.Omega.{arith}
 use native.Mathlib.Nat.{mul-le-mul_left}
 use lib.ListN.{length, get_or}
 use Rattle.std.specs.Prelude.{Option, Some, None}
+use Rattle.std.proofs.lemmas.Bool.{cases_eq}
 use Rattle.table.specs.Table.{Table, arc_count, tail_at, head_at, no_arc, no_distance, most_nodes}
 use Rattle.table.specs.Lent.{table_in}
 use Rattle.auction.specs.Auction.{State, state, bid, best, next, iteration, terminal, price_at, kept_at, iterations, most_iterations, extension}
-use Rattle.table.proofs.Basics.{same_or}
 use Rattle.auction.proofs.Steps.Effects.{status_in, kept_below, known_distance}
 use Rattle.auction.proofs.Steps.Bids.{Best, best_bid}
 use Rattle.auction.proofs.Steps.Keeps.{extension_keeps}
@@ -41,7 +41,7 @@ few_in_all n h =
 pub bound_value : (a d : ℕ) → bound_of a ≡ some d → a ≡ d
 bound_value a d e =
     ⊎_elim (λ (z : a ≡ no_distance). let q = no_bound a z in let r : ◌≡◌ {A = ℕ} 0 1 = cc in absurd (omega arith))
-    (λ (z : a ≡ no_distance → ⊥). let q = some_bound a z in cc) (same_or a no_distance)
+    (λ (z : a ≡ no_distance → ⊥). let q = some_bound a z in cc) (cases_eq a no_distance)
 
 -- WHAT THE CODE MAY RELY ON in a state of the run with n nodes
 pub record InRun (n : ℕ) (r : RunState) : Type 0 where

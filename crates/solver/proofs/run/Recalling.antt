@@ -9,11 +9,12 @@ use Prim.Native.Nat.{ℕ, suc, ◌≤◌, ◌<◌}
 use native.Mathlib.Omega.{arith}
 use lib.ListN.{length, get_or, set, length-set}
 use borrow.Author.Tests.{eq-eqb, ne_eqb, both_ways}
+use Rattle.std.proofs.lemmas.Bool.{cases_Bool, cases_eq, false_from_ne_true}
 use Rattle.table.specs.Table.{Table, head_at, no_node}
 use Rattle.auction.specs.Auction.{State, Bid, state, terminal, price_at, kept_at, status_at, extension, deletion, contraction, best, next, after, without_terminal, reached, deleted}
 use Rattle.auction.specs.Scans.{scans_now, history, last_scan, scans}
 use Rattle.auction.specs.Promises.{GoesByMemory}
-use Rattle.table.proofs.Basics.{same_or, true_or, refuted, some_same}
+use Rattle.table.proofs.Basics.{some_same}
 use Rattle.auction.proofs.Good.{Good}
 use Rattle.auction.proofs.Steps.Effects.{deletion_effect, repriced, status_in}
 use Rattle.auction.proofs.Steps.Bids.{best_bid}
@@ -104,7 +105,7 @@ module _ (t : Table) (g : Good t) (k : ℕ) (x : State) (came : after k t ≡ so
     -- A NODE THAT HAS AN ENTRY does not scan: the entry is the child of its best bid, by which it extends the path
     module _ (some_child : get_or l v 0 ≡ no_node → ⊥) where
       no_scan : scans_now t v (memory k t v) x ≡ false
-      no_scan = refuted (scans_now t v (memory k t v) x) (λ q. some_child (here.forgotten q))
+      no_scan = false_from_ne_true (scans_now t v (memory k t v) x) (λ q. some_child (here.forgotten q))
 
       abbrev known : ChildOf t v (memory k t v) (get_or l v 0)
       known = here.recalled no_scan
@@ -130,7 +131,7 @@ module _ (t : Table) (g : Good t) (k : ℕ) (x : State) (came : after k t ≡ so
 
       all_same : (u : ℕ) → memory (suc k) t u ≡ memory k t u
       all_same u =
-          ⊎_elim (λ (e : u ≡ v). ap (memory (suc k) t) e ∙ not_scanned no_scan ∙ ap (memory k t) (sym e)) (λ (d : u ≡ v → ⊥). others u d) (same_or u v)
+          ⊎_elim (λ (e : u ≡ v). ap (memory (suc k) t) e ∙ not_scanned no_scan ∙ ap (memory k t) (sym e)) (λ (d : u ≡ v → ⊥). others u d) (cases_eq u v)
 
       pub holding_recalled : (y : State) → next t x ≡ some y → (l' : List ℕ) → Remembering t (those_reached x) l l' x y → Holding t (memory (suc k) t) l' y
       holding_recalled y step l' r =
@@ -148,7 +149,7 @@ module _ (t : Table) (g : Good t) (k : ℕ) (x : State) (came : after k t ≡ so
           let c = here.recalled q in
           let low = g.head_in c.bid.by_arc (best_bid t v c.scan c.bid c.was_best).listed in
           absurd (omega (arith, none_there, c.is_head, low, g.few_nodes)))
-          (true_or (scans_now t v (memory k t v) x))
+          (cases_Bool (scans_now t v (memory k t v) x))
 
       pub scans_once_more : scans (suc k) t ≡ suc (scans k t)
       scans_once_more = scans_more k t x came must_scan
@@ -173,7 +174,7 @@ module _ (t : Table) (g : Good t) (k : ℕ) (x : State) (came : after k t ≡ so
           subst (λ (a : State). Earlier t u a x) same
           (record { there = omega (arith, ap (status_at x) q, top); children = λ a b c. c; dearer = λ w. omega arith }))
           (λ (d : u ≡ v → ⊥). all_earlier u s (sym (others u d) ∙ e))
-          (same_or u v)
+          (cases_eq u v)
 
   -- the node before the terminal one, where that is not the origin
   before : (m : Memory) (p : List ℕ) → v ≡ get_or p 0 0 → Chain t x p → Led t m p → (v ≡ t.origin → ⊥) → Before t m x (get_or p 1 0)
@@ -225,7 +226,7 @@ module _ (t : Table) (g : Good t) (k : ℕ) (x : State) (came : after k t ≡ so
         subst (λ (a : List ℕ). Holding t m' a y) (sym (left.contracted b e less q))
         (subst (λ (a : State). Holding t m' (set (set l v j) (get_or x.path 1 0) no_node) a) same
         (contracted t m' x lower b.value old effect less (length-set l v j ∙ long) (before m' x.path refl i.sound.chain now.led q) path now)))
-        (same_or v t.origin)
+        (cases_eq v t.origin)
     by_kind (extends b e equal same) =
         let j = head_at t b.by_arc in
         let next_child = subst (λ (o : Option State). ChildOf t v o j) (sym (scanned (must_scan l h none_there))) (new_child l h none_there b e) in

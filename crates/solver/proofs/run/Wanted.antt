@@ -9,9 +9,9 @@ use native.Mathlib.Numerals.{add-one}
 use lib.ListN.{length, get_or, drop, drop_of_length-le}
 use lib.Seq.{drop-cons}
 use borrow.Author.Tests.{lt-ltb, le-ltb}
+use Rattle.std.proofs.lemmas.Bool.{cases_Bool}
 use Rattle.auction.specs.Auction.{State, was_reached, status_at, all_reached}
 use Rattle.auction.specs.HandOver.{first_missing}
-use Rattle.table.proofs.Basics.{true_or}
 use Rattle.solver.specs.Runs.{FirstFrom}
 
 -- ONE INDEX AFTER THE OTHER
@@ -64,7 +64,7 @@ unfolding first_missing
 low_bound i [] x = omega arith
 low_bound i (w ∷ ws) x =
     ⊎_elim (λ (e : was_reached x w ≡ true). rw e (let r = low_bound (suc i) ws x in omega arith)) (λ (e : was_reached x w ≡ false). rw e (omega arith))
-    (true_or (was_reached x w))
+    (cases_Bool (was_reached x w))
 
 some_missing_from : (i : ℕ) (ws : List ℕ) (x : State) → first_missing i ws x < i + length ws → all_reached ws x ≡ false
 unfolding first_missing all_reached
@@ -73,7 +73,7 @@ some_missing_from i (w ∷ ws) x h =
     ⊎_elim
     (λ (e : was_reached x w ≡ true). rw e (some_missing_from (suc i) ws x (let r = (rw e at h) in omega arith)))
     (λ (e : was_reached x w ≡ false). rw e)
-    (true_or (was_reached x w))
+    (cases_Bool (was_reached x w))
 
 none_missing_from : (i : ℕ) (ws : List ℕ) (x : State) → i + length ws ≤ first_missing i ws x → all_reached ws x ≡ true
 unfolding first_missing all_reached
@@ -82,7 +82,7 @@ none_missing_from i (w ∷ ws) x h =
     ⊎_elim
     (λ (e : was_reached x w ≡ true). rw e (none_missing_from (suc i) ws x (let r = (rw e at h) in omega arith)))
     (λ (e : was_reached x w ≡ false). absurd (let r = (rw e at h) in omega arith))
-    (true_or (was_reached x w))
+    (cases_Bool (was_reached x w))
 
 pub some_missing : (ws : List ℕ) (x : State) → first_missing 0 ws x < length ws → all_reached ws x ≡ false
 some_missing ws x h = some_missing_from 0 ws x (omega arith)
@@ -103,12 +103,12 @@ unfolding first_missing
 reached_before i [] x k h = absurd (omega arith)
 reached_before i (w ∷ ws) x zero h =
     ⊎_elim (λ (e : was_reached x w ≡ true). e) (λ (e : was_reached x w ≡ false). absurd (let r = (rw e at h) in omega arith))
-    (true_or (was_reached x w))
+    (cases_Bool (was_reached x w))
 reached_before i (w ∷ ws) x (suc k) h =
     ⊎_elim
     (λ (e : was_reached x w ≡ true). reached_before (suc i) ws x k (let r = (rw e at h) in omega arith))
     (λ (e : was_reached x w ≡ false). absurd (let r = (rw e at h) in omega arith))
-    (true_or (was_reached x w))
+    (cases_Bool (was_reached x w))
 
 jump_from : (i w : ℕ) (ws : List ℕ) (y : State) → ((k : ℕ) → k < w → was_reached y (get_or ws k 0) ≡ true) → w ≤ length ws →
     first_missing i ws y ≡ first_missing (i + w) (drop w ws) y

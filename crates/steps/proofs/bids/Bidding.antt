@@ -5,6 +5,7 @@ use mathlib.Core.List.{List}
 use mathlib.Core.Logic.{◌⊎◌, inl, inr, ⊎_elim}
 use mathlib.Core.Option.{none, some}
 use Rattle.std.specs.Prelude.{Option, Some, None}
+use Rattle.std.proofs.lemmas.Bool.{cases_eq}
 use mathlib.Core.Option as maybe
 use Prim.Native.Nat.{ℕ, ◌+◌, ◌-◌, ◌≤◌, ◌<◌}
 use native.Mathlib.Omega.{arith}
@@ -13,7 +14,6 @@ use lib.ListN.{length, get_or}
 use borrow.Author.Tests.{le-leb, lt-leb, eq-eqb, ne_eqb, eqb-true, eqb-false}
 use Rattle.table.specs.Table.{Table, arc_count, tail_at, head_at, length_at, no_arc}
 use Rattle.auction.specs.Auction.{State, Bid, bid, best, best_from, to_child, with_bid, lower_bid, is_kept, is_deleted, price_at}
-use Rattle.table.proofs.Basics.{same_or}
 use Rattle.steps.specs.declared.state.Progress.{Progress}
 use Rattle.steps.specs.declared.bids.LeastBid.{LeastBid}
 use Rattle.steps.specs.declared.state.Node.{Node}
@@ -39,7 +39,7 @@ module _ (t : Table) (i j : ℕ) (p u b k s : List ℕ) (g : Progress) (at : hea
       ⊎_elim
       (λ (e : get_or k j 0 ≡ no_arc). rw (no_kept (get_or k j 0) e))
       (λ (e : get_or k j 0 ≡ no_arc → ⊥). rw (some_arc (get_or k j 0) e) (ne_eqb (get_or k j 0) i d))
-      (same_or (get_or k j 0) no_arc)
+      (cases_eq (get_or k j 0) no_arc)
 
   pub no_child : ((get_or k j 0 ≡ i → ⊥) ⊎ (get_or s j 0 ≡ 2)) → to_child t (tail_at t i) i (seen p u b k s g) ≡ false
   no_child e =

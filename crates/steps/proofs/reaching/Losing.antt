@@ -11,8 +11,9 @@ use native.Mathlib.Omega.{arith}
 use lib.ListN.{length, get_or, set, length-set}
 use lib.Seq.{get_or-set_same, get_or-set_other, map-set}
 use borrow.Author.Tests.{eq-eqb, ne_eqb, both_ways}
+use Rattle.std.proofs.lemmas.Bool.{cases_eq, false_from_ne_true}
 use Rattle.table.specs.Table.{Table, arc_count, tail_at, head_at, down, no_arc, no_node}
-use Rattle.table.proofs.Basics.{same_or, refuted, some_none, some_same, inside}
+use Rattle.table.proofs.Basics.{some_none, some_same, inside}
 use Rattle.auction.specs.Auction.{State, state, kept_at, status_at, is_deleted, to_child, unreached}
 use Rattle.auction.proofs.Steps.Bids.{child, child_test}
 use Rattle.steps.specs.declared.state.Progress.{Progress}
@@ -49,7 +50,7 @@ module _ (t : Table) {j i v : ℕ} {x y : State} (taken : KeptInstead j i x y) (
   -- a node other than v, which the arc leaves, has no child at j,
   none_there : (q : ℕ) → head_at t q ≡ j → to_child t u q y ≡ false
   none_there q h =
-      refuted (to_child t u q y)
+      false_from_ne_true (to_child t u q y)
       (λ e.
       let c = child t u y q e in
       let same : i ≡ q = some_same taken.here (ap (kept_at y) (sym h) ∙ c.kept) in
@@ -66,9 +67,9 @@ module _ (t : Table) {j i v : ℕ} {x y : State} (taken : KeptInstead j i x y) (
       ⊎_elim
       (λ (h : head_at t q ≡ j).
       none_there q h
-      ∙ sym (refuted (to_child t u q x) (λ e. let c = child t u x q e in unkept q (ap (kept_at x) (sym h) ∙ c.kept) c.leaves)))
+      ∙ sym (false_from_ne_true (to_child t u q x) (λ e. let c = child t u x q e in unkept q (ap (kept_at x) (sym h) ∙ c.kept) c.leaves)))
       (λ (d : head_at t q ≡ j → ⊥). same_elsewhere q d)
-      (same_or (head_at t q) j)
+      (cases_eq (head_at t q) j)
 
   -- and loses the child j where j kept an arc of it
   loses_child : (k : ℕ) (m' : List ℕ) → kept_at x j ≡ some k → ArcInto t j k → tail_at t k ≡ u → status_at x j ≡ unreached → get_or m' u 0 ≡ no_node →
@@ -84,7 +85,7 @@ module _ (t : Table) {j i v : ℕ} {x y : State} (taken : KeptInstead j i x y) (
         gains_none = λ q c.
             ⊎_elim (λ (h : head_at t q ≡ j). absurd (both_ways (to_child t u q y) (none_there q h) c))
             (λ (d : head_at t q ≡ j → ⊥). sym (same_elsewhere q d) ∙ c)
-            (same_or (head_at t q) j);
+            (cases_eq (head_at t q) j);
         memory = e;
       }
 
@@ -96,14 +97,14 @@ still_arcs {t} {j} {i} {x} {y} taken arc arcs = λ u k e.
     let same : i ≡ k = some_same taken.here (ap (kept_at y) (sym z) ∙ e) in
     subst (λ (w : ℕ). ArcInto t w k) (sym z) (subst (λ (q : ℕ). ArcInto t j q) same arc))
     (λ (d : u ≡ j → ⊥). arcs u k (sym (taken.elsewhere u d) ∙ e))
-    (same_or u j)
+    (cases_eq u j)
 
 -- WHAT IS FORGOTTEN
 
 -- the column's entry for an arc that leaves a node is that node
 tail_listed : {t : Table} {ts ls : List ℕ} → Tails t ts ls → (i : ℕ) → i < arc_count t → tail_at t i < t.n → get_or ts i 0 ≡ tail_at t i
 tail_listed {t} {ts} {ls} tails i h n =
-    ⊎_elim (λ (e : get_or ls i 0 ≡ down). absurd (tails.none i h e n)) (λ (d : get_or ls i 0 ≡ down → ⊥). tails.tail i h d) (same_or (get_or ls i 0) down)
+    ⊎_elim (λ (e : get_or ls i 0 ≡ down). absurd (tails.none i h e n)) (λ (d : get_or ls i 0 ≡ down → ⊥). tails.tail i h d) (cases_eq (get_or ls i 0) down)
 
 -- a node that remembers nothing does not begin to, where some node forgets
 still_nothing : (m : List ℕ) (w u : ℕ) → get_or m u 0 ≡ no_node → get_or (set m w no_node) u 0 ≡ no_node
@@ -111,7 +112,7 @@ still_nothing m w u e =
     ⊎_elim
     (λ (z : u ≡ w). let h : u < length m = inside m u (omega arith) in ap (λ a. get_or (set m a no_node) u 0) (sym z) ∙ get_or-set_same m u no_node 0 h)
     (λ (d : u ≡ w → ⊥). get_or-set_other m w u no_node 0 d ∙ e)
-    (same_or u w)
+    (cases_eq u w)
 
 module _ (t : Table) {ts ls : List ℕ} (tails : Tails t ts ls) {j i v : ℕ} {x y : State} (taken : KeptInstead j i x y) (from : tail_at t i ≡ v) (m : List ℕ) where
   -- the head has kept no arc
@@ -147,7 +148,7 @@ module _ (t : Table) {ts ls : List ℕ} (tails : Tails t ts ls) {j i v : ℕ} {x
               children = keeps_children t taken from u d (λ q h l. n (ap (tail_at t) (some_same kept h) ∙ l));
               memory = get_or-set_other m (tail_at t k) u no_node 0 (λ z. n (sym z));
             }))
-            (same_or (tail_at t k) u);
+            (cases_eq (tail_at t k) u);
         nothing = λ u z. still_nothing m (tail_at t k) u z;
       })
 
@@ -183,7 +184,7 @@ module _ {t : Table} {ts ls : List ℕ} (tails : Tails t ts ls) {v i : ℕ} (on 
         remembering =
             ⊎_elim (λ (e : get_or k j 0 ≡ no_arc). gives_none t tails taken at.1 m (get_or k j 0) e found)
             (λ (d : get_or k j 0 ≡ no_arc → ⊥). gives_one t tails taken at.1 m (get_or k j 0) d found long (seen_status p u b k s g j ∙ new) arcs)
-            (same_or (get_or k j 0) no_arc);
+            (cases_eq (get_or k j 0) no_arc);
         arcs = still_arcs taken (record { listed = at.0; into = to; leaves = omega (arith, at.1, on.node) }) arcs;
       }
 
@@ -204,7 +205,7 @@ listed_set {arcs} {k} j i h a =
           ⊎_elim
           (λ (z : u ≡ j). let e : get_or (set k j i) u 0 ≡ i = ap (λ w. get_or (set k w i) u 0) (sym z) ∙ get_or-set_same k u i 0 low in omega arith)
           (λ (d : u ≡ j → ⊥). let e = get_or-set_other k j u i 0 d in omega (arith, a.listed u low (λ z. any (e ∙ z))))
-          (same_or u j);
+          (cases_eq u j);
     }
 
 -- ALL ARCS OUT OF A NODE: some of them have been offered

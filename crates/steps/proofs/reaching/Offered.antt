@@ -8,8 +8,8 @@ use native.Mathlib.Omega.{arith}
 use lib.Dec.{ltb, eqb}
 use lib.ListN.{length, get_or, set, length-set}
 use borrow.Author.Tests.{ltb-true, ltb-false}
+use Rattle.std.proofs.lemmas.Bool.{cases_Bool, cases_eq}
 use Rattle.table.specs.Table.{no_arc, no_distance, no_node}
-use Rattle.table.proofs.Basics.{true_or, same_or}
 use Rattle.auction.specs.Auction.{improves, unreached}
 use Rattle.steps.specs.declared.state.Node.{Node}
 use Rattle.steps.specs.Seen.{bound_of, arc_of, status_number, prices_in, bounds_in, kepts_in, memory_in, statuses_in}
@@ -25,18 +25,18 @@ module _ (i : ℕ) (ts : List ℕ) (ns : List Node) where
   column_stays : {A : Type 0} (f : Node → A) → ((n : Node) → f (record n { remembered = no_node }) ≡ f n) → map f (without_tail i ts ns) ≡ map f ns
   column_stays f h =
       ⊎_elim (λ (e : eqb i no_arc ≡ true). rw e) (λ (e : eqb i no_arc ≡ false). rw e (unwritten f ns (get_or ts i 0) _ (h (node_at (get_or ts i 0) ns))))
-      (true_or (eqb i no_arc))
+      (cases_Bool (eqb i no_arc))
 
   -- and this one loses an entry
   memory_without : memory_in (without_tail i ts ns) ≡ tail_forgets i ts (memory_in ns)
   unfolding tail_forgets
   memory_without =
       ⊎_elim (λ (e : eqb i no_arc ≡ true). rw e) (λ (e : eqb i no_arc ≡ false). rw e (written (λ n. n.remembered) ns (get_or ts i 0) _))
-      (true_or (eqb i no_arc))
+      (cases_Bool (eqb i no_arc))
 
   long_without : length (without_tail i ts ns) ≡ length ns
   long_without =
-      ⊎_elim (λ (e : eqb i no_arc ≡ true). rw e) (λ (e : eqb i no_arc ≡ false). rw e (length-set ns (get_or ts i 0) _)) (true_or (eqb i no_arc))
+      ⊎_elim (λ (e : eqb i no_arc ≡ true). rw e) (λ (e : eqb i no_arc ≡ false). rw e (length-set ns (get_or ts i 0) _)) (cases_Bool (eqb i no_arc))
 
 -- WHAT OFFERING AN ARC LEAVES, column by column
 pub record NowOffered (j i d : ℕ) (ts : List ℕ) (ns ns' : List Node) : Type 0 where
@@ -98,7 +98,7 @@ module _ (j i d : ℕ) (ts : List ℕ) (ns : List Node) (inside : j < length ns)
             ⊎_elim
             (λ (z : get_or (statuses_in ns) j 0 ≡ 0). offered_dropped bounds_in_reach kepts_in_reach (read_so false e) z)
             (λ (z : get_or (statuses_in ns) j 0 ≡ 0 → ⊥). offered_reached bounds_in_reach kepts_in_reach z)
-            (same_or (get_or (statuses_in ns) j 0) 0))
+            (cases_eq (get_or (statuses_in ns) j 0) 0))
             why;
         gives_up = inl (refl, refl);
       }
@@ -108,5 +108,5 @@ module _ (j i d : ℕ) (ts : List ℕ) (ns : List Node) (inside : j < length ns)
       ⊎_elim
       (λ (r : reached_before ≡ true). rw r (left_so (inl r)))
       (λ (r : reached_before ≡ false).
-      ⊎_elim (λ (b : better ≡ true). rw (r, b) (taken r b)) (λ (b : better ≡ false). rw (r, b) (left_so (inr b))) (true_or better))
-      (true_or reached_before)
+      ⊎_elim (λ (b : better ≡ true). rw (r, b) (taken r b)) (λ (b : better ≡ false). rw (r, b) (left_so (inr b))) (cases_Bool better))
+      (cases_Bool reached_before)

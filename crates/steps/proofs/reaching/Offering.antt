@@ -9,9 +9,9 @@ use lib.Dec.{ltb, eqb}
 use lib.ListN.{length, get_or, set}
 use lib.Seq.{get_or-set_other}
 use borrow.Author.Tests.{lt-ltb, le-ltb, eq-eqb, ne_eqb}
+use Rattle.std.proofs.lemmas.Bool.{cases_eq}
 use Rattle.table.specs.Table.{Table, arc_count, tail_at, head_at, length_at, no_arc, no_distance}
 use Rattle.auction.specs.Auction.{State, improves, takes, offer, offers, distance, was_reached, bound_at, kept_at, with_kept, or_zero}
-use Rattle.table.proofs.Basics.{same_or}
 use Rattle.steps.specs.declared.state.Progress.{Progress}
 use Rattle.steps.specs.Seen.{bound_of, arc_of, seen}
 use Rattle.forward_star.specs.Lists.{star, Outgoing}
@@ -41,7 +41,7 @@ module _ (o i b k : ℕ) (fits : o < no_distance) where
       ⊎_elim
       (λ (z : k ≡ no_arc). rw (equal_lower e, no_kept k z, eq-eqb k no_arc z) (sym (le-ltb i 0 (omega arith))))
       (λ (z : k ≡ no_arc → ⊥). rw (equal_lower e, some_arc k z, ne_eqb k no_arc z) (sym (lt-ltb i k h)))
-      (same_or k no_arc)
+      (cases_eq k no_arc)
 
   pub equal_after : o ≡ b → k ≤ i → ltb i k ≡ improves o i (bound_of b) (arc_of k)
   unfolding or_zero
@@ -49,7 +49,7 @@ module _ (o i b k : ℕ) (fits : o < no_distance) where
       ⊎_elim
       (λ (z : k ≡ no_arc). rw (equal_lower e, no_kept k z, le-ltb i k h) (sym (le-ltb i 0 (omega arith))))
       (λ (z : k ≡ no_arc → ⊥). rw (equal_lower e, some_arc k z))
-      (same_or k no_arc)
+      (cases_eq k no_arc)
 
   pub unequal : (o ≡ b → ⊥) → ltb o b ≡ improves o i (bound_of b) (arc_of k)
   unfolding improves
@@ -57,7 +57,7 @@ module _ (o i b k : ℕ) (fits : o < no_distance) where
       ⊎_elim
       (λ (z : b ≡ no_distance). rw (no_bound b z) (lt-ltb o b (omega arith)))
       (λ (z : b ≡ no_distance → ⊥). rw (some_bound b z, ne_eqb o b d) (sym (or-false (ltb o b))))
-      (same_or b no_distance)
+      (cases_eq b no_distance)
 
 -- ONE ARC OFFERED
 offer_is : (t : Table) (v i j d : ℕ) (x : State) → tail_at t i ≡ v → head_at t i ≡ j → distance x v + length_at t i ≡ d →

@@ -1,6 +1,7 @@
 -- `records::count_records` meets its contract: one law of `Runs` for each way on and out. Assumes nothing.
 use Rattle.std.proofs.Common.{sym, ap, ◌∙◌, arith}
-use Rattle.link_reader.proofs.records.Runs.{part_is, standing_next, run_more, count_of, count_more, all_counted, one_refused, one_too_many}
+use Rattle.std.proofs.lemmas.List.{take_rest}
+use Rattle.link_reader.proofs.records.Runs.{standing_next, run_more, count_of, count_more, all_counted, one_refused, one_too_many}
 use Rattle.link_reader.proofs.Refused.{refused_as}
 use Rattle.link_reader.proofs.records.count_records.Goals as goal
 
@@ -10,12 +11,12 @@ returns-then-at-file c = let all = all_counted _ _ _ _ _ c.loop-count.invariant.
 pub returns-in-Err : goal.returns-in-Err
 returns-in-Err c =
     let stands = c.loop-count.invariant.stands in
-    (one_refused _ _ _ _ _ c.loop-count.invariant.same (omega (arith, stands.inside)) c.loop-count-test.true (rw part_is at c.in-Err.ensures))
+    (one_refused _ _ _ _ _ c.loop-count.invariant.same (omega (arith, stands.inside)) c.loop-count-test.true (rw take_rest at c.in-Err.ensures))
 
 pub loop-count-preserved : goal.loop-count-preserved
 loop-count-preserved c =
     let stands = c.loop-count.invariant.stands in
-    let record_got = rw part_is at c.in-Ok.ensures in
+    let record_got = rw take_rest at c.in-Ok.ensures in
     record {
       stands = standing_next stands _ _ record_got;
       same =

@@ -1,8 +1,8 @@
 -- `records::fill_records` meets its contract: an accepted file has no refused record, and each record's arc goes to the columns' next
 -- element. Assumes nothing.
 use Rattle.std.proofs.Common.{arith}
+use Rattle.std.proofs.lemmas.List.{take_rest}
 use Rattle.link_reader.proofs.records.Filling.{filling_next, tails_done, heads_done, lengths_done, all_passed, never_refused}
-use Rattle.link_reader.proofs.records.Runs.{part_is}
 use Rattle.link_reader.proofs.records.fill_records.Goals as goal
 use Rattle.link_reader.proofs.records.fill_records.Goals.{In_default}
 
@@ -10,7 +10,7 @@ use Rattle.link_reader.proofs.records.fill_records.Goals.{In_default}
 never : (c : In_default) → ⊥
 never c =
     let f = c.loop-i.invariant in
-    never_refused _ _ _ _ f.good (omega (arith, f.stands.inside)) c.loop-i-test.true _ _ (rw part_is at c.in_default.ensures)
+    never_refused _ _ _ _ f.good (omega (arith, f.stands.inside)) c.loop-i-test.true _ _ (rw take_rest at c.in_default.ensures)
 
 pub returns-then-at-file-clause-tails : goal.returns-then-at-file-clause-tails
 returns-then-at-file-clause-tails c = tails_done c.loop-i.invariant (omega arith)
@@ -33,7 +33,7 @@ returns-in_default-clause-lengths c = absurd (never c)
 pub loop-i-preserved : goal.loop-i-preserved
 loop-i-preserved c =
     let f = c.loop-i.invariant in
-    filling_next f (omega (arith, f.stands.inside)) c.loop-i-test.true (rw part_is at c.in-Ok.ensures)
+    filling_next f (omega (arith, f.stands.inside)) c.loop-i-test.true (rw take_rest at c.in-Ok.ensures)
 
 pub returns-clause-tails : goal.returns-clause-tails
 returns-clause-tails c = tails_done c.loop-i.invariant (all_passed _ _ _ _ c.loop-i.invariant.good c.loop-i-test.false c.loop-i.auto.i-end)
