@@ -33,7 +33,7 @@
 extern "C" {
 #endif
 
-#define KESTRELORE_VERSION "0.5.0"
+#define KESTRELORE_VERSION "0.6.0"
 
 /* The most nodes, arcs and wanted nodes of a table, and the bytes of the longest link file. */
 #define KESTRELORE_MOST_NODES 1024
@@ -84,7 +84,10 @@ typedef enum kestrelore_refusal {
     KESTRELORE_ROOM = 13,         /* the output list is too short */
     KESTRELORE_NO_PATH = 14,      /* the tree column does not lead back to the origin, or not on to the
                                      collector */
-    KESTRELORE_NO_WALK = 15       /* the fresh path is empty, has more than 1,024 nodes or is no walk */
+    KESTRELORE_NO_WALK = 15,      /* the fresh path is empty, has more than 1,024 nodes or is no walk */
+    KESTRELORE_LOAD_RANGE = 16,   /* the chance of a test load is above 65,536, or its largest length is 0
+                                     or KESTRELORE_DOWN */
+    KESTRELORE_LOAD_SIZE = 17     /* the test load has more than 6,000 arcs */
 } kestrelore_refusal;
 
 /* What planning answers. */
@@ -141,6 +144,13 @@ typedef struct kestrelore_written {
     uint32_t place;
     uint32_t length;       /* how many bytes the file has */
 } kestrelore_written;
+
+/* What making a test load answers. */
+typedef struct kestrelore_made {
+    uint32_t number;       /* 0, 1, 3, 16 or 17 */
+    uint32_t place;
+    uint32_t arcs;         /* how many elements of the three columns were filled */
+} kestrelore_made;
 
 /*
  * Plans shortest routes from the origin until every wanted node is reached.
@@ -290,6 +300,25 @@ kestrelore_written kestrelore_write_link_file(
     const uint32_t *lengths, size_t lengths_count,
     const uint16_t *wanted, size_t wanted_count,
     uint8_t *output, size_t output_count);
+
+/*
+ * Makes a test load: the table that everybody makes of these four numbers.
+ *
+ * A state of 32 bits starts as the seed. Each draw replaces it by state * 1664525 + 1013904223,
+ * wrapping, and gives the new state. For each pair of different nodes, by tail and then by head, one
+ * draw decides: the pair has an arc where the draw / 65536 is below the chance, so a chance of 0 gives
+ * none and one of 65,536 gives each pair an arc. Only where it has one, a second draw gives the length,
+ * 1 + draw % largest.
+ *
+ * tails, heads and lengths are at least 6,000 long; their starts are filled and the rest is untouched.
+ * There is no loop and no pair twice, and planning does not turn the table down. Tested in the order
+ * 1, 3, 16, 17.
+ */
+kestrelore_made kestrelore_make_load(
+    uint32_t n, uint32_t seed, uint32_t chance, uint32_t largest,
+    uint16_t *tails, size_t tails_count,
+    uint16_t *heads, size_t heads_count,
+    uint32_t *lengths, size_t lengths_count);
 
 #ifdef __cplusplus
 }

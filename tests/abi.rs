@@ -14,9 +14,9 @@ pub const NO_ARC: u16 = 65_535;
 pub const NO_DISTANCE: u64 = u64::MAX;
 
 /// The refusals in the order of their numbers, from 0.
-const REFUSALS: [&str; 16] = [
+const REFUSALS: [&str; 18] = [
     "NONE", "NODE_COUNT", "COLUMNS", "BUFFERS", "ORIGIN", "WANTED", "ARC_END", "ARC_LENGTH", "NO_ROUTE",
-    "CUT", "BIT_MAP", "IMPLIED_HEAD", "NEEDLESS", "ROOM", "NO_PATH", "NO_WALK",
+    "CUT", "BIT_MAP", "IMPLIED_HEAD", "NEEDLESS", "ROOM", "NO_PATH", "NO_WALK", "LOAD_RANGE", "LOAD_SIZE",
 ];
 
 #[repr(C)]
@@ -76,6 +76,14 @@ pub struct Written {
     pub number: u32,
     pub place: u32,
     pub length: u32,
+}
+
+#[repr(C)]
+#[derive(Clone, Copy, Debug, Default, PartialEq)]
+pub struct Made {
+    pub number: u32,
+    pub place: u32,
+    pub arcs: u32,
 }
 
 /// The planning function, of this library or of another one.
@@ -164,6 +172,13 @@ extern "C" {
         wanted: *const u16, wanted_count: usize,
         output: *mut u8, output_count: usize,
     ) -> Written;
+
+    fn kestrelore_make_load(
+        n: u32, seed: u32, chance: u32, largest: u32,
+        tails: *mut u16, tails_count: usize,
+        heads: *mut u16, heads_count: usize,
+        lengths: *mut u32, lengths_count: usize,
+    ) -> Made;
 }
 
 /// The columns of a table.
@@ -186,6 +201,12 @@ pub struct ReadBuffers<'a> {
     pub heads: &'a mut [u16],
     pub lengths: &'a mut [u32],
     pub wanted: &'a mut [u16],
+}
+
+pub struct LoadBuffers<'a> {
+    pub tails: &'a mut [u16],
+    pub heads: &'a mut [u16],
+    pub lengths: &'a mut [u32],
 }
 
 // Each call lends whole slices, by their own pointers and lengths, for the time of the call.
@@ -287,6 +308,17 @@ pub fn write_link_file(n: u32, origin: u16, columns: Columns, wanted: &[u16], ou
     }
 }
 
+pub fn make_load(n: u32, seed: u32, chance: u32, largest: u32, out: LoadBuffers) -> Made {
+    unsafe {
+        kestrelore_make_load(
+            n, seed, chance, largest,
+            out.tails.as_mut_ptr(), out.tails.len(),
+            out.heads.as_mut_ptr(), out.heads.len(),
+            out.lengths.as_mut_ptr(), out.lengths.len(),
+        )
+    }
+}
+
 /// A line for a struct, with its size, and one for each field, with its offset and size.
 macro_rules! struct_lines {
     ($text:ident, $name:literal, $kind:ident, $($field:ident)*) => {{
@@ -310,6 +342,7 @@ pub fn layout() -> Result<String, std::fmt::Error> {
     struct_lines!(text, "kestrelore_kept", Kept, number place standing count);
     struct_lines!(text, "kestrelore_table_read", TableRead, number place n origin arcs wanted);
     struct_lines!(text, "kestrelore_written", Written, number place length);
+    struct_lines!(text, "kestrelore_made", Made, number place arcs);
     for (name, limit) in [
         ("MOST_NODES", MOST_NODES),
         ("MOST_ARCS", MOST_ARCS),

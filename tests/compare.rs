@@ -404,6 +404,78 @@ pub fn round_trip(entries: &dyn Entries, table: &Table) -> Verdict {
     same_answer(&read_table(entries, &file), &Ok(table.clone())).map_err(|fault| format!("read back: {fault}"))
 }
 
+// Making a test load.
+
+/// How long the three columns are: tails, heads, lengths.
+pub type LoadSizes = [usize; 3];
+
+pub const LOAD_SIZES: LoadSizes = [MOST_ARCS; 3];
+
+struct LentColumns {
+    tails: Lent<u16>,
+    heads: Lent<u16>,
+    lengths: Lent<u32>,
+}
+
+impl LentColumns {
+    /// The arcs at their starts.
+    fn arcs(&self, count: usize) -> Vec<Arc> {
+        let (tails, heads, lengths) = (self.tails.held(), self.heads.held(), self.lengths.held());
+        (0..count).map(|position| (tails[position], heads[position], lengths[position])).collect()
+    }
+}
+
+fn make_lent(entries: &dyn Entries, load: &Load, sizes: LoadSizes) -> (Made, LentColumns) {
+    let [tails, heads, lengths] = sizes;
+    let mut lent = LentColumns { tails: Lent::new(tails), heads: Lent::new(heads), lengths: Lent::new(lengths) };
+    let answer = entries.make(load, LoadBuffers {
+        tails: lent.tails.part(),
+        heads: lent.heads.part(),
+        lengths: lent.lengths.part(),
+    });
+    (answer, lent)
+}
+
+/// The table that is made, with all nodes wanted from node 0, or the refusal.
+pub fn made_table(entries: &dyn Entries, load: &Load) -> Result<Table, Refusal> {
+    let (answer, lent) = make_lent(entries, load, LOAD_SIZES);
+    if answer.number != 0 {
+        return Err(Refusal { number: answer.number, place: answer.place });
+    }
+    let wanted: Vec<u16> = (0..load.n as u16).collect();
+    Ok(Table::new(load.n, 0, &lent.arcs(answer.arcs as usize), &wanted))
+}
+
+/// No loop and no pair twice, by tail and then by head; lengths from 1 to the largest.
+fn check_load(load: &Load, arcs: &[Arc]) -> Verdict {
+    let in_range = |arc: &Arc| {
+        let (tail, head, length) = *arc;
+        tail != head && (tail.max(head) as u32) < load.n && (1..=load.largest).contains(&length)
+    };
+    let ascending = arcs.windows(2).all(|two| (two[0].0, two[0].1) < (two[1].0, two[1].1));
+    if ascending && arcs.iter().all(in_range) { Ok(()) } else { Err(format!("not the arcs of a load: {arcs:?}")) }
+}
+
+fn compare_make(entries: &dyn Entries, load: &Load, sizes: LoadSizes) -> Result<Made, String> {
+    let (answer, lent) = make_lent(entries, load, sizes);
+    let (expected, model) = make_lent(&RIGHT, load, sizes);
+    same_answer(&answer, &expected)?;
+    same("tails", &lent.tails, &model.tails)?;
+    same("heads", &lent.heads, &model.heads)?;
+    same("lengths", &lent.lengths, &model.lengths)?;
+    let arcs = expected.arcs as usize;
+    rest_untouched("tails", &lent.tails, arcs)?;
+    rest_untouched("heads", &lent.heads, arcs)?;
+    rest_untouched("lengths", &lent.lengths, arcs)?;
+    check_load(load, &lent.arcs(arcs))?;
+    Ok(answer)
+}
+
+/// Compares making a load in columns of these sizes, and gives the answer.
+pub fn make(entries: &dyn Entries, load: &Load, sizes: LoadSizes) -> Result<Made, String> {
+    compare_make(entries, load, sizes).map_err(|fault| format!("{fault}\n  columns {sizes:?}, {load:?}"))
+}
+
 // The program.
 
 /// The last line of a sheet that lists nodes counts each arc of the table once, and a tree arc for each reached node

@@ -1,6 +1,7 @@
 /* Plans the routes of a small table and prints the path to node 3, and whether that is within 5 and 6;
    then plans for nodes 0, 1 and 2, which send to collector 3, and prints the path from node 0. Of another
-   table it prints the path to node 2, and which is kept: that or the one in use, which is just as long. */
+   table it prints the path to node 2, and which is kept: that or the one in use, which is just as long. Last
+   it makes a test load of 4 nodes and prints how many arcs that has, and the first. */
 #include "kestrelore.h"
 #include <stdio.h>
 
@@ -31,6 +32,16 @@ static void keep(void)
     puts("");
 }
 
+static void make(void)
+{
+    enum { ROOM = KESTRELORE_MOST_ARCS };
+    static uint16_t tails[ROOM], heads[ROOM];
+    static uint32_t lengths[ROOM];
+    kestrelore_made made = kestrelore_make_load(4, 12345, 20000, 1000, tails, ROOM, heads, ROOM, lengths, ROOM);
+    printf("load: refusal %u, %u arcs, the first from %u to %u, length %u\n",
+           made.number, made.arcs, tails[0], heads[0], (unsigned)lengths[0]);
+}
+
 int main(void)
 {
     const uint16_t tails[] = {0, 0, 1, 2, 1}, heads[] = {1, 2, 2, 3, 3};
@@ -53,5 +64,6 @@ int main(void)
     printf("collector 3: ");
     print(plan, list, distances[0], path);
     keep();
+    make();
     return ferror(stdout);
 }

@@ -43,6 +43,10 @@ int main(void)
     FIELD(kestrelore_written, number);
     FIELD(kestrelore_written, place);
     FIELD(kestrelore_written, length);
+    STRUCT(kestrelore_made);
+    FIELD(kestrelore_made, number);
+    FIELD(kestrelore_made, place);
+    FIELD(kestrelore_made, arcs);
     NUMBER(KESTRELORE_MOST_NODES);
     NUMBER(KESTRELORE_MOST_ARCS);
     NUMBER(KESTRELORE_MOST_WANTED);
@@ -66,5 +70,7 @@ int main(void)
     NUMBER(KESTRELORE_ROOM);
     NUMBER(KESTRELORE_NO_PATH);
     NUMBER(KESTRELORE_NO_WALK);
+    NUMBER(KESTRELORE_LOAD_RANGE);
+    NUMBER(KESTRELORE_LOAD_SIZE);
     return 0;
 }

@@ -46,6 +46,10 @@ impl Entries for Product {
         write_link_file(table.n, table.origin, table.columns(), &table.wanted, output)
     }
 
+    fn make(&self, load: &Load, out: LoadBuffers) -> Made {
+        make_load(load.n, load.seed, load.chance, load.largest, out)
+    }
+
     fn print(&self, file: &[u8]) -> Result<String, String> {
         self.print_in_pieces(file, file.len().max(1))
     }

@@ -74,6 +74,18 @@ impl Listing {
     }
 }
 
+/// The numbers that a test load is made of.
+#[derive(Clone, Copy, Debug, PartialEq)]
+pub struct Load {
+    pub n: u32,
+    pub seed: u32,
+    pub chance: u32,
+    pub largest: u32,
+}
+
+/// The chance that gives every pair an arc.
+pub const CERTAIN: u32 = 65_536;
+
 /// A ground's number and place.
 #[derive(Clone, Copy, Debug, PartialEq)]
 pub struct Refusal {
@@ -85,7 +97,7 @@ pub fn refuse<T>(number: u32, place: usize) -> Result<T, Refusal> {
     Err(Refusal { number, place: place as u32 })
 }
 
-/// The eight functions of the library, and the program from its standard input to its standard output. In the two that
+/// The nine functions of the library, and the program from its standard input to its standard output. In the two that
 /// go to a collector it stands as the origin, and the senders as the wanted nodes.
 pub trait Entries: Sync {
     fn plan(&self, table: &Table, out: PlanBuffers) -> Planned;
@@ -98,5 +110,6 @@ pub trait Entries: Sync {
     fn keep(&self, n: u32, columns: Columns, standing: &[u16], fresh: &[u16]) -> Kept;
     fn read(&self, file: &[u8], out: ReadBuffers) -> TableRead;
     fn write(&self, table: &Table, output: &mut [u8]) -> Written;
+    fn make(&self, load: &Load, out: LoadBuffers) -> Made;
     fn print(&self, file: &[u8]) -> Result<String, String>;
 }

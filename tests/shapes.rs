@@ -1,5 +1,6 @@
 //! Random tables of many shapes.
 
+use crate::model::RIGHT;
 use crate::random::Random;
 use crate::rules::*;
 
@@ -17,9 +18,10 @@ pub enum Shape {
     Layers,
     Parallel,
     TwoParts,
+    Load,
 }
 
-pub const SHAPES: [Shape; 12] = [
+pub const SHAPES: [Shape; 13] = [
     Shape::Scattered,
     Shape::Dense,
     Shape::Star,
@@ -32,6 +34,7 @@ pub const SHAPES: [Shape; 12] = [
     Shape::Layers,
     Shape::Parallel,
     Shape::TwoParts,
+    Shape::Load,
 ];
 
 /// Tails and heads of a shape on n nodes; node 0 leads to what can be reached.
@@ -50,6 +53,7 @@ pub fn ends(random: &mut Random, shape: Shape, n: usize) -> Vec<(usize, usize)> 
         Shape::Layers => (1..n).flat_map(|node| (1..=4.min(node)).map(move |back| (node - back, node))).collect(),
         Shape::Parallel => (0..random.from(1, 12)).map(|_| (random.below(n.min(3)), random.below(n.min(3)))).collect(),
         Shape::TwoParts => (0..random.from(0, 6 * n)).map(|_| pair_within_part(random, n)).collect(),
+        Shape::Load => load_arcs(random, n).into_iter().map(|arc| (arc.0 as usize, arc.1 as usize)).collect(),
     }
 }
 
@@ -79,6 +83,19 @@ fn pair_within_part(random: &mut Random, n: usize) -> (usize, usize) {
     let tail = random.below(n);
     let head = if tail < half { random.below(half) } else { random.below(n) };
     (tail, head)
+}
+
+/// A chance that gives about so many of the pairs of n nodes an arc.
+pub fn chance_of(n: usize, arcs: usize) -> u32 {
+    let pairs = (n * (n - 1)).max(1);
+    (CERTAIN as usize * arcs.min(pairs) / pairs) as u32
+}
+
+/// A test load as the model makes it, from sparse to dense.
+fn load_arcs(random: &mut Random, n: usize) -> Vec<Arc> {
+    let arcs = random.pick(&[n / 2, n, 2 * n, 3 * n, 5 * n, n * n]).min(5_500);
+    let largest = random.pick(&[1, 2, 4, 100, LONGEST_ARC]);
+    RIGHT.arcs_of_load(&Load { n: n as u32, seed: random.number() as u32, chance: chance_of(n, arcs), largest })
 }
 
 /// One length after another, in one of several styles.
@@ -122,9 +139,20 @@ pub fn wanted(random: &mut Random, n: usize, origin: u16) -> Vec<u16> {
     }
 }
 
-/// A table of the shape without a fault: some arcs doubled, loops added, arcs and nodes in another
+/// A load as it is made; its origin is any node.
+fn load_table(random: &mut Random, n: usize) -> Table {
+    let arcs = load_arcs(random, n);
+    let origin = random.below(n) as u16;
+    let wanted = wanted(random, n, origin);
+    Table::new(n as u32, origin, &arcs, &wanted)
+}
+
+/// A table of the shape without a fault: a load, or some arcs doubled, loops added, arcs and nodes in another
 /// order, sometimes some arcs down, and sometimes the last node left out of the shape.
 pub fn table(random: &mut Random, shape: Shape, n: usize) -> Table {
+    if matches!(shape, Shape::Load) {
+        return load_table(random, n);
+    }
     let connected = if n > 1 && random.one_in(8) { n - 1 } else { n };
     let mut ends = ends(random, shape, connected);
     for _ in 0..random.pick(&[0, 0, 1, 3, 10]) {

@@ -3,6 +3,7 @@
 use super::*;
 use crate::compare::{self, write_file};
 use crate::model::RIGHT;
+use crate::shapes::{self, Shape};
 
 pub const GROUPS: &[Group] = &[
     Group { name: "files: random tables written, every room, and read back", run: written },
@@ -32,8 +33,19 @@ fn any_length(random: &mut Random, last: u32) -> u32 {
     }
 }
 
-/// A table as the file can hold it, with nodes and lengths that only the planner refuses.
+/// A load, or its first arcs.
+fn any_load(random: &mut Random, most_arcs: usize) -> Table {
+    let n = random.pick(&[1, 2, 3, 4, 60]);
+    let table = shapes::table(random, Shape::Load, n);
+    let arcs: Vec<Arc> = table.arcs().into_iter().take(most_arcs).collect();
+    Table::new(table.n, table.origin, &arcs, &table.wanted)
+}
+
+/// A table as the file can hold it: a load, or one with nodes and lengths that only the planner refuses.
 fn any_table(random: &mut Random, most_arcs: usize) -> Table {
+    if random.one_in(6) {
+        return any_load(random, most_arcs);
+    }
     let n = random.pick(&[1, 2, 3, 5, 300, 1_024]);
     let mut arc = (random.number() as u16, random.pick(&[0, 65_534, 65_535]), 1);
     let arcs: Vec<Arc> = (0..random.from(0, most_arcs))

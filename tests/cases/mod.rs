@@ -6,6 +6,7 @@ pub mod files;
 pub mod grounds;
 pub mod keeping;
 pub mod listings;
+pub mod load;
 pub mod plans;
 pub mod program;
 pub mod rack;
@@ -25,9 +26,9 @@ pub struct Group {
 
 /// The quick ones first, since a faulty model goes through them until one notices its fault.
 pub fn groups() -> Vec<Group> {
-    let quick = [keeping::GROUPS, rack::GROUPS, grounds::GROUPS, listings::GROUPS, collector::QUICK].concat();
+    let quick = [keeping::GROUPS, load::QUICK, rack::GROUPS, grounds::GROUPS, listings::GROUPS, collector::QUICK].concat();
     let plans = [plans::GROUPS, within::GROUPS, collector::GROUPS, walks::GROUPS, beside::GROUPS].concat();
-    [&quick, program::GROUPS, files::GROUPS, &plans].concat()
+    [&quick, program::GROUPS, files::GROUPS, &plans, load::GROUPS].concat()
 }
 
 /// T of 01, with the given number of nodes and wanted list.

@@ -5,6 +5,7 @@ mod collector;
 mod keeping;
 mod link_file;
 mod listing;
+mod load;
 mod planner;
 mod sheet;
 mod within;
@@ -104,9 +105,31 @@ pub enum Wrong {
     NoWalkPlaceIsStep,
     RefusalCountsFresh,
     FreshCountGiven,
+    LoopsDrawn,
+    LengthAlwaysDrawn,
+    FormerStateDrawn,
+    ChanceItselfTaken,
+    LowBitsDecide,
+    LengthByFirstDraw,
+    SecondDrawForgotten,
+    LengthsFromZero,
+    HeadsBeforeTails,
+    ColumnsBeforeNodeCount,
+    RangeBeforeColumns,
+    SizeBeforeRange,
+    RoomForItsArcsEnough,
+    UnequalColumnsRefused,
+    GreaterChanceTaken,
+    DownAsLargestTaken,
+    LongestAsLargestRefused,
+    OneArcMoreTaken,
+    FullLoadRefused,
+    LoadPlaceIsArc,
+    RefusedLoadFills,
+    LoadCleansRest,
 }
 
-pub const ALL_WRONG: [Wrong; 90] = [
+pub const ALL_WRONG: [Wrong; 112] = [
     Wrong::TieByFirstMet,
     Wrong::HorizonFromRawPrice,
     Wrong::RawPrices,
@@ -197,6 +220,28 @@ pub const ALL_WRONG: [Wrong; 90] = [
     Wrong::NoWalkPlaceIsStep,
     Wrong::RefusalCountsFresh,
     Wrong::FreshCountGiven,
+    Wrong::LoopsDrawn,
+    Wrong::LengthAlwaysDrawn,
+    Wrong::FormerStateDrawn,
+    Wrong::ChanceItselfTaken,
+    Wrong::LowBitsDecide,
+    Wrong::LengthByFirstDraw,
+    Wrong::SecondDrawForgotten,
+    Wrong::LengthsFromZero,
+    Wrong::HeadsBeforeTails,
+    Wrong::ColumnsBeforeNodeCount,
+    Wrong::RangeBeforeColumns,
+    Wrong::SizeBeforeRange,
+    Wrong::RoomForItsArcsEnough,
+    Wrong::UnequalColumnsRefused,
+    Wrong::GreaterChanceTaken,
+    Wrong::DownAsLargestTaken,
+    Wrong::LongestAsLargestRefused,
+    Wrong::OneArcMoreTaken,
+    Wrong::FullLoadRefused,
+    Wrong::LoadPlaceIsArc,
+    Wrong::RefusedLoadFills,
+    Wrong::LoadCleansRest,
 ];
 
 /// The rules, or with a fault.
@@ -266,6 +311,10 @@ impl Entries for Model {
             }
             Err(Refusal { number, place }) => Written { number, place, ..Written::default() },
         }
+    }
+
+    fn make(&self, load: &Load, out: LoadBuffers) -> Made {
+        self.make_load(load, out)
     }
 
     fn print(&self, file: &[u8]) -> Result<String, String> {

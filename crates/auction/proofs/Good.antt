@@ -1,5 +1,5 @@
 -- What `is_table` says of a table's numbers, one fact a field; and it holds just where none of the grounds 1 to 7 applies. Assumes nothing.
-use mathlib.Core.Path.{◌≡◌, refl, sym, ap, subst, ◌∙◌}
+use mathlib.Core.Path.{◌≡◌, refl, ap, subst, ◌∙◌}
 use mathlib.Core.Bool.{Bool, true, false, ◌&&◌, ◌||◌, not, cond}
 use mathlib.Core.List.{List, [], ◌∷◌}
 use mathlib.Core.Logic.{⊎_elim}
@@ -237,7 +237,7 @@ pub table_is_unrefused : TableIsUnrefused
 unfolding TableIsUnrefused table_refusal table_of table arc_count wanted_refusal count_bad columns_bad arcs_refusal or_else no_refusal refusal
 table_is_unrefused n o ts hs ls ws rooms th hl fit e =
     let p = parts (table_of n o ts hs ls) ws e in
-    let count = arcs_count ts hs ls (sym th) (sym (th ∙ hl)) in
+    let count = arcs_count ts hs ls th hl in
     let some_node : n ≡ 0 → ⊥ = λ z. omega (arith, z, p.some_node) in
     rw (
       ne_eqb n 0 some_node,

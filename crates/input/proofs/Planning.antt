@@ -8,12 +8,13 @@ use lib.ListN.{length, take, drop, replicate, length-replicate, length-map, leng
 use lib.Dec.{ltb}
 use lib.Seq.{take_at}
 use borrow.Author.Tests.{lt-ltb, le-ltb}
-use Rattle.table.specs.Table.{Arc, most_arcs, most_wanted}
-use Rattle.table.specs.Refusals.{refusal, no_refusal}
+use Rattle.table.specs.Table.{Arc, most_arcs, most_wanted, tails_of, heads_of, lengths_of}
+use Rattle.table.specs.Refusals.{refusal, no_refusal, columns_short}
 use Rattle.auction.specs.HandOver.{Answer}
-use Rattle.link_format.specs.Format.{Content, content, tails_of, heads_of, lengths_of}
+use Rattle.table.specs.Slices.{over}
+use Rattle.link_format.specs.Format.{Content, content}
 use Rattle.link_format.specs.Reading.{Outcome, got, refused, read_file}
-use Rattle.link_format.specs.Buffers.{over, too_short, reading, refusal_of, no_content, content_of}
+use Rattle.link_format.specs.Buffers.{too_short, reading, refusal_of, no_content, content_of}
 use Rattle.link_format.proofs.Outcomes.{files_refused_by_number}
 use Rattle.link_file.specs.declared.TableRead.{TableRead}
 use Rattle.link_file.specs.Entries.{read_answer, LeftByReading, ReadSays}
@@ -48,7 +49,7 @@ input_too_long input ts hs ls ws r h e =
 -- another one is read, with buffers that are long enough
 pub input_read : (input ts hs ls ws ts' hs' ls' ws' : List ℕ) (r : TableRead) → length input ≤ most_input → ColumnsRoomy ts hs ls ws →
     ReadSays input ts hs ls ws ts' hs' ls' ws' r → LeftByReading (read_input input) ts hs ls ws ts' hs' ls' ws' r
-unfolding read_input reading too_short
+unfolding read_input reading too_short columns_short
 input_read input ts hs ls ws ts' hs' ls' ws' r h room says =
     let long : reading input ts hs ls ws ≡ read_file input =
     rw (

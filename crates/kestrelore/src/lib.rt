@@ -1,4 +1,4 @@
-// The library for firmware: the eight entry points under C names, nothing else. include/kestrelore.h declares them; each has the contract of the function
+// The library for firmware: the nine entry points under C names, nothing else. include/kestrelore.h declares them; each has the contract of the function
 // that it hands on to. A column or buffer is a parameter of its own, with its length, since C lends them so.
 #![tactic(auto)]
 
@@ -9,12 +9,14 @@ ghost use Rattle.listing.specs.Listing.{ListsPath};
 ghost use Rattle.listing.specs.Collecting.{ListsToCollector};
 ghost use Rattle.keeping.specs.Keeping.{keeps};
 ghost use Rattle.link_file.specs.Entries.{ReadsFile, WritesFile};
+ghost use Rattle.test_load.specs.Making.{MakesLoad};
 
 use hand_over::Planned;
 use keeping::Kept;
 use limit_answer::Within;
 use link_file::{TableRead, Written};
 use listing::Listed;
+use test_load::Made;
 
 // Plans the routes of a link table.
 #[unsafe(no_mangle)]
@@ -147,4 +149,20 @@ pub extern "C" fn kestrelore_write_link_file(
     ensures { WritesFile n origin tails heads lengths wanted output result }
 {
     link_file::write_link_file(n, origin, tails, heads, lengths, wanted, output)
+}
+
+// Makes a test load.
+#[unsafe(no_mangle)]
+pub extern "C" fn kestrelore_make_load(
+    n: u32,
+    seed: u32,
+    chance: u32,
+    largest: u32,
+    tails: &mut [u16],
+    heads: &mut [u16],
+    lengths: &mut [u32],
+) -> Made
+    ensures { MakesLoad n seed chance largest tails heads lengths result }
+{
+    load_maker::make_load(n, seed, chance, largest, tails, heads, lengths)
 }

@@ -6,12 +6,14 @@ use native.Mathlib.Omega.{arith}
 use borrow.Author.Tests.{le-ltb}
 use lib.ListN.{length, take}
 use Rattle.table.specs.Refusals.{refusal, no_refusal}
-use Rattle.table.specs.Table.{Arc, arcs_of, Below, most_wanted}
-use Rattle.link_format.specs.Buffers.{no_content, over, reading, refusal_of, content_of, file_of, put_bytes}
-use Rattle.link_format.specs.Format.{Content, content, tails_of, heads_of, lengths_of}
+use Rattle.table.specs.Table.{Arc, arcs_of, Below, most_wanted, tails_of, heads_of, lengths_of}
+use Rattle.table.specs.Slices.{over}
+use Rattle.link_format.specs.Buffers.{no_content, reading, refusal_of, content_of, file_of, put_bytes}
+use Rattle.link_format.specs.Format.{Content, content}
 use Rattle.link_format.specs.Reading.{Outcome, got, refused, read_file}
-use Rattle.link_format.proofs.ArcColumns.{columns_back, length_tails, length_heads, length_lengths, columns_equal, arcs_count}
-use Rattle.link_format.proofs.Counts.{few_nodes, equal_columns}
+use Rattle.table.proofs.Columns.{columns_back, length_tails, length_heads, length_lengths, columns_equal, arcs_count}
+use Rattle.table.proofs.Counts.{few_nodes}
+use Rattle.link_format.proofs.Counts.{equal_columns}
 use Rattle.link_format.proofs.Outcomes.{read_without_refusal, file_of_reading, reading_roomy}
 use Rattle.link_format.proofs.ReadThenWrite.{FileBack, file_back}
 use Rattle.link_format.proofs.Unrefused.{read_of, is_accepted, start_of, file_of_content, unrefused, Unrefused}

@@ -4,14 +4,15 @@ use mathlib.Core.List.{List}
 use mathlib.Core.Option.{none}
 use mathlib.Core.Path.{◌≡◌, refl, ap, ◌∙◌}
 use Prim.Native.Nat.{ℕ, ◌≤◌}
-use native.Mathlib.Nat.{zero-add}
 use native.Mathlib.Omega.{arith}
 use lib.ListN.{length, drop, length-map}
-use lib.Seq.{sets, sets-eq}
+use lib.Seq.{sets}
 use Rattle.table.specs.Refusals.{refusal, no_refusal}
-use Rattle.table.specs.Table.{Arc, most_arcs}
-use Rattle.link_format.specs.Buffers.{no_content, over, reading, refusal_of, content_of}
-use Rattle.link_format.specs.Format.{Content, content, tails_of, heads_of, lengths_of}
+use Rattle.table.specs.Table.{Arc, most_arcs, tails_of, heads_of, lengths_of}
+use Rattle.table.specs.Slices.{over}
+use Rattle.table.proofs.Storing.{sets_over}
+use Rattle.link_format.specs.Buffers.{no_content, reading, refusal_of, content_of}
+use Rattle.link_format.specs.Format.{Content, content}
 use Rattle.link_format.specs.Reading.{◌>>=◌, Outcome, got, refused, accepted, list_got, and_then, give, read_header, read_content, read_file}
 use Rattle.link_format.proofs.Counts.{Roomy}
 use Rattle.link_format.proofs.Records.{few_records}
@@ -22,11 +23,6 @@ use Rattle.link_reader.specs.declared.header.Header.{Header}
 use Rattle.std.specs.Prelude.{Ok}
 use Rattle.table.specs.Told.{number, tells}
 use Rattle.table.specs.declared.faults.Refusal.{Refusal}
-
--- a list stored from the start
-pub sets_over : (xs buffer : List ℕ) → length xs ≤ length buffer → sets buffer 0 xs ≡ over xs buffer
-unfolding over
-sets_over xs buffer h = sets-eq xs buffer 0 (rw (zero-add (length xs)) h) ∙ rw (zero-add (length xs))
 
 -- a refusal of the header, or of a record, is the file's
 pub header_refuses : (file : List ℕ) {n p : ℕ} → read_header 0 file ≡ refused n p → read_file file ≡ refused n p

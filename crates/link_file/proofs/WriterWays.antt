@@ -10,16 +10,16 @@ use lib.ListN.{length, length-append}
 use lib.Seq.{sets}
 use Rattle.table.specs.Refusals.{refusal, no_refusal, count_bad, columns_bad}
 use Rattle.table.specs.Table.{arcs_of, most_wanted}
-use Rattle.link_format.specs.Buffers.{over, file_of, writing, put_bytes}
+use Rattle.table.specs.Slices.{over}
+use Rattle.link_format.specs.Buffers.{file_of, writing, put_bytes}
 use Rattle.link_format.specs.Format.{content, header_bytes, records_bytes, file_bytes}
 use Rattle.link_file.specs.Entries.{write_answer, WriteSays}
-use Rattle.link_file.proofs.ReaderWays.{sets_over}
+use Rattle.table.proofs.Storing.{sets_over}
 use Rattle.link_file.specs.Says.{file_answer}
 use Rattle.std.specs.Prelude.{Ok}
 use Rattle.table.specs.Told.{number, tells}
 use Rattle.table.specs.declared.faults.Refusal.{Refusal}
-use Rattle.link_fields.proofs.Checks.{some_number}
-use native.Mathlib.Omega.{arith}
+use Rattle.table.proofs.Telling.{numbered}
 
 module _ (n o : ℕ) (ts hs ls ws out : List ℕ) where
   pub file_size : length (file_of n o ts hs ls ws) ≡ length (header_bytes n o ws) + length (records_bytes none (arcs_of ts hs ls))
@@ -28,7 +28,7 @@ module _ (n o : ℕ) (ts hs ls ws out : List ℕ) where
 
   pub none_written : (r : Refusal) → writing n o ts hs ls ws (length out) ≡ tells r → WriteSays n o ts hs ls ws out out (write_answer (tells r) 0)
   unfolding put_bytes over refusal
-  none_written r e = let real : eqb (number r.fault) 0 ≡ false = ne_eqb (number r.fault) 0 (omega (arith, some_number r.fault)) in record { answer = rw (e, real); output_is = rw (e, real) }
+  none_written r e = let real : eqb (number r.fault) 0 ≡ false = ne_eqb (number r.fault) 0 (numbered r.fault) in record { answer = rw (e, real); output_is = rw (e, real) }
 
   pub refuses_count : count_bad n ≡ true → writing n o ts hs ls ws (length out) ≡ refusal 1 0
   unfolding writing

@@ -2,9 +2,10 @@
 -- own answers. Assumes nothing: these are definitions.
 use Rattle.std.specs.Prelude.{List, ◌≡◌, ℕ, length}
 use Rattle.table.specs.Refusals.{Refusal}
-use Rattle.table.specs.Slices.{Slice, was, Buffer, had, left}
-use Rattle.link_format.specs.Buffers.{over, reading, refusal_of, content_of, file_of, writing, put_bytes}
-use Rattle.link_format.specs.Format.{Content, tails_of, heads_of, lengths_of}
+use Rattle.table.specs.Slices.{Slice, was, Buffer, had, left, over}
+use Rattle.table.specs.Table.{tails_of, heads_of, lengths_of}
+use Rattle.link_format.specs.Buffers.{reading, refusal_of, content_of, file_of, writing, put_bytes}
+use Rattle.link_format.specs.Format.{Content}
 use Rattle.link_format.specs.Reading.{Outcome}
 use Rattle.link_file.specs.declared.TableRead.{TableRead}
 use Rattle.link_file.specs.declared.Written.{Written}

@@ -2,7 +2,8 @@
 -- what the reader answers. Assumes nothing: these are statements.
 use Rattle.std.specs.Prelude.{false, List, ◌≡◌, ℕ, ◌≤◌, ◌<◌, length, take}
 use Rattle.table.specs.Table.{Below, most_nodes, most_arcs, most_wanted}
-use Rattle.link_format.specs.Buffers.{over, too_short}
+use Rattle.table.specs.Slices.{over}
+use Rattle.link_format.specs.Buffers.{too_short}
 use Rattle.link_format.specs.Format.{byte_limit, node_width, length_width, limit}
 use Rattle.link_file.specs.Entries.{ReadSays, WriteSays}
 use Rattle.link_file.specs.declared.TableRead.{TableRead}

@@ -16,8 +16,8 @@ use link_reader::header::{Header, fill_wanted, read_header};
 use link_reader::records::{count_records, fill_records};
 use link_writer::header::FileHeader;
 use link_writer::records::{records_size, write_records};
+use table::MOST_WANTED;
 use table::faults::{Fault, Refusal};
-use table::{MOST_ARCS, MOST_WANTED};
 
 // What reading a link file answers: the refusal's number and place, both 0 where there is none, and the node count, the origin and how many
 // arcs and wanted nodes there are, all 0 in a refusal. C reads it, so it is numbers and no Result, with the counts beside the buffers.
@@ -72,10 +72,11 @@ impl From<Refusal> for Written {
 }
 
 // 3: a lent buffer is too short.
+#[tactic(auto, unfolding(link_format::specs::Buffers::too_short))]
 fn short(tails: usize, heads: usize, lengths: usize, wanted: usize) -> bool
     ensures { result ≡ too_short tails heads lengths wanted }
 {
-    tails < MOST_ARCS || heads < MOST_ARCS || lengths < MOST_ARCS || wanted < MOST_WANTED
+    table::short_columns(tails, heads, lengths) || wanted < MOST_WANTED
 }
 
 // Reads the header and counts the arcs, and fills the buffers.
@@ -124,7 +125,7 @@ pub fn read_link_file(
 }
 
 // Puts the file's bytes, and gives how many there are. The columns come as C lends them, and are one where they have been tested.
-fn write_file(
+pub fn write_file(
     n: usize,
     origin: u16,
     tails: &[u16],

@@ -1,29 +1,16 @@
 -- What the tests of the counts and of the buffers come to as inequalities. Assumes nothing.
-use mathlib.Core.Bool.{false, not, ◌&&◌, ◌||◌}
+use mathlib.Core.Bool.{false, not, ◌&&◌}
 use mathlib.Core.List.{List}
 use mathlib.Core.Path.{◌≡◌}
-use Prim.Native.Nat.{ℕ, ◌≤◌, ◌<◌}
-use native.Mathlib.Omega.{arith}
-use borrow.Author.Tests.{le-ltb, ltb-false, eqb-true, eqb-false, ne_eqb, not-false}
+use Prim.Native.Nat.{ℕ, ◌≤◌}
+use borrow.Author.Tests.{ltb-false, eqb-true, not-false}
 use lib.Dec.{eqb, ltb}
 use lib.ListN.{length}
 use Rattle.std.proofs.lemmas.Bool.{and_parts, or_parts}
-use Rattle.table.specs.Refusals.{count_bad, columns_bad}
-use Rattle.table.specs.Table.{most_nodes, most_arcs, most_wanted}
+use Rattle.table.specs.Refusals.{columns_bad, columns_short}
+use Rattle.table.specs.Table.{most_arcs, most_wanted}
+use Rattle.table.proofs.Columns.{roomy_columns}
 use Rattle.link_format.specs.Buffers.{too_short, EqualColumns}
-
--- 1: a node count that is not refused, and one that is in range
-pub some_nodes : {n : ℕ} → count_bad n ≡ false → 0 < n
-unfolding count_bad
-some_nodes {n} e = let nonzero : n ≡ 0 → ⊥ = eqb-false n 0 (or_parts (eqb n 0) (ltb most_nodes n) e).0 in omega (arith, nonzero)
-
-pub few_nodes : {n : ℕ} → count_bad n ≡ false → n ≤ most_nodes
-unfolding count_bad
-few_nodes {n} e = ltb-false most_nodes n (or_parts (eqb n 0) (ltb most_nodes n) e).1
-
-pub good_count : (n : ℕ) → 0 < n → n ≤ most_nodes → count_bad n ≡ false
-unfolding count_bad
-good_count n positive low = rw (ne_eqb n 0 (omega arith), le-ltb most_nodes n low)
 
 -- 2: columns that are not refused
 pub equal_columns : (ts hs ls : List ℕ) → columns_bad (length ts) (length hs) (length ls) ≡ false → EqualColumns ts hs ls
@@ -47,12 +34,11 @@ pub record Roomy (tails heads lengths wanted : ℕ) : Type 0 where
 pub roomy : (t h l w : ℕ) → too_short t h l w ≡ false → Roomy t h l w
 unfolding too_short
 roomy t h l w e =
-    let halves = or_parts (ltb t most_arcs || ltb h most_arcs) (ltb l most_arcs || ltb w most_wanted) e in
-    let first = or_parts (ltb t most_arcs) (ltb h most_arcs) halves.0 in
-    let second = or_parts (ltb l most_arcs) (ltb w most_wanted) halves.1 in
+    let parts = or_parts (columns_short t h l) (ltb w most_wanted) e in
+    let columns = roomy_columns t h l parts.0 in
     record {
-      tails_room = ltb-false t most_arcs first.0;
-      heads_room = ltb-false h most_arcs first.1;
-      lengths_room = ltb-false l most_arcs second.0;
-      wanted_room = ltb-false w most_wanted second.1;
+      tails_room = columns.0;
+      heads_room = columns.1;
+      lengths_room = columns.2;
+      wanted_room = ltb-false w most_wanted parts.1;
     }

@@ -16,7 +16,7 @@ use Rattle.link_format.specs.Format.{Content, content, bytes, has, count_up, fie
 use Rattle.link_format.specs.Promises.{AcceptedFilesWriteBack}
 use Rattle.link_format.specs.Reading.{◌>>◌, ◌>>=◌, Outcome, Reader, got, refused, list_got, and_then, give, here, refuse_if, number, field, optional, implied, read_nodes, read_wanted, read_header, read_record, read_records, read_content, read_file}
 use Rattle.link_format.proofs.AllNodes.{length_count_up}
-use Rattle.link_format.proofs.Counts.{few_nodes}
+use Rattle.table.proofs.Counts.{few_nodes}
 use Rattle.link_format.proofs.Numbers.{bytes_number, below_drop}
 use Rattle.link_format.proofs.Outcomes.{got_value, got_rest, refused_got}
 use Rattle.link_format.proofs.Records.{few_records}

@@ -9,13 +9,16 @@ use lib.Dec.{ltb}
 use lib.ListN.{length, take, drop}
 use lib.Seq.{take_at}
 use Rattle.table.specs.Refusals.{refusal, no_refusal, count_bad, columns_bad}
-use Rattle.table.specs.Table.{arcs_of, Below, most_wanted}
-use Rattle.link_format.specs.Buffers.{over, file_of, writing}
-use Rattle.link_format.specs.Format.{Content, content, tails_of, heads_of, lengths_of, file_bytes}
+use Rattle.table.specs.Table.{arcs_of, Below, most_wanted, tails_of, heads_of, lengths_of}
+use Rattle.table.specs.Slices.{over}
+use Rattle.link_format.specs.Buffers.{file_of, writing}
+use Rattle.link_format.specs.Format.{Content, content, file_bytes}
 use Rattle.link_format.specs.Promises.{Writable}
 use Rattle.link_format.specs.Reading.{got, read_file}
-use Rattle.link_format.proofs.ArcColumns.{arcs_back, small_arcs, arcs_count}
-use Rattle.link_format.proofs.Counts.{some_nodes, few_nodes, equal_columns}
+use Rattle.table.proofs.Columns.{arcs_back, arcs_count}
+use Rattle.link_format.proofs.ArcColumns.{small_arcs}
+use Rattle.table.proofs.Counts.{some_nodes, few_nodes}
+use Rattle.link_format.proofs.Counts.{equal_columns}
 use Rattle.link_format.proofs.WriteThenRead.{written_tables_read_back}
 
 pub record Unrefused (n o : ℕ) (ts hs ls ws : List ℕ) (room : ℕ) : Type 0 where

@@ -18,7 +18,7 @@ use Rattle.link_format.specs.Promises.{LongFilesAreRefused, WritableHeader, Smal
 use Rattle.link_format.specs.Reading.{forbidden_header, refused, ◌>>◌, ◌>>=◌, got, and_then, give, here, refuse_if, number, field, optional, implied, forbidden, read_nodes, read_wanted, read_header, read_record, read_records, read_content, read_file}
 use Rattle.link_format.proofs.AllNodes.{all_nodes_are}
 use Rattle.link_format.proofs.BitMaps.{made_of}
-use Rattle.link_format.proofs.Counts.{good_count}
+use Rattle.table.proofs.Counts.{good_count}
 use Rattle.link_format.proofs.Numbers.{length_bytes, number_bytes}
 use Rattle.link_format.proofs.Records.{records_full, in_front, records_none, records_more}
 

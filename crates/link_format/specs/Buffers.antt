@@ -3,19 +3,15 @@
 -- The reader reads the file as Reading.antt says, after refusal 3: a lent buffer is too short. What it leaves is the content that was read; where
 -- the file is refused that content is empty, so that every value is 0 and every buffer is as it was. The writer likewise puts the bytes that
 -- Format.antt says, or none.
-use Rattle.std.specs.Prelude.{Bool, cond, ◌||◌, List, [], ◌++◌, ◌≡◌, ℕ, ◌≤◌, eqb, ltb, length, drop}
-use Rattle.table.specs.Refusals.{Refusal, refusal, no_refusal, count_bad, columns_bad}
+use Rattle.std.specs.Prelude.{Bool, cond, ◌||◌, List, [], ◌≡◌, ℕ, ◌≤◌, eqb, ltb, length}
+use Rattle.table.specs.Refusals.{Refusal, refusal, no_refusal, count_bad, columns_bad, columns_short}
 use Rattle.table.specs.Table.{arcs_of, most_arcs, most_wanted}
 use Rattle.link_format.specs.Format.{Content, content, file_bytes}
 use Rattle.link_format.specs.Reading.{Outcome, got, refused, read_file}
 
--- a buffer with a list at its start and the rest as it was
-unfoldable pub over : (list buffer : List ℕ) → List ℕ
-over xs buffer = xs ++ drop (length xs) buffer
-
 -- 3: a reader's buffer too short
 unfoldable pub too_short : (tails heads lengths wanted : ℕ) → Bool
-too_short t h l w = (ltb t most_arcs || ltb h most_arcs) || (ltb l most_arcs || ltb w most_wanted)
+too_short t h l w = columns_short t h l || ltb w most_wanted
 
 unfoldable pub reading : (file tails heads lengths wanted : List ℕ) → Outcome Content
 reading file ts hs ls ws = cond (too_short (length ts) (length hs) (length ls) (length ws)) (refused 3 0) (read_file file)

@@ -7,7 +7,7 @@
 --
 -- The file is canonical: a bit stands exactly where its absence would say something else or be refused. `header_bits` and `record_bits` are
 -- that rule; the reader refuses every other bit map (page 2, Reading.antt).
-use Rattle.std.specs.Prelude.{Bool, true, ◌&&◌, not, cond, List, [], ◌∷◌, ◌++◌, map, ℕ, zero, suc, ◌+◌, ◌*◌, ◌/◌, ◌%◌, ◌^◌, eqb, length}
+use Rattle.std.specs.Prelude.{Bool, true, ◌&&◌, not, cond, List, [], ◌∷◌, ◌++◌, ℕ, zero, suc, ◌+◌, ◌*◌, ◌/◌, ◌%◌, ◌^◌, eqb, length}
 use Rattle.std.proofs.Math.Option.{Option, none, some}
 use Rattle.table.specs.Table.{Arc, most_arcs, most_wanted}
 
@@ -51,16 +51,6 @@ pub record Content : Type 0 where
 
 unfoldable pub content : (n origin : ℕ) → (wanted : List ℕ) → (arcs : List Arc) → Content
 content n o ws more = record { n = n; origin = o; wanted = ws; arcs = more }
-
--- the columns of arcs
-unfoldable pub tails_of : List Arc → List ℕ
-tails_of arcs = map (λ (a : Arc). a.tail) arcs
-
-unfoldable pub heads_of : List Arc → List ℕ
-heads_of arcs = map (λ (a : Arc). a.head) arcs
-
-unfoldable pub lengths_of : List Arc → List ℕ
-lengths_of arcs = map (λ (a : Arc). a.arc_length) arcs
 
 -- a number in so many bytes, the lowest first
 unfoldable pub bytes : (width value : ℕ) → List ℕ

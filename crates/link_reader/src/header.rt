@@ -132,7 +132,7 @@ fn fill_nodes(file: &[u8], from: usize, count: usize, wanted: &mut [u16])
 }
 
 // All n nodes, ascending, at the start of a buffer.
-fn fill_all(n: usize, wanted: &mut [u16])
+pub fn fill_all(n: usize, wanted: &mut [u16])
     requires { (n ≤ most_nodes) × (n ≤ length wanted.old) }
     ensures { wanted.new ≡ sets wanted.old 0 (count_up 0 n) }
 {

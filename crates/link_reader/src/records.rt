@@ -1,7 +1,8 @@
 // Reading the records of arcs. Each field's answer is taken apart by `let .. else`, as the rules ask, and a cut gets the file's length there.
 ghost use Rattle.std.specs.Prelude.{◌≡◌, ◌≤◌, ◌<◌, length};
 ghost use Rattle.std.proofs.lemmas.List.Edits.{sets};
-ghost use Rattle.link_format.specs.Format.{tails_of, heads_of, lengths_of, most_header, most_file};
+ghost use Rattle.table.specs.Table.{tails_of, heads_of, lengths_of};
+ghost use Rattle.link_format.specs.Format.{most_header, most_file};
 ghost use Rattle.link_format.specs.Reading.{read_record};
 ghost use Rattle.link_fields.specs.Fields.{arc_before};
 ghost use Rattle.link_reader.specs.Says.{Reads, RecordGot, Counted, records_from, arcs_from, Fillable};

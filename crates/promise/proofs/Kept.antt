@@ -1,8 +1,8 @@
 -- The page of specs/Promise.antt, each promise by the proof that its crate has of it; and what is demanded of a plan, of a limit's answer, of a plan to a
--- collector and of keeping a path once more, field by field, so that none of it can go missing. Assumes nothing.
+-- collector, of keeping a path, of a test load and of its file once more, field by field, so that none of it can go missing. Assumes nothing.
 use mathlib.Core.List.{List}
 use Prim.Native.Nat.{ℕ}
-use Rattle.table.specs.Table.{Table}
+use Rattle.table.specs.Table.{Arc, Table}
 use Rattle.auction.specs.HandOver.{Answer}
 use Rattle.auction.specs.Demands.{Demands}
 use Rattle.limit_answer.specs.declared.Within.{Within}
@@ -27,12 +27,21 @@ use Rattle.keeping.specs.declared.Kept.{Kept}
 use Rattle.keeping.specs.Promises.{Through, LeastThrough, KeptShort, KeepRefused, Shortest, Beside}
 use Rattle.keeping.proofs.Promised.{total_is_least, no_total_no_walk, totals_without_absent, kept_without_absent, kept_is_short, keep_refusals, standing_kept, standing_kept_in}
 use Rattle.keeping.proofs.Rows as Keeping
+use Rattle.test_load.specs.declared.Made.{Made}
+use Rattle.test_load.specs.Promises.{Listed, LoadThere, LoadRefused}
+use Rattle.test_load.proofs.Promised.{load_listed, no_chance_no_arc, every_pair_certain, loads_planned, load_refusals}
+use Rattle.test_load.proofs.Rows as Loads
 use Rattle.link_format.proofs.ReadThenWrite.{accepted_files_write_back}
 use Rattle.link_format.proofs.WriteThenRead.{written_tables_read_back, long_files_are_refused}
 use Rattle.link_format.proofs.Outcomes.{files_refused_by_number}
 use Rattle.link_format.proofs.BitMaps.{needless_record, needless_header_bits}
 use Rattle.link_format.proofs.Rows.{rows}
 use Rattle.link_file.proofs.EntryTrips.{write_then_read, read_then_write, answers_fit}
+use Rattle.load_order.specs.declared.Order.{Order}
+use Rattle.load_order.specs.Promises.{InRange, ReadsBack, OrderRefused}
+use Rattle.load_order.proofs.Promised.{orders_in_range, orders_read_back, enough_room, order_refusals}
+use Rattle.load_order.proofs.Rows as Orders
+use Rattle.link_file.specs.declared.Written.{Written}
 use Rattle.sheet.proofs.Promised.{each_once, in_order, order_unseen, plans_printed, refusals_printed}
 use Rattle.sheet.proofs.Examples as Sheets
 use Rattle.printer.proofs.Promised.{pieces_printed}
@@ -112,6 +121,11 @@ kept =
       keep_refusals = keep_refusals;
       total_is_least = total_is_least;
       no_total_no_walk = no_total_no_walk;
+      loads_planned = loads_planned;
+      load_listed = load_listed;
+      load_refusals = load_refusals;
+      no_chance_no_arc = no_chance_no_arc;
+      every_pair_certain = every_pair_certain;
       accepted_files_write_back = accepted_files_write_back;
       written_tables_read_back = written_tables_read_back;
       read_then_write = read_then_write;
@@ -121,6 +135,10 @@ kept =
       needless_is_not_canonical = needless_record;
       needless_header_is_not_canonical = needless_header_bits;
       answers_fit = answers_fit;
+      orders_read_back = orders_read_back;
+      orders_in_range = orders_in_range;
+      order_refusals = order_refusals;
+      enough_room = enough_room;
       plans_printed = plans_printed;
       refusals_printed = refusals_printed;
       each_once = each_once;
@@ -132,6 +150,8 @@ kept =
       collectors = Collector.rows_hold;
       listings = Paths.examples;
       keepings = Keeping.rows;
+      loads = Loads.rows;
+      orders = Orders.rows;
       files = rows;
       sheets = Sheets.examples;
     }
@@ -243,3 +263,48 @@ least_total t vs d l = record { below = l.below; walk = l.walk; through = l.thro
 
 pub walk_through : (t : Table) (walk vs : List ℕ) → Through t walk vs → Through t walk vs
 walk_through t walk vs x = record { leads_on = x.leads_on; nodes = x.nodes }
+
+pub arcs_listed : (n largest : ℕ) (arcs : List Arc) → Listed n largest arcs → Listed n largest arcs
+arcs_listed n largest arcs l =
+    record {
+      tail_below = l.tail_below;
+      head_below = l.head_below;
+      no_loop = l.no_loop;
+      no_pair_twice = l.no_pair_twice;
+      by_tail = l.by_tail;
+      by_head = l.by_head;
+      some_length = l.some_length;
+      no_longer = l.no_longer;
+    }
+
+pub load_there : (n seed c l : ℕ) (ts hs ls ts' hs' ls' : List ℕ) (r : Made) → LoadThere n seed c l ts hs ls ts' hs' ls' r → LoadThere n seed c l ts hs ls ts' hs' ls' r
+load_there n seed c l ts hs ls ts' hs' ls' r x =
+    record {
+      count = x.count;
+      tails_are = x.tails_are;
+      heads_are = x.heads_are;
+      lengths_are = x.lengths_are;
+      rest_stays = x.rest_stays;
+      none_down = x.none_down;
+      accepted = x.accepted;
+      planned = x.planned;
+    }
+
+pub refused_load : (ts hs ls ts' hs' ls' : List ℕ) (r : Made) → LoadRefused ts hs ls ts' hs' ls' r → LoadRefused ts hs ls ts' hs' ls' r
+refused_load ts hs ls ts' hs' ls' r x = record { numbers = x.numbers; nothing = x.nothing; untouched = x.untouched }
+
+pub order_in_range : (o : Order) → InRange o → InRange o
+order_in_range o r =
+    record {
+      seed_fits = r.seed_fits;
+      nodes_fit = r.nodes_fit;
+      chance_fits = r.chance_fits;
+      largest_fits = r.largest_fits;
+      origin_fits = r.origin_fits;
+    }
+
+pub order_back : (o : Order) (file : List ℕ) → ReadsBack o file → ReadsBack o file
+order_back o file r = record { content_is = r.content_is; table_is = r.table_is }
+
+pub refused_order : (output output' : List ℕ) (w : Written) → OrderRefused output output' w → OrderRefused output output' w
+refused_order output output' w r = record { numbers = r.numbers; nothing = r.nothing; untouched = r.untouched }

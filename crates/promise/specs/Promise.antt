@@ -17,9 +17,13 @@ use Rattle.listing.specs.Promises.{RoutesListed, PlansListed, SendersListed}
 use Rattle.listing.specs.Examples as Paths
 use Rattle.keeping.specs.Promises.{TotalIsLeast, NoTotalNoWalk, KeptIsShort, KeepRefusals, TotalsWithoutAbsent, KeptWithoutAbsent, StandingKept, StandingKeptIn}
 use Rattle.keeping.specs.Rows as Keeping
+use Rattle.test_load.specs.Promises.{LoadListed, NoChanceNoArc, EveryPairCertain, LoadsPlanned, LoadRefusals}
+use Rattle.test_load.specs.Rows as Loads
 use Rattle.link_format.specs.Promises.{AcceptedFilesWriteBack, WrittenTablesReadBack, LongFilesAreRefused, FilesRefusedByNumber, NeedlessIsNotCanonical, NeedlessHeaderIsNotCanonical}
 use Rattle.link_format.specs.Rows as Files
 use Rattle.link_file.specs.Promises.{WriteThenRead, ReadThenWrite, AnswersFit}
+use Rattle.load_order.specs.Promises.{OrdersInRange, OrdersReadBack, EnoughRoom, OrderRefusals}
+use Rattle.load_order.specs.Rows as Orders
 use Rattle.sheet.specs.Promises.{EachOnce, InOrder, OrderUnseen, PlansPrinted, RefusalsPrinted}
 use Rattle.sheet.specs.Examples as Sheets
 use Rattle.printer.specs.Promises.{PiecesPrinted}
@@ -114,6 +118,13 @@ pub record Promise : Type 0 where
   pub keep_refusals : KeepRefusals
   pub total_is_least : TotalIsLeast
   pub no_total_no_walk : NoTotalNoWalk
+  -- A TEST LOAD: what is left in the columns is made of four numbers alone; it has no loop, no pair twice and lengths from 1 to the largest, and planning does
+  -- not turn it down
+  pub loads_planned : LoadsPlanned
+  pub load_listed : LoadListed
+  pub load_refusals : LoadRefusals
+  pub no_chance_no_arc : NoChanceNoArc
+  pub every_pair_certain : EveryPairCertain
   -- THE LINK FILE: every accepted file writes back unchanged, every written table reads back as it was
   pub accepted_files_write_back : AcceptedFilesWriteBack
   pub written_tables_read_back : WrittenTablesReadBack
@@ -124,6 +135,11 @@ pub record Promise : Type 0 where
   pub needless_is_not_canonical : NeedlessIsNotCanonical
   pub needless_header_is_not_canonical : NeedlessHeaderIsNotCanonical
   pub answers_fit : AnswersFit
+  -- THE LOAD'S FILE: what is written for the words of a load reads back as that load, from the origin that was asked for, with every node wanted
+  pub orders_read_back : OrdersReadBack
+  pub orders_in_range : OrdersInRange
+  pub order_refusals : OrderRefusals
+  pub enough_room : EnoughRoom
   -- THE SHEET AND THE PROGRAM: a plan is shown whole, each path once, the nearest first, and the pieces that are written are what is printed of the input
   pub plans_printed : PlansPrinted
   pub refusals_printed : RefusalsPrinted
@@ -131,11 +147,13 @@ pub record Promise : Type 0 where
   pub in_order : InOrder
   pub order_unseen : OrderUnseen
   pub pieces_printed : PiecesPrinted
-  -- THE ROWS: tables, limits, plans to a collector, listings, keepings, files and sheets, computed
+  -- THE ROWS: tables, limits, plans to a collector, listings, keepings, loads, files, words and sheets, computed
   pub rack : RackHolds
   pub limits : Limits.Rows
   pub collectors : Collector.RowsHold
   pub listings : Paths.Examples
   pub keepings : Keeping.Rows
+  pub loads : Loads.Rows
   pub files : Files.Rows
+  pub orders : Orders.Rows
   pub sheets : Sheets.Examples

@@ -2,11 +2,11 @@
 use mathlib.Core.Path.{refl}
 use borrow.Author.Tests.{lt-ltb}
 use lib.ListN.{length}
-use Rattle.table.specs.Table.{arc, table, arcs_of, table_of, arc_count, arc_at, present, present_at, tail_at, head_at, length_at}
+use Rattle.table.specs.Table.{arc, table, arcs_of, table_of, arc_count, arc_at, present, present_at, tail_at, head_at, length_at, tails_of, heads_of, lengths_of}
 use Rattle.table.specs.Refusals.{refusal, no_refusal, or_else, count_bad, columns_bad, room, rooms_fit, wanted_from, wanted_refusal, arc_fault, arcs_from, arcs_refusal, table_refusal}
 use Rattle.auction.specs.Auction.{state, terminal, price_at, bound_at, kept_at, status_at, or_zero, distance, was_reached, is_deleted, iterations, improves, with_kept, with_status, takes, offer, offers, reach, fresh, start, bid, is_kept, to_child, lower_bid, with_bid, best_from, best, without_terminal, deletion, contraction, longer, extension, iteration, next, ended, go_on, run, all_reached, most_iterations, auction}
 use Rattle.auction.specs.HandOver.{how_many, entries, greatest, sum, horizon, reached_count, distances, prices, arc_or_none, tree, mark_number, mark, marks, first_missing, route_refusal, handed_over}
-use Rattle.link_format.specs.Format.{content, bytes, bit_map, has, field_bytes, count_up, counts_from, all_nodes, nodes_bytes, wanted_bytes, header_bits, header_bytes, record_bits, fields_bytes, record_bytes, records_bytes, file_bytes, tails_of, heads_of, lengths_of}
+use Rattle.link_format.specs.Format.{content, bytes, bit_map, has, field_bytes, count_up, counts_from, all_nodes, nodes_bytes, wanted_bytes, header_bits, header_bytes, record_bits, fields_bytes, record_bytes, records_bytes, file_bytes}
 use Rattle.link_format.specs.Reading.{◌>>◌, ◌>>=◌, and_then, give, here, refuse_if, number, field, optional, implied, forbidden_header, forbidden, read_nodes, read_wanted, read_header, read_record, read_records, read_content, read_file}
 use Rattle.auction.specs.Plan.{rooms, plan_refusal, refused_plan, routes_of, plan}
 use Rattle.auction.specs.Demands.{distance_of, price_of, link_of}

@@ -3,9 +3,9 @@
 -- The input is read as a link file, its table is planned, and the plan's sheet is printed; a file that is refused prints one line, number and place. Input
 -- of more than 65,536 bytes cannot be a link file and counts as one with too many arcs.
 use Rattle.std.specs.Prelude.{cond, List, [], ◌∷◌, ◌++◌, ℕ, ltb, length, replicate}
-use Rattle.table.specs.Table.{most_arcs}
+use Rattle.table.specs.Table.{most_arcs, tails_of, heads_of, lengths_of}
 use Rattle.auction.specs.Plan.{plan}
-use Rattle.link_format.specs.Format.{Content, tails_of, heads_of, lengths_of}
+use Rattle.link_format.specs.Format.{Content}
 use Rattle.link_format.specs.Reading.{Outcome, got, refused, read_file}
 use Rattle.sheet.specs.Sheet.{Finished, finished, refused_line, sheet}
 

@@ -37,6 +37,10 @@ unfoldable pub rooms_fit : List Room → Bool
 rooms_fit [] = true
 rooms_fit (r ∷ rs) = eqb r.has r.needs && rooms_fit rs
 
+-- 3, of columns that are lent to be filled: one of them is shorter than a table may need
+unfoldable pub columns_short : (tails heads lengths : ℕ) → Bool
+columns_short t h l = ltb t most_arcs || (ltb h most_arcs || ltb l most_arcs)
+
 -- 5: too many wanted nodes, or the first one not below n
 unfoldable pub wanted_from : (place n : ℕ) → List ℕ → Refusal
 wanted_from i n [] = no_refusal

@@ -1,6 +1,6 @@
 -- SLICES, as a contract names them: the pair of a slice that is lent as it is at the call and as it is at the return. Assumes nothing: these are
 -- definitions.
-use Rattle.std.specs.Prelude.{List, ℕ}
+use Rattle.std.specs.Prelude.{List, ◌++◌, ℕ, length, drop}
 use Rattle.std.specs.Borrow.{Bor, MutBor}
 use denote.Triple.Both.{Both}
 
@@ -20,3 +20,7 @@ had b = b.entry.now
 
 abbrev pub left : Buffer → List ℕ
 left b = b.exit.now
+
+-- a buffer with a list at its start and the rest as it was
+unfoldable pub over : (list buffer : List ℕ) → List ℕ
+over xs buffer = xs ++ drop (length xs) buffer

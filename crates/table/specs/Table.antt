@@ -6,7 +6,7 @@
 --
 -- An arc is ABSENT where its length says that the link is down, and PRESENT otherwise. An absent arc keeps its position and has to be as good as any
 -- other, but it leaves no node: so it is in no walk, and the auction never sees it.
-use Rattle.std.specs.Prelude.{Bool, true, ◌&&◌, not, cond, List, [], ◌∷◌, ℕ, ◌+◌, ◌<◌, ltb, leb, eqb, length, get_or}
+use Rattle.std.specs.Prelude.{Bool, true, ◌&&◌, not, cond, List, [], ◌∷◌, map, ℕ, ◌+◌, ◌<◌, ltb, leb, eqb, length, get_or}
 
 -- the most nodes, arcs and wanted nodes; the greatest number that stands as a length; the one that says that the link is down, so that the greatest
 -- length in use is one less; what stands for no node, for no arc and for no distance
@@ -57,6 +57,16 @@ arcs_of [] hs ls = []
 arcs_of (t ∷ ts) [] ls = []
 arcs_of (t ∷ ts) (h ∷ hs) [] = []
 arcs_of (t ∷ ts) (h ∷ hs) (l ∷ ls) = arc t h l ∷ arcs_of ts hs ls
+
+-- the columns of arcs
+unfoldable pub tails_of : List Arc → List ℕ
+tails_of arcs = map (λ (a : Arc). a.tail) arcs
+
+unfoldable pub heads_of : List Arc → List ℕ
+heads_of arcs = map (λ (a : Arc). a.head) arcs
+
+unfoldable pub lengths_of : List Arc → List ℕ
+lengths_of arcs = map (λ (a : Arc). a.arc_length) arcs
 
 unfoldable pub table_of : (n origin : ℕ) → (tails heads lengths : List ℕ) → Table
 table_of n o ts hs ls = table n o (arcs_of ts hs ls)

@@ -1,7 +1,7 @@
 -- A REFUSAL AS A CALLER IS TOLD IT: its fault's number and its place. Assumes nothing: these are definitions.
 use Rattle.std.specs.Prelude.{ℕ, Result, Ok, Err}
 use Rattle.table.specs.declared.faults.Fault.{Fault}
-use Rattle.table.specs.declared.faults.Fault.TheVariants.{NodeCount, Columns, Buffers, Origin, Wanted, ArcEnd, ArcLength, NoRoute, Cut, BitMap, ImpliedHead, Needless, Room, NoPath, NoWalk}
+use Rattle.table.specs.declared.faults.Fault.TheVariants.{NodeCount, Columns, Buffers, Origin, Wanted, ArcEnd, ArcLength, NoRoute, Cut, BitMap, ImpliedHead, Needless, Room, NoPath, NoWalk, LoadRange, LoadSize}
 use Rattle.table.specs.declared.faults.Refusal.{Refusal}
 use Rattle.table.specs.Refusals as told_as
 use Rattle.table.specs.Refusals.{refusal, no_refusal}
@@ -22,6 +22,8 @@ number Needless = 12
 number Room = 13
 number NoPath = 14
 number NoWalk = 15
+number LoadRange = 16
+number LoadSize = 17
 
 -- one refusal, and that of an answer: none where there is a value
 abbrev pub tells : Refusal → told_as.Refusal

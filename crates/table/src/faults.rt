@@ -36,6 +36,10 @@ pub enum Fault {
     NoPath = 14,
     // A fresh list of nodes is empty, too long or no walk.
     NoWalk = 15,
+    // Of a test load: the chance is above 65,536, or the largest length is no length.
+    LoadRange = 16,
+    // A test load has more than 6,000 arcs.
+    LoadSize = 17,
 }
 
 impl Fault {

@@ -7,7 +7,7 @@ pub mod links;
 
 ghost use Rattle.std.specs.Prelude.{◌≡◌, cond, ltb, leb, ◌<◌, length, IfOk};
 ghost use Rattle.table.specs.Table.{most_wanted};
-ghost use Rattle.table.specs.Refusals.{no_refusal, refusal, count_bad, columns_bad};
+ghost use Rattle.table.specs.Refusals.{no_refusal, refusal, count_bad, columns_bad, columns_short};
 ghost use Rattle.table.specs.Told.{number, told};
 
 use faults::{Fault, Refusal};
@@ -45,6 +45,24 @@ pub fn bad_columns(tails: usize, heads: usize, lengths: usize) -> bool
     ensures { result ≡ columns_bad tails heads lengths }
 {
     tails != heads || heads != lengths || MOST_ARCS < tails
+}
+
+// 3: a column that is lent to be filled is shorter than a table may need.
+#[tactic(auto, unfolding(crate::specs::Refusals::columns_short))]
+pub fn short_columns(tails: usize, heads: usize, lengths: usize) -> bool
+    ensures { result ≡ columns_short tails heads lengths }
+{
+    tails < MOST_ARCS || heads < MOST_ARCS || lengths < MOST_ARCS
+}
+
+// 3, of three columns that are lent to be filled.
+pub fn check_room(tails: usize, heads: usize, lengths: usize) -> Result<(), Refusal>
+    ensures { told result ≡ cond (columns_short tails heads lengths) (refusal 3 0) no_refusal }
+{
+    if short_columns(tails, heads, lengths) {
+        return Err(Fault::Buffers.at(0));
+    }
+    Ok(())
 }
 
 // 1: the node count.

@@ -8,7 +8,7 @@ use lib.ListN.{length, length-append}
 use lib.Seq.{length-sets}
 use Rattle.link_fields.specs.Fields.{Puts}
 use Rattle.link_fields.specs.declared.fields.Output.{Output}
-use Rattle.link_fields.proofs.Columns.{sets_append}
+use Rattle.table.proofs.Storing.{sets_append}
 
 pub puts_nothing : (out : Output) → Puts [] out out
 puts_nothing out = record { same = refl; on = sym (add-zero out.end); is = refl }

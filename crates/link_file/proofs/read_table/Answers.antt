@@ -2,7 +2,7 @@
 use Rattle.std.proofs.Common.{arith, sym, ◌∙◌}
 use Rattle.link_format.proofs.Counts.{roomy}
 use Rattle.link_format.proofs.Outcomes.{reading_short, reading_roomy}
-use Rattle.link_fields.proofs.Checks.{passed_on}
+use Rattle.table.proofs.Telling.{passed_on}
 use Rattle.link_reader.proofs.Refused.{refused_as}
 use Rattle.link_file.proofs.ReaderWays.{none_read, header_refuses, records_refuse, count_few, read_whole}
 use Rattle.link_file.proofs.read_table.Goals as goal

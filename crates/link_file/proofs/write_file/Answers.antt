@@ -4,7 +4,7 @@ use borrow.Author.Tests.{ltb-false}
 use Rattle.table.specs.Table.{most_wanted}
 use Rattle.table.specs.Refusals.{count_bad}
 use Rattle.link_format.specs.Buffers.{file_of}
-use Rattle.link_fields.proofs.Checks.{failed, passed, passed_on}
+use Rattle.table.proofs.Telling.{failed, passed, passed_on}
 use Rattle.link_fields.proofs.fields.Putting.{kept, put_then}
 use Rattle.link_file.proofs.WriterWays.{file_size, none_written, refuses_count, refuses_columns, refuses_wanted, refuses_room, all_written}
 use Rattle.link_file.proofs.write_file.Goals as goal

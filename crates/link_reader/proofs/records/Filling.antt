@@ -8,15 +8,14 @@ use native.Mathlib.Decide.{dec_lt}
 use native.Mathlib.Omega.{arith}
 use lib.ListN.{length, drop, set}
 use borrow.Author.Tests.{both_ways}
-use Rattle.table.specs.Table.{Arc, arc, most_arcs}
+use Rattle.table.specs.Table.{Arc, arc, most_arcs, tails_of, heads_of, lengths_of}
 use Rattle.table.specs.Lent.{arc_of}
 use Rattle.table.specs.declared.links.Arc as links
-use Rattle.link_format.specs.Format.{tails_of, heads_of, lengths_of}
 use Rattle.link_format.specs.Reading.{Outcome, got, refused, accepted, list_got, and_then, give, read_record}
 use Rattle.link_format.proofs.Records.{in_front}
 use Rattle.link_fields.specs.declared.fields.Read.{Read}
 use Rattle.link_reader.specs.Says.{RecordGot, arcs_from}
-use Rattle.link_fields.proofs.Columns.{Column, column_next}
+use Rattle.table.proofs.Storing.{Column, column_next}
 use Rattle.link_reader.proofs.records.Runs.{remaining, Standing, standing_next, run_none, run_full, run_refused, run_more}
 use lib.Seq.{sets}
 

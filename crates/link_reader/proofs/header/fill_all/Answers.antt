@@ -3,7 +3,7 @@ use Rattle.std.proofs.Common.{arith, ◌≡◌, ◌+◌, ◌-◌, suc, add-one}
 use lib.Seq.{length-take-le}
 use Rattle.link_format.specs.Format.{count_up}
 use Rattle.link_format.proofs.AllNodes.{length_count_up}
-use Rattle.link_fields.proofs.Columns.{column_next, start_done}
+use Rattle.table.proofs.Storing.{column_next, start_done}
 use Rattle.link_reader.proofs.header.fill_all.Goals as goal
 
 pub loop-i-preserved : goal.loop-i-preserved

@@ -1,7 +1,7 @@
 -- `header::fill_all` meets its contract: the nodes that are left stand behind those that were put. Assumes nothing.
 use Rattle.std.proofs.Common.{◌-◌}
 use Rattle.link_format.specs.Format.{count_up}
-use Rattle.link_fields.proofs.Columns.{Column}
+use Rattle.table.proofs.Storing.{Column}
 use Rattle.link_reader.proofs.header.fill_all.Given as goal
 
 abbrev pub invariant-loop-i : goal.invariant-loop-i

@@ -2,7 +2,7 @@
 use Rattle.std.proofs.Common.{arith, ◌≡◌, ◌-◌, ◌<◌}
 use lib.Seq.{length-take-le}
 use Rattle.link_reader.specs.Says.{nodes_in}
-use Rattle.link_fields.proofs.Columns.{column_next, start_done}
+use Rattle.table.proofs.Storing.{column_next, start_done}
 use Rattle.link_fields.proofs.fields.Parts.{field_value}
 use Rattle.link_reader.proofs.header.NodeRuns.{along_next, nodes_left, length_nodes_in}
 use Rattle.link_reader.proofs.header.fill_nodes.Goals as goal

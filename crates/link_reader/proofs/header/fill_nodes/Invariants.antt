@@ -1,7 +1,7 @@
 -- `header::fill_nodes` meets its contract: the nodes are there, and those that are left stand behind those that were put. Assumes nothing.
 use Rattle.std.proofs.Common.{◌-◌, drop}
 use Rattle.link_reader.specs.Says.{nodes_in}
-use Rattle.link_fields.proofs.Columns.{Column}
+use Rattle.table.proofs.Storing.{Column}
 use Rattle.link_reader.proofs.header.NodeRuns.{Along}
 use Rattle.link_reader.proofs.header.fill_nodes.Given as goal
 

@@ -2,8 +2,8 @@
 use Rattle.std.proofs.Common.{arith, ◌≡◌, ◌<◌, false, length, sym, ◌∙◌}
 use Rattle.std.proofs.lemmas.Bool.Decides.{nat_tests}
 use Rattle.table.specs.Refusals.{count_bad}
-use Rattle.link_format.proofs.Counts.{few_nodes}
-use Rattle.link_fields.proofs.Checks.{failed, passed, passed_on}
+use Rattle.table.proofs.Counts.{few_nodes}
+use Rattle.table.proofs.Telling.{failed, passed, passed_on}
 use Rattle.link_fields.proofs.bit_maps.Bytes.{same_byte, other_byte}
 use Rattle.link_reader.proofs.Refused.{refused_as}
 use Rattle.link_reader.proofs.header.Ways.{header_empty, header_forbidden, cut_n, bad_n, cut_origin, wanted_refused, header_needless, header_got}

@@ -3,7 +3,7 @@ use Rattle.std.proofs.Common.{arith, ◌≡◌, false, ltb}
 use borrow.Author.Tests.{ltb-false}
 use Rattle.std.proofs.lemmas.Bool.Decides.{nat_tests}
 use Rattle.table.specs.Table.{most_wanted}
-use Rattle.link_fields.proofs.Checks.{failed, passed, passed_on}
+use Rattle.table.proofs.Telling.{failed, passed, passed_on}
 use Rattle.link_reader.proofs.Refused.{refused_as}
 use Rattle.link_reader.proofs.header.Ways.{wanted_absent, wanted_cut_count, wanted_many, nodes_refused, wanted_got}
 use Rattle.link_reader.proofs.header.read_wanted.Goals as goal

@@ -3,7 +3,7 @@ use Rattle.std.proofs.Common.{arith, refl, ◌≡◌, ◌+◌, ◌-◌, suc}
 use borrow.Rule.Slice.PartMut.{mid_len}
 use Rattle.link_format.specs.Format.{bytes}
 use Rattle.link_format.proofs.Numbers.{length_bytes}
-use Rattle.link_fields.proofs.Columns.{column_next, part_done}
+use Rattle.table.proofs.Storing.{column_next, part_done}
 use Rattle.link_fields.proofs.fields.Output.field.Goals as goal
 
 pub loop-byte-preserved : goal.loop-byte-preserved

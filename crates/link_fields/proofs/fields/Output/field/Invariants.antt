@@ -1,7 +1,7 @@
 -- `fields::Output::field` meets its contract: the bytes that are left to put stand behind those that were. Assumes nothing.
 use Prim.Native.Nat.{◌-◌}
 use Rattle.link_format.specs.Format.{bytes}
-use Rattle.link_fields.proofs.Columns.{Column}
+use Rattle.table.proofs.Storing.{Column}
 use Rattle.link_fields.proofs.fields.Output.field.Given as goal
 
 abbrev pub invariant-loop-byte : goal.invariant-loop-byte

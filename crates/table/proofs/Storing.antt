@@ -2,11 +2,12 @@
 use mathlib.Core.List.{List, [], ◌∷◌, ◌++◌, append-nil, append_assoc}
 use mathlib.Core.Path.{◌≡◌, refl, ◌∙◌}
 use Prim.Native.Nat.{ℕ, suc, ◌+◌, ◌≤◌}
-use native.Mathlib.Nat.{add-zero}
+use native.Mathlib.Nat.{add-zero, zero-add}
 use native.Mathlib.Numerals.{add-one}
 use native.Mathlib.Omega.{arith}
 use lib.ListN.{length, take, set, length-set, drop, length-drop, drop_of_length-le}
 use lib.Seq.{sets, sets-eq, drop-drop, length-take-le}
+use Rattle.table.specs.Slices.{over}
 use borrow.Rule.Slice.PartMut.{mid_of, put_mid}
 
 -- two pieces stored one after the other
@@ -42,3 +43,8 @@ part_done l a k {vs} column fits size = rw column.same (part_stored vs l a k fit
 -- the same of a part at the buffer's start
 pub start_done : (l : List ℕ) (k : ℕ) {vs part : List ℕ} {i : ℕ} → Column (take k l) 0 vs part i [] → k ≤ length l → length vs ≡ k → part ++ drop k l ≡ sets l 0 vs
 start_done l k column fits size = part_done l 0 k column (omega arith) size
+
+-- a list stored from the start of the buffer
+pub sets_over : (xs buffer : List ℕ) → length xs ≤ length buffer → sets buffer 0 xs ≡ over xs buffer
+unfolding over
+sets_over xs buffer h = sets-eq xs buffer 0 (rw (zero-add (length xs)) h) ∙ rw (zero-add (length xs))

@@ -1,0 +1,5 @@
+-- The answer is that of the function that is handed on to. Assumes nothing.
+use Rattle.kestrelore.proofs.kestrelore_read_link_file.Goals as goal
+
+pub returns : goal.returns
+returns c = c.read_link_file.ensures

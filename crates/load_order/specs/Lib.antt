@@ -1,0 +1,3 @@
+pub mod Order
+pub mod Promises
+pub mod Rows

@@ -1,0 +1,4 @@
+pub mod Load
+pub mod Making
+pub mod Promises
+pub mod Rows
