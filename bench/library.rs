@@ -1,8 +1,8 @@
 //! The library's functions on the benchmark's tables, and the C and C++ functions of this folder.
 
-use crate::abi::{self, Columns, Kept, Listed, PlanBuffers, Planned, Within, Written};
+use crate::abi::{self, Columns, Kept, Listed, LoadBuffers, Made, PlanBuffers, Planned, Within, Written};
 use crate::auction::Plan;
-use crate::tables::Table;
+use crate::tables::{Load, Table};
 use std::ffi::c_void;
 
 extern "C" {
@@ -69,6 +69,12 @@ pub fn keep(table: &Table, standing: &[u16], fresh: &[u16]) -> Kept {
 
 pub fn write(table: &Table, wanted: &[u16], output: &mut [u8]) -> Written {
     abi::write_link_file(table.n as u32, 0, columns(table), wanted, output)
+}
+
+/// Makes a test load of the table's number of nodes at the starts of its columns.
+pub fn make(load: Load, table: &mut Table) -> Made {
+    let Table { n, tails, heads, lengths } = table;
+    abi::make_load(*n as u32, load.seed, load.chance, load.largest, LoadBuffers { tails, heads, lengths })
 }
 
 /// A graph of LEMON or Boost, made from a table.

@@ -9,6 +9,7 @@ mod abi;
 mod auction;
 mod dijkstra;
 mod library;
+mod load;
 mod measure;
 mod plot;
 mod report;
@@ -93,11 +94,14 @@ fn main() -> std::io::Result<()> {
     };
     let rows = rows();
     let keeping = keeping_rows();
+    let making = measure::making(1_024);
+    println!("{}", report::making_line(&making));
     let stack = measure::stack(&tables::sparse(1_024));
-    let measure::Stack { plan, plan_to_collector, within, list, list_to_collector, keep, read, write } = stack;
+    let measure::Stack { plan, plan_to_collector, within, list, list_to_collector, keep, read, write, make } = stack;
     println!("stack: plan {plan}, to a collector {plan_to_collector}, within {within} bytes");
-    println!("stack: list {list}, to a collector {list_to_collector}, keep {keep}, read {read}, write {write} bytes");
+    println!("stack: list {list}, to a collector {list_to_collector}, keep {keep} bytes");
+    println!("stack: read {read}, write {write}, make {make} bytes");
     let plot_name = Path::new(plot).file_name().unwrap_or_default().to_string_lossy();
     std::fs::write(plot, plot::svg(&curves()))?;
-    std::fs::write(page, report::page(&machine, &rows, &keeping, &stack, &plot_name))
+    std::fs::write(page, report::page(&machine, &rows, &keeping, &making, &stack, &plot_name))
 }

@@ -4,7 +4,8 @@ use crate::abi::{self, Kept, Planned, ReadBuffers, LONGEST_FILE, MOST_ARCS, MOST
 use crate::auction::{self, Counts, Plan};
 use crate::dijkstra;
 use crate::library::{self, nanoseconds, Peer};
-use crate::tables::Table;
+use crate::load;
+use crate::tables::{self, Table, LOAD};
 use std::ffi::c_void;
 use std::mem::ManuallyDrop;
 
@@ -88,7 +89,7 @@ pub fn times(table: &Table, target: Option<u16>) -> Times {
 fn check(table: &Table, wanted: &[u16], target: Option<u16>, peers: (&Peer, &Peer)) -> Planned {
     let (mut plan, mut other) = (Plan::new(table), Plan::new(table));
     let answer = library::plan(table, wanted, &mut plan);
-    assert_eq!(answer.number, 0, "every wanted node has a walk");
+    assert!(answer.number == 0 || answer.number == 8, "the table is not turned down");
     let counts = Counts {
         contractions: answer.contractions,
         extensions: answer.extensions,
@@ -153,7 +154,25 @@ pub fn keeping(table: &Table, path: &[u16]) -> Keeping {
     Keeping { nodes: path.len(), keep: times[0], plan: times[1] }
 }
 
-/// Bytes of stack that the eight functions need.
+/// Nanoseconds of making a test load of so many arcs, and of the same in ordinary Rust.
+pub struct Making {
+    pub arcs: usize,
+    pub library: f64,
+    pub plain: f64,
+}
+
+pub fn making(n: usize) -> Making {
+    let (mut table, mut other) = (tables::room(n), tables::room(n));
+    let arcs = library::make(LOAD, &mut table).arcs as usize;
+    assert_eq!(arcs, load::make(LOAD, &mut other));
+    assert!(table.tails == other.tails && table.heads == other.heads && table.lengths == other.lengths);
+    let mut by_library = || finish(library::make(LOAD, &mut table));
+    let mut by_plain = || finish(load::make(LOAD, &mut other));
+    let times = medians(&mut [&mut by_library, &mut by_plain]);
+    Making { arcs, library: times[0], plain: times[1] }
+}
+
+/// Bytes of stack that the nine functions need.
 pub struct Stack {
     pub plan: usize,
     pub plan_to_collector: usize,
@@ -163,6 +182,7 @@ pub struct Stack {
     pub keep: usize,
     pub read: usize,
     pub write: usize,
+    pub make: usize,
 }
 
 struct Work<'a> {
@@ -202,6 +222,7 @@ pub fn stack(table: &Table) -> Stack {
         let out = ReadBuffers { tails: &mut tails, heads: &mut heads, lengths: &mut lengths, wanted: &mut nodes };
         finish(abi::read_link_file(&written, out))
     };
+    let mut room = tables::room(table.n);
     Stack {
         plan: plan_stack,
         plan_to_collector: collector_stack,
@@ -211,5 +232,6 @@ pub fn stack(table: &Table) -> Stack {
         keep: used_by(&mut || finish(library::keep(table, &route, &route))),
         read: used_by(&mut read),
         write: used_by(&mut || finish(library::write(table, &wanted, &mut file))),
+        make: used_by(&mut || finish(library::make(LOAD, &mut room))),
     }
 }

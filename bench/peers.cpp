@@ -70,7 +70,8 @@ void lemon_run(void *made, std::size_t target)
 std::uint64_t lemon_distance(void *made, std::size_t node)
 {
     auto *table = static_cast<LemonTable *>(made);
-    return static_cast<std::uint64_t>(table->search.dist(table->graph.nodeFromId(static_cast<int>(node))));
+    auto at = table->graph.nodeFromId(static_cast<int>(node));
+    return table->search.reached(at) ? static_cast<std::uint64_t>(table->search.dist(at)) : UINT64_MAX;
 }
 
 void lemon_free(void *made) { delete static_cast<LemonTable *>(made); }

@@ -1,6 +1,6 @@
 //! The table of measurements as a page, and as lines while it is measured.
 
-use crate::measure::{Keeping, Stack, Times};
+use crate::measure::{Keeping, Making, Stack, Times};
 use std::fmt::Write;
 
 pub struct Row {
@@ -72,7 +72,12 @@ fn names(rows: &[Row], holds: impl Fn(&Times) -> bool) -> String {
     names.join(", ")
 }
 
-pub fn page(machine: &Machine, rows: &[Row], keeping: &[KeepingRow], stack: &Stack, plot: &str) -> String {
+pub fn making_line(making: &Making) -> String {
+    let Making { arcs, library, plain } = making;
+    format!("A load of 1,024 nodes, {arcs} arcs: {:.2} ms, {} of the time in ordinary Rust.", library / 1e6, ratio(library / plain))
+}
+
+pub fn page(machine: &Machine, rows: &[Row], keeping: &[KeepingRow], making: &Making, stack: &Stack, plot: &str) -> String {
     let Machine { date, processor, cores, compilers, before } = machine;
     let mut page = String::new();
     let mut add = |text: &str| page.write_str(text).expect("a string takes every text");
@@ -87,7 +92,9 @@ pub fn page(machine: &Machine, rows: &[Row], keeping: &[KeepingRow], stack: &Sta
     add("The wanted nodes' distances of all five, and the four counts and the buffers of the two auctions, ");
     add("are compared before the clock starts.\n\n");
     add("A ratio is the library's time divided by the other's: above 1 the library takes longer. ");
-    add("\"One\" is the node in the middle when all are ordered by distance.\n\n");
+    add("\"One\" is the node in the middle when all are ordered by distance. ");
+    add("The test load is that of `kestrelore_make_load` for seed 2026, chance 375 and largest length 1,000; ");
+    add("some of its nodes have no walk from node 0, so a plan for all of them ends with number 8.\n\n");
     if let Some(what) = before {
         add(&format!("The library before is {what}; it is linked into the same process, and its iterations and buffers are compared too.\n\n"));
     }
@@ -110,6 +117,9 @@ pub fn page(machine: &Machine, rows: &[Row], keeping: &[KeepingRow], stack: &Sta
     add("The ratio is to the library's plan for the path's last node, measured by turns.\n\n");
     add("| table | n | m | nodes of the path | keeping, µs | to the plan |\n|---|--:|--:|--:|--:|--:|\n");
     keeping.iter().for_each(|row| add(&(keeping_line(row) + "\n")));
+    add("\n## Making a load\n\n");
+    add("The test load above, made by turns: two passes over the pairs, one that counts and one that puts. ");
+    add(&format!("{}\n", making_line(making)));
     add("\n## Stack\n\nThe calls allocate nothing; all working memory is on the stack. ");
     add("Measured with 1,024 nodes and 6,000 arcs on a painted stack; the caller's frame, which holds the arguments, is included, ");
     add("and less than 256 bytes cannot be seen:\n\n| function | bytes |\n|---|--:|\n");
@@ -121,5 +131,6 @@ pub fn page(machine: &Machine, rows: &[Row], keeping: &[KeepingRow], stack: &Sta
     add(&format!("| `kestrelore_keep_path` | {} |\n", stack.keep));
     add(&format!("| `kestrelore_read_link_file` | {} |\n", stack.read));
     add(&format!("| `kestrelore_write_link_file` | {} |\n", stack.write));
+    add(&format!("| `kestrelore_make_load` | {} |\n", stack.make));
     page
 }

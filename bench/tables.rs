@@ -1,5 +1,8 @@
 //! The tables that are measured. The origin is node 0.
 
+use crate::abi::MOST_ARCS;
+use crate::library;
+
 pub struct Table {
     pub n: usize,
     pub tails: Vec<u16>,
@@ -7,13 +10,23 @@ pub struct Table {
     pub lengths: Vec<u32>,
 }
 
+/// The numbers of a test load, beside the number of nodes.
+#[derive(Clone, Copy)]
+pub struct Load {
+    pub seed: u32,
+    pub chance: u32,
+    pub largest: u32,
+}
+
+pub const LOAD: Load = Load { seed: 2_026, chance: 375, largest: 1_000 };
+
 pub struct Family {
     pub name: &'static str,
     pub make: fn(usize) -> Table,
     pub n: usize,
 }
 
-pub const FAMILIES: [Family; 8] = [
+pub const FAMILIES: [Family; 9] = [
     Family { name: "sparse", make: sparse, n: 1_024 },
     Family { name: "dense", make: dense, n: 77 },
     Family { name: "star", make: star, n: 1_024 },
@@ -22,6 +35,7 @@ pub const FAMILIES: [Family; 8] = [
     Family { name: "chain with branches", make: chain_with_branches, n: 1_024 },
     Family { name: "ring, lengths 4,294,967,294", make: ring, n: 1_024 },
     Family { name: "grid", make: grid, n: 1_024 },
+    Family { name: "test load", make: test_load, n: 1_024 },
 ];
 
 /// Numbers from a fixed seed (the generator of Numerical Recipes, upper bits).
@@ -98,4 +112,20 @@ pub fn grid(n: usize) -> Table {
     let right = (0..n).filter(move |node| (node + 1) % width != 0 && node + 1 < n).map(|node| (node, node + 1));
     let down = (0..n).filter(move |node| node + width < n).map(move |node| (node, node + width));
     with_lengths(n, right.chain(down).flat_map(|(a, b)| [(a, b), (b, a)]))
+}
+
+/// Columns of n nodes with room for a test load.
+pub fn room(n: usize) -> Table {
+    Table { n, tails: vec![0; MOST_ARCS], heads: vec![0; MOST_ARCS], lengths: vec![0; MOST_ARCS] }
+}
+
+/// The library's own test load, 5,916 arcs for 1,024 nodes; some of them have no walk from node 0.
+fn test_load(n: usize) -> Table {
+    let mut table = room(n);
+    let made = library::make(LOAD, &mut table);
+    assert_eq!(made.number, 0, "the load is made");
+    table.tails.truncate(made.arcs as usize);
+    table.heads.truncate(made.arcs as usize);
+    table.lengths.truncate(made.arcs as usize);
+    table
 }
