@@ -311,8 +311,8 @@ kestrelore_written kestrelore_write_link_file(
  * 1 + draw % largest.
  *
  * tails, heads and lengths are at least 6,000 long; their starts are filled and the rest is untouched.
- * There is no loop and no pair twice, and planning does not turn the table down. Tested in the order
- * 1, 3, 16, 17.
+ * There is no loop and no pair twice, and planning does not turn the table down, whichever of its nodes
+ * are the origin and the wanted ones. Tested in the order 1, 3, 16, 17.
  */
 kestrelore_made kestrelore_make_load(
     uint32_t n, uint32_t seed, uint32_t chance, uint32_t largest,

@@ -16,7 +16,8 @@ use Rattle.table.proofs.Counts.{few_nodes}
 use Rattle.link_format.proofs.Counts.{equal_columns}
 use Rattle.link_format.proofs.Outcomes.{read_without_refusal, file_of_reading, reading_roomy}
 use Rattle.link_format.proofs.ReadThenWrite.{FileBack, file_back}
-use Rattle.link_format.proofs.Unrefused.{read_of, is_accepted, start_of, file_of_content, unrefused, Unrefused}
+use Rattle.table.proofs.Storing.{start_of}
+use Rattle.link_format.proofs.Unrefused.{read_of, is_accepted, file_of_content, unrefused, Unrefused}
 use Rattle.link_file.specs.Entries.{read_answer, ReadSays, write_answer, WriteSays}
 use Rattle.link_file.specs.Promises.{TableThere, CountsFit, WriteThenRead, ReadThenWrite, AnswersFit}
 use Rattle.link_file.specs.declared.TableRead.{TableRead}

@@ -6,11 +6,9 @@ use Prim.Native.Nat.{ℕ, ◌<◌}
 use native.Mathlib.Omega.{arith}
 use borrow.Author.Tests.{ltb-false}
 use lib.Dec.{ltb}
-use lib.ListN.{length, take, drop}
-use lib.Seq.{take_at}
+use lib.ListN.{length}
 use Rattle.table.specs.Refusals.{refusal, no_refusal, count_bad, columns_bad}
 use Rattle.table.specs.Table.{arcs_of, Below, most_wanted, tails_of, heads_of, lengths_of}
-use Rattle.table.specs.Slices.{over}
 use Rattle.link_format.specs.Buffers.{file_of, writing}
 use Rattle.link_format.specs.Format.{Content, content, file_bytes}
 use Rattle.link_format.specs.Promises.{Writable}
@@ -77,8 +75,3 @@ pub file_of_content : (t : Content)
     → file_of t.n t.origin (tails_of t.arcs) (heads_of t.arcs) (lengths_of t.arcs) t.wanted ≡ file_bytes t
 unfolding file_of content
 file_of_content t = rw (arcs_back t.arcs)
-
--- a list at the start of a buffer
-pub start_of : (xs buffer : List ℕ) (k : ℕ) → length xs ≡ k → take k (over xs buffer) ≡ xs
-unfolding over
-start_of xs buffer k e = take_at xs (drop (length xs) buffer) k e

@@ -9,6 +9,12 @@ use lib.ListN.{length}
 use lib.Seq.{sets}
 use borrow.Author.Tests.{ne_eqb, ltb-false}
 use Rattle.std.specs.Prelude.{Ok, Err}
+use Rattle.std.specs.Iterator.{Drains, YieldsFirstBy}
+use Rattle.std.proofs.lemmas.Iterator.Consumers.{YieldsList-from_first, count_from_yields_List}
+use Rattle.table.specs.Lent.{arc_of}
+use Rattle.table.specs.declared.links.Arc as links
+use Rattle.load_maker.specs.Left.{arcs_left}
+use Rattle.load_maker.specs.declared.arcs.Arcs.{Arcs}
 use Rattle.std.proofs.lemmas.Bool.Decides.{nat_tests}
 use Rattle.std.proofs.lemmas.Nat.{mul-lt}
 use Rattle.table.specs.Table.{Arc, most_nodes, most_arcs, tails_of, heads_of, lengths_of}
@@ -39,6 +45,11 @@ in_order n seed c l ts hs ls =
 pub some_largest : (c l : ℕ) → range_bad c l ≡ false → 0 < l
 unfolding range_bad
 some_largest c l e = grind (arith, nat_tests)
+
+-- what `count` gives of an iterator that has these arcs left
+pub counted : {arcs : List Arc} (left : Arcs) (m : ℕ) → arcs_left left ≡ arcs →
+    (items : List links.Arc) × Drains (YieldsFirstBy arc_of arcs_left) left items × (m ≡ length items) → m ≡ length arcs
+counted left m is ran = count_from_yields_List left m ran (YieldsList-from_first arc_of arcs_left _ is)
 
 -- the arcs of so few nodes can be counted
 pub countable : (n seed c l : ℕ) → n ≤ most_nodes → length (load n seed c l) < 2 ^ 64

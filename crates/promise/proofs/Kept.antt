@@ -37,10 +37,10 @@ use Rattle.link_format.proofs.Outcomes.{files_refused_by_number}
 use Rattle.link_format.proofs.BitMaps.{needless_record, needless_header_bits}
 use Rattle.link_format.proofs.Rows.{rows}
 use Rattle.link_file.proofs.EntryTrips.{write_then_read, read_then_write, answers_fit}
-use Rattle.load_order.specs.declared.Order.{Order}
-use Rattle.load_order.specs.Promises.{InRange, ReadsBack, OrderRefused}
-use Rattle.load_order.proofs.Promised.{orders_in_range, orders_read_back, enough_room, order_refusals}
-use Rattle.load_order.proofs.Rows as Orders
+use Rattle.load_file.specs.declared.LoadFile.{LoadFile}
+use Rattle.load_file.specs.Promises.{InRange, ReadsBack, LoadFileRefused}
+use Rattle.load_file.proofs.Promised.{load_files_in_range, load_files_read_back, enough_room, load_file_refusals}
+use Rattle.load_file.proofs.Rows as LoadFiles
 use Rattle.link_file.specs.declared.Written.{Written}
 use Rattle.sheet.proofs.Promised.{each_once, in_order, order_unseen, plans_printed, refusals_printed}
 use Rattle.sheet.proofs.Examples as Sheets
@@ -135,9 +135,9 @@ kept =
       needless_is_not_canonical = needless_record;
       needless_header_is_not_canonical = needless_header_bits;
       answers_fit = answers_fit;
-      orders_read_back = orders_read_back;
-      orders_in_range = orders_in_range;
-      order_refusals = order_refusals;
+      load_files_read_back = load_files_read_back;
+      load_files_in_range = load_files_in_range;
+      load_file_refusals = load_file_refusals;
       enough_room = enough_room;
       plans_printed = plans_printed;
       refusals_printed = refusals_printed;
@@ -151,7 +151,7 @@ kept =
       listings = Paths.examples;
       keepings = Keeping.rows;
       loads = Loads.rows;
-      orders = Orders.rows;
+      load_files = LoadFiles.rows;
       files = rows;
       sheets = Sheets.examples;
     }
@@ -293,8 +293,8 @@ load_there n seed c l ts hs ls ts' hs' ls' r x =
 pub refused_load : (ts hs ls ts' hs' ls' : List ℕ) (r : Made) → LoadRefused ts hs ls ts' hs' ls' r → LoadRefused ts hs ls ts' hs' ls' r
 refused_load ts hs ls ts' hs' ls' r x = record { numbers = x.numbers; nothing = x.nothing; untouched = x.untouched }
 
-pub order_in_range : (o : Order) → InRange o → InRange o
-order_in_range o r =
+pub load_file_in_range : (o : LoadFile) → InRange o → InRange o
+load_file_in_range o r =
     record {
       seed_fits = r.seed_fits;
       nodes_fit = r.nodes_fit;
@@ -303,8 +303,8 @@ order_in_range o r =
       origin_fits = r.origin_fits;
     }
 
-pub order_back : (o : Order) (file : List ℕ) → ReadsBack o file → ReadsBack o file
-order_back o file r = record { content_is = r.content_is; table_is = r.table_is }
+pub load_file_back : (o : LoadFile) (file : List ℕ) → ReadsBack o file → ReadsBack o file
+load_file_back o file r = record { content_is = r.content_is; table_is = r.table_is }
 
-pub refused_order : (output output' : List ℕ) (w : Written) → OrderRefused output output' w → OrderRefused output output' w
-refused_order output output' w r = record { numbers = r.numbers; nothing = r.nothing; untouched = r.untouched }
+pub refused_load_file : (output output' : List ℕ) (w : Written) → LoadFileRefused output output' w → LoadFileRefused output output' w
+refused_load_file output output' w r = record { numbers = r.numbers; nothing = r.nothing; untouched = r.untouched }

@@ -22,8 +22,8 @@ use Rattle.test_load.specs.Rows as Loads
 use Rattle.link_format.specs.Promises.{AcceptedFilesWriteBack, WrittenTablesReadBack, LongFilesAreRefused, FilesRefusedByNumber, NeedlessIsNotCanonical, NeedlessHeaderIsNotCanonical}
 use Rattle.link_format.specs.Rows as Files
 use Rattle.link_file.specs.Promises.{WriteThenRead, ReadThenWrite, AnswersFit}
-use Rattle.load_order.specs.Promises.{OrdersInRange, OrdersReadBack, EnoughRoom, OrderRefusals}
-use Rattle.load_order.specs.Rows as Orders
+use Rattle.load_file.specs.Promises.{LoadFilesInRange, LoadFilesReadBack, EnoughRoom, LoadFileRefusals}
+use Rattle.load_file.specs.Rows as LoadFiles
 use Rattle.sheet.specs.Promises.{EachOnce, InOrder, OrderUnseen, PlansPrinted, RefusalsPrinted}
 use Rattle.sheet.specs.Examples as Sheets
 use Rattle.printer.specs.Promises.{PiecesPrinted}
@@ -136,9 +136,9 @@ pub record Promise : Type 0 where
   pub needless_header_is_not_canonical : NeedlessHeaderIsNotCanonical
   pub answers_fit : AnswersFit
   -- THE LOAD'S FILE: what is written for the words of a load reads back as that load, from the origin that was asked for, with every node wanted
-  pub orders_read_back : OrdersReadBack
-  pub orders_in_range : OrdersInRange
-  pub order_refusals : OrderRefusals
+  pub load_files_read_back : LoadFilesReadBack
+  pub load_files_in_range : LoadFilesInRange
+  pub load_file_refusals : LoadFileRefusals
   pub enough_room : EnoughRoom
   -- THE SHEET AND THE PROGRAM: a plan is shown whole, each path once, the nearest first, and the pieces that are written are what is printed of the input
   pub plans_printed : PlansPrinted
@@ -155,5 +155,5 @@ pub record Promise : Type 0 where
   pub keepings : Keeping.Rows
   pub loads : Loads.Rows
   pub files : Files.Rows
-  pub orders : Orders.Rows
+  pub load_files : LoadFiles.Rows
   pub sheets : Sheets.Examples

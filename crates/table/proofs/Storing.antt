@@ -6,7 +6,7 @@ use native.Mathlib.Nat.{add-zero, zero-add}
 use native.Mathlib.Numerals.{add-one}
 use native.Mathlib.Omega.{arith}
 use lib.ListN.{length, take, set, length-set, drop, length-drop, drop_of_length-le}
-use lib.Seq.{sets, sets-eq, drop-drop, length-take-le}
+use lib.Seq.{sets, sets-eq, drop-drop, length-take-le, take_at, drop-append_seam}
 use Rattle.table.specs.Slices.{over}
 use borrow.Rule.Slice.PartMut.{mid_of, put_mid}
 
@@ -48,3 +48,12 @@ start_done l k column fits size = part_done l 0 k column (omega arith) size
 pub sets_over : (xs buffer : List ℕ) → length xs ≤ length buffer → sets buffer 0 xs ≡ over xs buffer
 unfolding over
 sets_over xs buffer h = sets-eq xs buffer 0 (rw (zero-add (length xs)) h) ∙ rw (zero-add (length xs))
+
+-- a list at the start of a buffer is there, and the rest is as it was
+pub start_of : (xs buffer : List ℕ) (k : ℕ) → length xs ≡ k → take k (over xs buffer) ≡ xs
+unfolding over
+start_of xs buffer k e = take_at xs (drop (length xs) buffer) k e
+
+pub rest_of : (xs buffer : List ℕ) (k : ℕ) → length xs ≡ k → drop k (over xs buffer) ≡ drop k buffer
+unfolding over
+rest_of xs buffer k e = rw (← e) (drop-append_seam xs (drop (length xs) buffer))

@@ -48,7 +48,7 @@ loads_planned n seed c l ts hs ls ts' hs' ls' r low says z =
     let arcs = load n seed c l in
     let none : f.number ≡ 0 = ap (λ (m : Made). m.number) (sym says.answer) ∙ z in
     let all = all_made f arcs none in
-    let fine = unrefused n seed c l (length ts) (length hs) (length ls) low none in
+    let fine = unrefused n seed c l (length ts) (length hs) (length ls) none in
     let count = ap (λ (m : Made). m.arcs) says.answer ∙ ap length all in
     let tails = column (tails_of arcs) ts ts' r.arcs (count ∙ sym (length_tails arcs)) (rw all at says.tails_are) in
     let heads = column (heads_of arcs) hs hs' r.arcs (count ∙ sym (length_heads arcs)) (rw all at says.heads_are) in
@@ -59,10 +59,10 @@ loads_planned n seed c l ts hs ls ts' hs' ls' r low says z =
       heads_are = heads.0;
       lengths_are = lengths.0;
       rest_stays = (tails.1, heads.1, lengths.1);
-      none_down = λ i h. omega (arith, (listed n seed c l fine.some_length).no_longer i (omega (arith, h, count)), fine.up);
-      accepted = λ o ws origin few below. rw (tails.0, heads.0, lengths.0) (table_good n seed c l fine o ws origin few below);
+      none_down = λ i h. omega (arith, (listed n seed c l fine.some_length).no_longer i (omega (arith, h, count)), low, fine.not_down);
+      accepted = λ o ws origin few below. rw (tails.0, heads.0, lengths.0) (table_good n seed c l low fine o ws origin few below);
       planned = λ o ws ds ps tr ms origin few below d p t m.
-          rw (tails.0, heads.0, lengths.0) (plan_made n seed c l fine o ws origin few below ds ps tr ms d p t (m ∙ count));
+          rw (tails.0, heads.0, lengths.0) (plan_made n seed c l low fine o ws origin few below ds ps tr ms d p t (m ∙ count));
     }
 
 -- and where it is another, it is the refusal's

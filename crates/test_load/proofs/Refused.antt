@@ -2,7 +2,7 @@
 use mathlib.Core.Path.{◌≡◌, refl}
 use mathlib.Core.Bool.{◌||◌}
 use mathlib.Core.Logic.{◌⊎◌, inl, inr}
-use Prim.Native.Nat.{ℕ, ◌^◌, ◌<◌, ◌≤◌}
+use Prim.Native.Nat.{ℕ, ◌<◌, ◌≤◌}
 use native.Mathlib.Omega.{arith}
 use lib.Dec.{ltb, eqb}
 use lib.ListN.{length}
@@ -29,7 +29,7 @@ module _ (n seed c l : ℕ) where
     pub few_nodes : n ≤ most_nodes
     -- the largest length is one, and does not say that the link is down;
     pub some_length : 0 < l
-    pub up : l < down
+    pub not_down : l ≡ down → ⊥
     -- and there are not too many arcs
     pub few_arcs : length (load n seed c l) ≤ most_arcs
 
@@ -37,9 +37,9 @@ module _ (n seed c l : ℕ) where
     abbrev f : Refusal
     f = load_refusal n seed c l ts hs ls
 
-    pub unrefused : l < 2 ^ 32 → f.number ≡ 0 → Unrefused
+    pub unrefused : f.number ≡ 0 → Unrefused
     unfolding load_refusal count_bad range_bad
-    unrefused low e =
+    unrefused e =
         let p = passed (count_bad n) _ 0 0 e in
         let q = passed (columns_short ts hs ls) _ 2 0 p.1 in
         let r = passed (range_bad c l) _ 15 0 q.1 in
@@ -50,7 +50,7 @@ module _ (n seed c l : ℕ) where
           some_node = omega (arith, eqb-false n 0 nodes.0);
           few_nodes = ltb-false most_nodes n nodes.1;
           some_length = omega (arith, eqb-false l 0 lengths.0);
-          up = omega (arith, eqb-false l down lengths.1);
+          not_down = eqb-false l down lengths.1;
           few_arcs = ltb-false most_arcs (length (load n seed c l)) s.0;
         }
 

@@ -3,10 +3,9 @@ use mathlib.Core.Path.{◌≡◌, refl, sym, ap, ◌∙◌}
 use mathlib.Core.Bool.{true}
 use mathlib.Core.List.{List, [], ◌∷◌}
 use mathlib.Core.Logic.{◌⊎◌, inl, inr}
-use Prim.Native.Nat.{ℕ, ◌≤◌, ◌<◌}
+use Prim.Native.Nat.{ℕ, ◌^◌, ◌≤◌, ◌<◌}
 use native.Mathlib.Omega.{arith}
 use lib.ListN.{length, take, drop}
-use lib.Seq.{take-append_seam, drop-append_seam}
 use borrow.Author.Tests.{lt-ltb, le-leb}
 use Rattle.std.specs.List.{All}
 use Rattle.std.proofs.lemmas.Bool.{cond_both}
@@ -15,6 +14,7 @@ use Rattle.table.specs.Table.{Arc, table, table_of, is_table, arc_good, arcs_goo
 use Rattle.table.specs.Refusals.{Refusal, refusal, no_refusal}
 use Rattle.table.specs.Slices.{over}
 use Rattle.table.proofs.Columns.{arcs_back, length_tails, length_heads, length_lengths}
+use Rattle.table.proofs.Storing.{start_of, rest_of}
 use Rattle.auction.specs.Auction.{Ended, auction}
 use Rattle.auction.specs.HandOver.{handed_over, route_refusal}
 use Rattle.auction.specs.Plan.{plan, plan_refusal, routes_of}
@@ -28,10 +28,7 @@ use Rattle.test_load.proofs.Refused.{Unrefused}
 
 -- A COLUMN with a list put at its start has the list there, and its rest as it was
 pub column : (xs buffer buffer' : List ℕ) (m : ℕ) → m ≡ length xs → buffer' ≡ over xs buffer → (take m buffer' ≡ xs) × (drop m buffer' ≡ drop m buffer)
-unfolding over
-column xs buffer buffer' m count put =
-    let rest = drop (length xs) buffer in
-    rw (put, count) (take-append_seam xs rest, drop-append_seam xs rest)
+column xs buffer buffer' m count put = rw put (start_of xs buffer m (sym count), rest_of xs buffer m (sym count))
 
 -- THE TABLE: arcs that are a load's are good
 good_arcs : (n l : ℕ) → l ≤ longest → (arcs : List Arc) → All (InLoad n l) arcs → arcs_good n arcs ≡ true
@@ -57,7 +54,7 @@ zero_or_eight ws e =
     cond_both e.routed _ _ (λ (f : Refusal). (f.number ≡ 0) ⊎ (f.number ≡ 8)) (λ found. inl refl) (λ missed. inr refl)
 
 -- A LOAD THAT IS NOT REFUSED
-module _ (n seed c l : ℕ) (fine : Unrefused n seed c l) where
+module _ (n seed c l : ℕ) (low : l < 2 ^ 32) (fine : Unrefused n seed c l) where
   abbrev arcs : List Arc
   arcs = load n seed c l
 
@@ -71,7 +68,7 @@ module _ (n seed c l : ℕ) (fine : Unrefused n seed c l) where
           le-leb n most_nodes fine.few_nodes,
           lt-ltb o n origin_in,
           le-leb (length arcs) most_arcs fine.few_arcs,
-          good_load n seed c l fine.some_length (omega (arith, fine.up)),
+          good_load n seed c l fine.some_length (omega (arith, low)),
           le-leb (length ws) most_wanted few_wanted,
           wanted_in,
         )

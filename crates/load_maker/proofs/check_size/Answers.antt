@@ -4,12 +4,9 @@ use mathlib.Core.Logic.{inl}
 use native.Mathlib.Omega.{arith}
 use lib.ListN.{length}
 use borrow.Author.Tests.{lt-ltb, le-ltb}
-use Rattle.std.proofs.lemmas.Iterator.Consumers.{YieldsList-from_first, count_from_yields_List}
-use Rattle.table.specs.Lent.{arc_of}
 use Rattle.table.specs.Table.{most_arcs}
-use Rattle.load_maker.specs.Left.{arcs_left}
 use Rattle.load_maker.specs.Says.{load_of}
-use Rattle.load_maker.proofs.Making.{countable}
+use Rattle.load_maker.proofs.Making.{counted, countable}
 use Rattle.load_maker.proofs.check_size.Goals as goal
 
 pub count-count-requires-clause-fits : goal.count-count-requires-clause-fits
@@ -19,10 +16,10 @@ count-count-requires-clause-fits c =
 
 pub returns-then-count-gt-MOST_ARCS-clause-told : goal.returns-then-count-gt-MOST_ARCS-clause-told
 returns-then-count-gt-MOST_ARCS-clause-told c =
-    let count = count_from_yields_List _ _ c.count-count.ensures.ran (YieldsList-from_first arc_of arcs_left _ c.arcs.ensures) in
+    let count = counted _ _ c.arcs.ensures c.count-count.ensures.ran in
     c.at.ensures ∙ rw (lt-ltb most_arcs (length (load_of c.args.recipe)) (omega (arith, count, c.if-count-gt-MOST_ARCS.true))) refl
 
 pub returns-clause-told : goal.returns-clause-told
 returns-clause-told c =
-    let count = count_from_yields_List _ _ c.count-count.ensures.ran (YieldsList-from_first arc_of arcs_left _ c.arcs.ensures) in
+    let count = counted _ _ c.arcs.ensures c.count-count.ensures.ran in
     rw (le-ltb most_arcs (length (load_of c.args.recipe)) (omega (arith, count, c.if-count-gt-MOST_ARCS.false))) refl

@@ -1,4 +1,4 @@
--- What is promised of the file of an order, said of what Order::write answers and leaves in the output. Each promise is a type; its proof, by the same name in
+-- What is promised of the file of a load, said of what LoadFile::write answers and leaves in the output. Each promise is a type; its proof, by the same name in
 -- small letters, stands in proofs/Promised.antt. Assumes nothing.
 use Rattle.std.specs.Prelude.{◌≡◌, true, List, [], ◌⊎◌, ℕ, ◌≤◌, ◌<◌, length, take, Some}
 use Rattle.table.specs.Table.{table, is_table}
@@ -6,41 +6,41 @@ use Rattle.link_format.specs.Format.{node_width, length_width, limit, most_file,
 use Rattle.link_format.specs.Reading.{got, read_file}
 use Rattle.link_file.specs.declared.Written.{Written}
 use Rattle.test_load.specs.Load.{load}
-use Rattle.load_order.specs.Order.{order_in, OrderSays}
-use Rattle.load_order.specs.declared.Order.{Order}
+use Rattle.load_file.specs.LoadFile.{load_file_in, LoadFileSays}
+use Rattle.load_file.specs.declared.LoadFile.{LoadFile}
 
 -- What words are read as is in the range of its type.
-pub record InRange (o : Order) : Type 0 where
+pub record InRange (o : LoadFile) : Type 0 where
   pub seed_fits : o.seed < limit length_width
   pub nodes_fit : o.n < limit length_width
   pub chance_fits : o.chance < limit length_width
   pub largest_fits : o.largest < limit length_width
   pub origin_fits : o.origin < limit node_width
 
-unfoldable pub OrdersInRange : Type 0
-OrdersInRange = (words : List (List ℕ)) (o : Order) → order_in words ≡ Some o → InRange o
+unfoldable pub LoadFilesInRange : Type 0
+LoadFilesInRange = (words : List (List ℕ)) (o : LoadFile) → load_file_in words ≡ Some o → InRange o
 
 -- NUMBER 0: what is written reads back as the node count and the origin that were asked for, with every node wanted, and the arcs of the load,
-pub record ReadsBack (o : Order) (file : List ℕ) : Type 0 where
+pub record ReadsBack (o : LoadFile) (file : List ℕ) : Type 0 where
   pub content_is : read_file file ≡ got (content o.n o.origin (count_up 0 o.n) (load o.n o.seed o.chance o.largest)) (length file) []
   -- which a planner does not turn down.
   pub table_is : is_table (table o.n o.origin (load o.n o.seed o.chance o.largest)) (count_up 0 o.n) ≡ true
 
-unfoldable pub OrdersReadBack : Type 0
-OrdersReadBack =
-    (o : Order) (output output' : List ℕ) (w : Written) → InRange o → OrderSays o output output' w → w.number ≡ 0 →
+unfoldable pub LoadFilesReadBack : Type 0
+LoadFilesReadBack =
+    (o : LoadFile) (output output' : List ℕ) (w : Written) → InRange o → LoadFileSays o output output' w → w.number ≡ 0 →
     ReadsBack o (take w.length output')
 
 -- With room for the longest link file, which has 56,055 bytes, 13 is never said.
 unfoldable pub EnoughRoom : Type 0
-EnoughRoom = (o : Order) (output output' : List ℕ) (w : Written) → most_file ≤ length output → OrderSays o output output' w → w.number ≡ 13 → ⊥
+EnoughRoom = (o : LoadFile) (output output' : List ℕ) (w : Written) → most_file ≤ length output → LoadFileSays o output output' w → w.number ≡ 13 → ⊥
 
 -- ANY OTHER NUMBER is 1, 4, 13, 16 or 17, at no place, and nothing is written.
-pub record OrderRefused (output output' : List ℕ) (w : Written) : Type 0 where
+pub record LoadFileRefused (output output' : List ℕ) (w : Written) : Type 0 where
   pub numbers : (w.number ≡ 1) ⊎ (w.number ≡ 4) ⊎ (w.number ≡ 13) ⊎ (w.number ≡ 16) ⊎ (w.number ≡ 17)
   pub nothing : (w.place ≡ 0) × (w.length ≡ 0)
   pub untouched : output' ≡ output
 
-unfoldable pub OrderRefusals : Type 0
-OrderRefusals =
-    (o : Order) (output output' : List ℕ) (w : Written) → OrderSays o output output' w → (w.number ≡ 0 → ⊥) → OrderRefused output output' w
+unfoldable pub LoadFileRefusals : Type 0
+LoadFileRefusals =
+    (o : LoadFile) (output output' : List ℕ) (w : Written) → LoadFileSays o output output' w → (w.number ≡ 0 → ⊥) → LoadFileRefused output output' w

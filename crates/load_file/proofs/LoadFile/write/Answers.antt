@@ -5,19 +5,18 @@ use native.Mathlib.Omega.{arith}
 use lib.ListN.{length}
 use Rattle.table.specs.Refusals.{no_refusal}
 use Rattle.table.specs.Table.{most_nodes}
-use Rattle.table.proofs.Counts.{few_nodes}
 use Rattle.table.proofs.Telling.{passed, passed_on}
 use Rattle.link_format.proofs.AllNodes.{length_count_up}
-use Rattle.load_order.proofs.Writing.{of_load, nothing_written, load_refuses, origin_refuses, load_passes, load_refused, load_made, filled, all_wanted, all_written}
-use Rattle.load_order.proofs.Order.write.Goals as goal
-use Rattle.load_order.proofs.Order.write.Goals.{In_ok-arcs}
+use Rattle.load_file.proofs.Writing.{of_load, nothing_written, load_refuses, origin_refuses, load_passes, load_refused, load_made, filled, all_wanted, all_written}
+use Rattle.load_file.proofs.LoadFile.write.Goals as goal
+use Rattle.load_file.proofs.LoadFile.write.Goals.{In_ok-arcs}
 
 -- where the load was made, it is not refused, and there are not too many nodes
 made : (c : In_ok-arcs) → no_refusal ≡ of_load c.args.self
 made c = load_made c.args.self _ _ _ _ _ _ (refl, refl, refl) _ c.in_ok-arcs.ensures.answer
 
 few : (c : In_ok-arcs) → c.args.self.n ≤ most_nodes
-few c = few_nodes (load_passes c.args.self (made c)).counted
+few c = (load_passes c.args.self (made c)).few_nodes
 
 pub returns-in_err-arcs-clause-answer : goal.returns-in_err-arcs-clause-answer
 returns-in_err-arcs-clause-answer c =

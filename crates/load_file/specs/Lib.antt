@@ -1,3 +1,3 @@
-pub mod Order
+pub mod LoadFile
 pub mod Promises
 pub mod Rows

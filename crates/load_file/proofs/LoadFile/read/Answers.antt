@@ -1,11 +1,11 @@
 -- Four words and five are taken apart. Assumes nothing.
 use native.Mathlib.Omega.{arith}
-use Rattle.load_order.specs.Order.{order_in}
-use Rattle.load_order.proofs.Words.{word_at, no_more}
-use Rattle.load_order.proofs.Order.read.Goals as goal
+use Rattle.load_file.specs.LoadFile.{load_file_in}
+use Rattle.load_file.proofs.Words.{word_at, no_more}
+use Rattle.load_file.proofs.LoadFile.read.Goals as goal
 
 pub returns-in-len4 : goal.returns-in-len4
-unfolding order_in
+unfolding load_file_in
 returns-in-len4 c =
     let ws = c.args.words.now in
     rw (
@@ -18,7 +18,7 @@ returns-in-len4 c =
     c.of.ensures
 
 pub returns-in-len5 : goal.returns-in-len5
-unfolding order_in
+unfolding load_file_in
 returns-in-len5 c =
     let ws = c.args.words.now in
     rw (

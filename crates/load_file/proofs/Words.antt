@@ -16,7 +16,7 @@ use Rattle.std.specs.Str.Parse.{IsNumeral, ParsesUnsigned, without_leading_plus,
 use Rattle.std.proofs.lemmas.Bool.{cases_Bool, and_parts}
 use Rattle.std.proofs.lemmas.Option.{cond_some}
 use Rattle.std.proofs.lemmas.Str.Parse.{IsNumeralModel, numerals_by_value, tells_all_ascii_digits}
-use Rattle.load_order.specs.Order.{number_in, order_in}
+use Rattle.load_file.specs.LoadFile.{number_in, load_file_in}
 
 -- digits are tested as the library tests them
 digits_tested : IsNumeralModel (λ (ds : List ℕ). all_ascii_digits ds ≡ true) (digits_value 10)
@@ -62,16 +62,16 @@ module _ {A : Type 0} (f : A → List ℕ) where
   pub no_more : (ws : List A) (k : ℕ) → length ws ≤ k → drop k (map f ws) ≡ []
   no_more ws k end = drop_of_length-le (map f ws) (rw (length-map ws f) end)
 
-  pub too_few : (ws : List A) → length ws < 4 → None ≡ order_in (map f ws)
-  unfolding order_in
+  pub too_few : (ws : List A) → length ws < 4 → None ≡ load_file_in (map f ws)
+  unfolding load_file_in
   too_few [] h = refl
   too_few (a ∷ []) h = refl
   too_few (a ∷ b ∷ []) h = refl
   too_few (a ∷ b ∷ c ∷ []) h = refl
   too_few (a ∷ b ∷ c ∷ d ∷ ws) h = absurd (omega arith)
 
-  pub too_many : (ws : List A) → 6 ≤ length ws → None ≡ order_in (map f ws)
-  unfolding order_in
+  pub too_many : (ws : List A) → 6 ≤ length ws → None ≡ load_file_in (map f ws)
+  unfolding load_file_in
   too_many [] h = absurd (omega arith)
   too_many (a ∷ []) h = absurd (omega arith)
   too_many (a ∷ b ∷ []) h = absurd (omega arith)

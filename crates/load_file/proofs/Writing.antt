@@ -1,4 +1,4 @@
--- The refusals of an order in their order, and the file of its load. Assumes nothing.
+-- The refusals in their order, and the bytes of the load. Assumes nothing.
 use mathlib.Core.Path.{◌≡◌, refl, sym, ap, ◌∙◌}
 use mathlib.Core.Bool.{false, cond}
 use mathlib.Core.List.{List}
@@ -8,7 +8,7 @@ use native.Mathlib.Omega.{arith}
 use lib.Dec.{eqb, ltb, leb}
 use lib.ListN.{length, take}
 use lib.Seq.{sets, length-sets}
-use borrow.Author.Tests.{ne_eqb, le-ltb, ltb-false}
+use borrow.Author.Tests.{ne_eqb, le-ltb}
 use Rattle.std.specs.Prelude.{Ok, Err}
 use Rattle.std.proofs.lemmas.Bool.Decides.{nat_tests}
 use Rattle.table.specs.Refusals.{refusal, no_refusal, or_else, count_bad, columns_short}
@@ -18,99 +18,98 @@ use Rattle.table.specs.Table.{most_arcs, most_wanted, tails_of, heads_of, length
 use Rattle.table.specs.Told.{number, tells}
 use Rattle.table.specs.declared.faults.Refusal.{Refusal}
 use Rattle.table.proofs.Columns.{arcs_back, columns_equal, length_tails, length_heads, length_lengths}
-use Rattle.table.proofs.Counts.{few_nodes}
-use Rattle.table.proofs.Storing.{sets_over}
+use Rattle.table.proofs.Counts.{good_count}
+use Rattle.table.proofs.Storing.{sets_over, start_of}
 use Rattle.table.proofs.Telling.{numbered, first, goes_on, stops}
 use Rattle.link_format.specs.Buffers.{file_of, writing, put_bytes}
 use Rattle.link_format.specs.Format.{count_up}
 use Rattle.link_format.proofs.AllNodes.{length_count_up}
-use Rattle.link_format.proofs.Unrefused.{start_of}
 use Rattle.link_file.specs.Entries.{write_answer, WriteSays}
 use Rattle.link_file.specs.Says.{file_answer}
-use Rattle.test_load.specs.Making.{range_bad, load_refusal, made_arcs, made, MakeSays}
+use Rattle.test_load.proofs.Refused.{Unrefused, unrefused}
+use Rattle.test_load.specs.Making.{load_refusal, made_arcs, made, MakeSays}
 use Rattle.test_load.specs.declared.Made.{Made}
 use Rattle.link_file.specs.declared.Written.{Written}
 use Rattle.load_maker.specs.Says.{made_answer}
-use Rattle.load_order.specs.Order.{order_arcs, order_content, order_file, order_refusal, OrderSays}
-use Rattle.load_order.specs.declared.Order.{Order}
+use Rattle.load_file.specs.LoadFile.{arcs_of_load, content_of_load, bytes_of_load, load_file_refusal, LoadFileSays}
+use Rattle.load_file.specs.declared.LoadFile.{LoadFile}
 
 -- A REFUSAL leaves the output as it was
-pub nothing_written : (o : Order) (output : List ℕ) (r : Refusal) → tells r ≡ order_refusal o (length output) →
-    OrderSays o output output (file_answer (Err r))
+pub nothing_written : (o : LoadFile) (output : List ℕ) (r : Refusal) → tells r ≡ load_file_refusal o (length output) →
+    LoadFileSays o output output (file_answer (Err r))
 unfolding put_bytes over refusal write_answer
 nothing_written o output r e =
     let real : eqb (number r.fault) 0 ≡ false = ne_eqb (number r.fault) 0 (numbered r.fault) in
     record { answer = rw (← e, real); output_is = rw (← e, real) }
 
-module _ (o : Order) where
+module _ (o : LoadFile) where
   -- what the load is refused by
   abbrev pub of_load : told_as.Refusal
   of_load = load_refusal o.n o.seed o.chance o.largest most_arcs most_arcs most_arcs
 
   -- the tests behind those of the load, in order
   abbrev behind : (room : ℕ) → told_as.Refusal
-  behind room = or_else (cond (leb o.n o.origin) (refusal 4 0) no_refusal) (cond (ltb room (length (order_file o))) (refusal 13 0) no_refusal)
+  behind room = or_else (cond (leb o.n o.origin) (refusal 4 0) no_refusal) (cond (ltb room (length (bytes_of_load o))) (refusal 13 0) no_refusal)
 
-  in_order : (room : ℕ) → or_else of_load (behind room) ≡ order_refusal o room
-  unfolding order_refusal
+  in_order : (room : ℕ) → or_else of_load (behind room) ≡ load_file_refusal o room
+  unfolding load_file_refusal
   in_order room = rw (← first (leb o.n o.origin) 4 0 _ refl) refl
 
   -- the load, or else the origin, is refused
-  pub load_refuses : (r : Refusal) (room : ℕ) → tells r ≡ of_load → tells r ≡ order_refusal o room
+  pub load_refuses : (r : Refusal) (room : ℕ) → tells r ≡ of_load → tells r ≡ load_file_refusal o room
   load_refuses r room e = stops r of_load (behind room) e ∙ in_order room
 
   pub origin_refuses : (r : Refusal) (room : ℕ) → no_refusal ≡ of_load → tells r ≡ cond (leb o.n o.origin) (refusal 4 0) no_refusal →
-      tells r ≡ order_refusal o room
+      tells r ≡ load_file_refusal o room
   origin_refuses r room e f = goes_on e (stops r _ _ f) ∙ in_order room
 
-  -- where neither is, the tests of the load have passed
-  pub record Passed : Type 0 where
-    pub counted : count_bad o.n ≡ false
-    pub ranged : range_bad o.chance o.largest ≡ false
-    pub few : ltb most_arcs (length (order_arcs o)) ≡ false
+  -- where neither is, the load is one that is not refused
+  abbrev pub Passed : Type 0
+  Passed = Unrefused o.n o.seed o.chance o.largest
 
   pub load_passes : no_refusal ≡ of_load → Passed
-  unfolding load_refusal columns_short order_arcs no_refusal refusal
-  load_passes e = record { counted = grind (arith, nat_tests); ranged = grind (arith, nat_tests); few = grind (arith, nat_tests) }
+  unfolding no_refusal refusal
+  load_passes e = unrefused o.n o.seed o.chance o.largest most_arcs most_arcs most_arcs (sym (ap (λ (f : told_as.Refusal). f.number) e))
 
-  -- where the order is not refused, or by 13, those of the load and of the origin have
+  -- where nothing is refused, or by 13, those of the load and of the origin have
   pub record PassedTo (room m : ℕ) : Type 0 where
     pub load : Passed
     pub origin : leb o.n o.origin ≡ false
-    pub last : (cond (ltb room (length (order_file o))) (refusal 13 0) no_refusal).number ≡ m
+    pub last : (cond (ltb room (length (bytes_of_load o))) (refusal 13 0) no_refusal).number ≡ m
 
-  pub passes_to : (room m : ℕ) → (m ≡ 0) ⊎ (m ≡ 13) → (order_refusal o room).number ≡ m → PassedTo room m
-  unfolding order_refusal load_refusal columns_short order_arcs or_else no_refusal refusal
+  pub passes_to : (room m : ℕ) → (m ≡ 0) ⊎ (m ≡ 13) → (load_file_refusal o room).number ≡ m → PassedTo room m
+  unfolding load_file_refusal load_refusal columns_short arcs_of_load or_else no_refusal refusal
   passes_to room m told e =
+      let of_load_none : of_load.number ≡ 0 = grind (arith, nat_tests) in
       record {
-        load = record { counted = grind (arith, nat_tests); ranged = grind (arith, nat_tests); few = grind (arith, nat_tests) };
+        load = unrefused o.n o.seed o.chance o.largest most_arcs most_arcs most_arcs of_load_none;
         origin = grind (arith, nat_tests);
         last = grind (arith, nat_tests);
       }
 
   pub passes_in_order : (room : ℕ) → no_refusal ≡ of_load → leb o.n o.origin ≡ false →
-      order_refusal o room ≡ cond (ltb room (length (order_file o))) (refusal 13 0) no_refusal
-  unfolding order_refusal or_else no_refusal refusal
+      load_file_refusal o room ≡ cond (ltb room (length (bytes_of_load o))) (refusal 13 0) no_refusal
+  unfolding load_file_refusal or_else no_refusal refusal
   passes_in_order room e f = rw (← e, f) refl
 
   -- the columns of the load make its file
-  pub file_is : file_of o.n o.origin (tails_of (order_arcs o)) (heads_of (order_arcs o)) (lengths_of (order_arcs o)) (count_up 0 o.n) ≡ order_file o
-  unfolding file_of order_file order_content
-  file_is = rw (arcs_back (order_arcs o)) refl
+  pub file_is : file_of o.n o.origin (tails_of (arcs_of_load o)) (heads_of (arcs_of_load o)) (lengths_of (arcs_of_load o)) (count_up 0 o.n) ≡ bytes_of_load o
+  unfolding file_of bytes_of_load content_of_load
+  file_is = rw (arcs_back (arcs_of_load o)) refl
 
   module _ (e : no_refusal ≡ of_load) (f : leb o.n o.origin ≡ false) where
-    writing_is : (room : ℕ) → writing o.n o.origin (tails_of (order_arcs o)) (heads_of (order_arcs o)) (lengths_of (order_arcs o)) (count_up 0 o.n) room
-        ≡ order_refusal o room
-    unfolding writing
+    writing_is : (room : ℕ) → writing o.n o.origin (tails_of (arcs_of_load o)) (heads_of (arcs_of_load o)) (lengths_of (arcs_of_load o)) (count_up 0 o.n) room
+        ≡ load_file_refusal o room
+    unfolding writing arcs_of_load
     writing_is room =
         let p = load_passes e in
         let wanted : ltb most_wanted (length (count_up 0 o.n)) ≡ false =
-        le-ltb most_wanted (length (count_up 0 o.n)) (omega (arith, length_count_up 0 o.n, few_nodes p.counted)) in
-        rw (p.counted, columns_equal (order_arcs o) (ltb-false most_arcs (length (order_arcs o)) p.few), wanted, file_is) (sym (passes_in_order room e f))
+        le-ltb most_wanted (length (count_up 0 o.n)) (omega (arith, length_count_up 0 o.n, p.few_nodes)) in
+        rw (good_count o.n p.some_node p.few_nodes, columns_equal (arcs_of_load o) p.few_arcs, wanted, file_is) (sym (passes_in_order room e f))
 
-    -- what writing these says is what the order says
-    pub all_written : (ts hs ls ws output output' : List ℕ) (w : Written) → ts ≡ tails_of (order_arcs o) → hs ≡ heads_of (order_arcs o) →
-        ls ≡ lengths_of (order_arcs o) → ws ≡ count_up 0 o.n → WriteSays o.n o.origin ts hs ls ws output output' w → OrderSays o output output' w
+    -- what writing these says is what is said of the load's file
+    pub all_written : (ts hs ls ws output output' : List ℕ) (w : Written) → ts ≡ tails_of (arcs_of_load o) → hs ≡ heads_of (arcs_of_load o) →
+        ls ≡ lengths_of (arcs_of_load o) → ws ≡ count_up 0 o.n → WriteSays o.n o.origin ts hs ls ws output output' w → LoadFileSays o output output' w
     all_written ts hs ls ws output output' w et eh el ew says =
         rw (writing_is (length output), file_is) at (rw (et, eh, el, ew) at says)
 
@@ -125,21 +124,21 @@ module _ (o : Order) where
       unfolding made refusal no_refusal
       load_made = ap (λ (x : Made). refusal x.number x.place) says.answer ∙ rw (long.0, long.1, long.2) refl
 
-      arcs_are : made_arcs (load_refusal o.n o.seed o.chance o.largest (length ts) (length hs) (length ls)) (order_arcs o) ≡ order_arcs o
+      arcs_are : made_arcs (load_refusal o.n o.seed o.chance o.largest (length ts) (length hs) (length ls)) (arcs_of_load o) ≡ arcs_of_load o
       unfolding made_arcs no_refusal refusal
       arcs_are = rw (long.0, long.1, long.2, ← load_made) refl
 
-      count_is : length (order_arcs o) ≡ m
-      unfolding made order_arcs
+      count_is : length (arcs_of_load o) ≡ m
+      unfolding made arcs_of_load
       count_is = sym (ap (λ (x : Made). x.arcs) says.answer ∙ ap length arcs_are)
 
       -- the columns that are filled are the load's
-      pub filled : (take m ts' ≡ tails_of (order_arcs o)) × (take m hs' ≡ heads_of (order_arcs o)) × (take m ls' ≡ lengths_of (order_arcs o))
-      unfolding order_arcs
+      pub filled : (take m ts' ≡ tails_of (arcs_of_load o)) × (take m hs' ≡ heads_of (arcs_of_load o)) × (take m ls' ≡ lengths_of (arcs_of_load o))
+      unfolding arcs_of_load
       filled = (
-        rw (says.tails_are, arcs_are) (start_of (tails_of (order_arcs o)) ts m (length_tails (order_arcs o) ∙ count_is)),
-        rw (says.heads_are, arcs_are) (start_of (heads_of (order_arcs o)) hs m (length_heads (order_arcs o) ∙ count_is)),
-        rw (says.lengths_are, arcs_are) (start_of (lengths_of (order_arcs o)) ls m (length_lengths (order_arcs o) ∙ count_is)),
+        rw (says.tails_are, arcs_are) (start_of (tails_of (arcs_of_load o)) ts m (length_tails (arcs_of_load o) ∙ count_is)),
+        rw (says.heads_are, arcs_are) (start_of (heads_of (arcs_of_load o)) hs m (length_heads (arcs_of_load o) ∙ count_is)),
+        rw (says.lengths_are, arcs_are) (start_of (lengths_of (arcs_of_load o)) ls m (length_lengths (arcs_of_load o) ∙ count_is)),
       )
 
 -- all nodes are wanted

@@ -5,11 +5,11 @@ use Rattle.table.specs.Refusals.{refusal, no_refusal, or_else, count_bad, column
 use Rattle.link_format.specs.Format.{content, bytes, bit_map, has, field_bytes, count_up, counts_from, all_nodes, nodes_bytes, wanted_bytes, header_bits, header_bytes, record_bits, fields_bytes, record_bytes, records_bytes, file_bytes}
 use Rattle.test_load.specs.Load.{pair, pairs_of, pairs_from, pairs, draw, drawn, load}
 use Rattle.test_load.specs.Making.{range_bad, load_refusal}
-use Rattle.load_order.specs.Order.{order, number_in, order_of, order_in, order_arcs, order_content, order_file, order_refusal}
-use Rattle.load_order.specs.Rows.{by_seed, by_origin, Rows}
+use Rattle.load_file.specs.LoadFile.{of_numbers, number_in, load_file_of, load_file_in, arcs_of_load, content_of_load, bytes_of_load, load_file_refusal}
+use Rattle.load_file.specs.Rows.{by_seed, by_origin, Rows}
 
 pub rows : Rows
-unfolding arc refusal no_refusal or_else count_bad columns_short content bytes bit_map has field_bytes count_up counts_from all_nodes nodes_bytes wanted_bytes header_bits header_bytes record_bits fields_bytes record_bytes records_bytes file_bytes pair pairs_of pairs_from pairs draw drawn load range_bad load_refusal order number_in order_of order_in order_arcs order_content order_file order_refusal by_seed by_origin
+unfolding arc refusal no_refusal or_else count_bad columns_short content bytes bit_map has field_bytes count_up counts_from all_nodes nodes_bytes wanted_bytes header_bits header_bytes record_bits fields_bytes record_bytes records_bytes file_bytes pair pairs_of pairs_from pairs draw drawn load range_bad load_refusal of_numbers number_in load_file_of load_file_in arcs_of_load content_of_load bytes_of_load load_file_refusal by_seed by_origin
 rows =
     record {
       four_words = refl;

@@ -1,19 +1,19 @@
-// The order of a test load: what the words behind a program's name ask for, and the link file that it makes. specs/Order.antt says which words are an order
-// and which file it makes; crate test_load says which load.
+// The link file of a test load: which one the words behind a program's name ask for, and its bytes. specs/LoadFile.antt says which words ask for one, and which
+// bytes it has; crate test_load says which load.
 #![tactic(auto)]
 
 ghost use Rattle.std.specs.Prelude.{◌≡◌, ◌≤◌, map, IfOk, string_bytes};
 ghost use Rattle.link_format.specs.Format.{most_file};
 ghost use Rattle.link_file.specs.Says.{file_answer};
-ghost use Rattle.load_order.specs.Order.{order_of, order_in, WritesOrder};
+ghost use Rattle.load_file.specs.LoadFile.{load_file_of, load_file_in, WritesLoadFile};
 
 use link_reader::header::fill_all;
 use table::faults::{Fault, Refusal};
 use table::{MOST_ARCS, MOST_NODES};
 
-// The test load that is asked for, and the origin of its table. The fields stand as the words do.
+// Which one it is: the numbers of the test load, and the origin of its table. The fields stand as the words do.
 #[derive(Clone, Copy)]
-pub struct Order {
+pub struct LoadFile {
     pub seed: u32,
     pub n: u32,
     pub chance: u32,
@@ -21,13 +21,13 @@ pub struct Order {
     pub origin: u16,
 }
 
-impl Order {
-    // The order of five words, each a number.
-    #[tactic(auto, using(crate::proofs::Words::parsed), unfolding(crate::specs::Order::order_of, crate::specs::Order::order))]
-    fn of(seed: &str, n: &str, chance: &str, largest: &str, origin: &str) -> Option<Order>
-        ensures { result ≡ order_of seed.now n.now chance.now largest.now origin.now }
+impl LoadFile {
+    // By five words, each a number.
+    #[tactic(auto, using(crate::proofs::Words::parsed), unfolding(crate::specs::LoadFile::load_file_of, crate::specs::LoadFile::of_numbers))]
+    fn of(seed: &str, n: &str, chance: &str, largest: &str, origin: &str) -> Option<LoadFile>
+        ensures { result ≡ load_file_of seed.now n.now chance.now largest.now origin.now }
     {
-        Some(Order {
+        Some(LoadFile {
             seed: seed.parse().ok()?,
             n: n.parse().ok()?,
             chance: chance.parse().ok()?,
@@ -36,14 +36,14 @@ impl Order {
         })
     }
 
-    // The order of the words behind a program's name. Where there is no fifth word the origin is node 0.
+    // By the words behind a program's name. Where there is no fifth word the origin is node 0.
     #[tactic(auto, using(crate::proofs::Words::too_few, crate::proofs::Words::too_many))]
-    pub fn read(words: &[String]) -> Option<Order>
-        ensures { result ≡ order_in (map string_bytes words.now) }
+    pub fn read(words: &[String]) -> Option<LoadFile>
+        ensures { result ≡ load_file_in (map string_bytes words.now) }
     {
         match words {
-            [seed, n, chance, largest] => Order::of(seed, n, chance, largest, "0"),
-            [seed, n, chance, largest, origin] => Order::of(seed, n, chance, largest, origin),
+            [seed, n, chance, largest] => LoadFile::of(seed, n, chance, largest, "0"),
+            [seed, n, chance, largest, origin] => LoadFile::of(seed, n, chance, largest, origin),
             _ => None,
         }
     }
@@ -51,7 +51,7 @@ impl Order {
     // Makes the load and puts its link file at the start of the output, and gives the file's length. The rest is left as it was, and a refusal leaves all
     // as it was.
     pub fn write(self, output: &mut [u8]) -> Result<usize, Refusal>
-        ensures answer { WritesOrder self output (file_answer result) }
+        ensures answer { WritesLoadFile self output (file_answer result) }
         ensures low { IfOk result (λ size. size ≤ most_file) }
     {
         let mut tails = [0; MOST_ARCS];

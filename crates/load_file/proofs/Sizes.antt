@@ -1,4 +1,4 @@
--- How long the file of an order may be. Assumes nothing.
+-- How long the file of a load may be. Assumes nothing.
 use mathlib.Core.Path.{◌≡◌, refl, ap, ◌∙◌}
 use mathlib.Core.Bool.{Bool, true, false, not}
 use mathlib.Core.List.{List, [], ◌∷◌, ◌++◌}
@@ -12,8 +12,8 @@ use Rattle.link_format.specs.Format.{node_width, length_width, most_record, most
 use Rattle.link_format.proofs.AllNodes.{all_count_up}
 use Rattle.link_format.proofs.BitMaps.{made_of}
 use Rattle.link_format.proofs.Numbers.{length_bytes}
-use Rattle.load_order.specs.Order.{order_arcs, order_content, order_file}
-use Rattle.load_order.specs.declared.Order.{Order}
+use Rattle.load_file.specs.LoadFile.{arcs_of_load, content_of_load, bytes_of_load}
+use Rattle.load_file.specs.declared.LoadFile.{LoadFile}
 
 short_field : (stands : Bool) (w v : ℕ) → length (field_bytes stands w v) ≤ w
 unfolding field_bytes
@@ -51,6 +51,6 @@ short_header n o =
       short_field (has 2 bits) node_width o,
     )
 
-pub short_file : (o : Order) → length (order_arcs o) ≤ most_arcs → length (order_file o) ≤ most_file
-unfolding order_file order_content file_bytes content
-short_file o few = simp length-append (omega (arith, few, short_header o.n o.origin, short_records none (order_arcs o)))
+pub short_file : (o : LoadFile) → length (arcs_of_load o) ≤ most_arcs → length (bytes_of_load o) ≤ most_file
+unfolding bytes_of_load content_of_load file_bytes content
+short_file o few = simp length-append (omega (arith, few, short_header o.n o.origin, short_records none (arcs_of_load o)))

@@ -1,7 +1,0 @@
--- The laws behind the functions: the number that a word writes, the refusals and the file of an order, what fits it.
-pub mod Words
-pub mod Writing
-pub mod Sizes
-pub mod Fitting
-pub mod Promised
-pub mod Rows
