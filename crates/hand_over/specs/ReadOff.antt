@@ -1,5 +1,6 @@
 -- What the hand-over reads off the nodes where a run has ended, and what it relies on. Assumes nothing: these are definitions.
 use Rattle.std.specs.Prelude.{◌≡◌, cond, List, ℕ, ◌-◌, ◌≤◌, ◌<◌, ltb, eqb, length, get_or}
+use Rattle.std.specs.Borrow.{MutBor}
 use Rattle.table.specs.declared.links.Columns.{Columns}
 use Rattle.table.specs.Table.{Table, arc_count, arc_at, head_at, length_at, down, no_distance, most_nodes, most_arcs}
 use Rattle.auction.specs.Auction.{State, auction, unreached}
@@ -39,13 +40,21 @@ pub record Fitting (n m : ℕ) (b : Buffers) : Type 0 where
   pub tree_long : length b.tree.now ≡ n
   pub marks_long : length b.marks.now ≡ m
 
+-- a slice that was lent in a struct: what it holds may be another, the slice is not
+pub record SameSlice (old new : MutBor (List ℕ)) : Type 0 where
+  -- it is the same place
+  pub same : new.ghost_name ≡ old.ghost_name
+  -- it is as long
+  pub long : length new.now ≡ length old.now
+
 -- the buffers are the same as before: none of the four is exchanged for another
-abbrev pub SameBuffers : (old new : Buffers) → Type 0
-SameBuffers old new =
-    (new.distances.ghost_name ≡ old.distances.ghost_name)
-    × (new.prices.ghost_name ≡ old.prices.ghost_name)
-    × (new.tree.ghost_name ≡ old.tree.ghost_name)
-    × (new.marks.ghost_name ≡ old.marks.ghost_name)
+pub record SameBuffers (old new : Buffers) : Type 0 where
+  -- an entry for each node
+  pub distances_same : SameSlice old.distances new.distances
+  pub prices_same : SameSlice old.prices new.prices
+  pub tree_same : SameSlice old.tree new.tree
+  -- a mark for each arc
+  pub marks_same : SameSlice old.marks new.marks
 
 -- the columns hold a table's arcs
 pub record ArcsHeld (t : Table) (c : Columns) : Type 0 where

@@ -1,6 +1,6 @@
 -- What reading and planning do in the workspace that is lent. Assumes nothing: these are definitions.
-use Rattle.std.specs.Prelude.{◌≡◌, List, ℕ, length}
-use Rattle.std.specs.Borrow.{MutBor}
+use Rattle.std.specs.Prelude.{◌≡◌, List, ℕ}
+use Rattle.hand_over.specs.ReadOff.{SameSlice}
 use Rattle.link_file.specs.declared.TableRead.{TableRead}
 use Rattle.link_file.specs.Entries.{LeftByReading}
 use Rattle.link_file.specs.Promises.{CountsFit}
@@ -9,13 +9,6 @@ use Rattle.sheet.specs.Printed.{read_input, printed}
 use Rattle.input.specs.declared.PlannedInput.{PlannedInput}
 use Rattle.input.specs.declared.Workspace.{Workspace}
 use Rattle.input.specs.Input.{printing_read}
-
--- a slice that was lent: what it holds may be another, the slice is not
-pub record SameSlice (old new : MutBor (List ℕ)) : Type 0 where
-  -- it is the same place
-  pub same : new.ghost_name ≡ old.ghost_name
-  -- it is as long
-  pub long : length new.now ≡ length old.now
 
 -- a workspace that was lent: each of its eight slices is the same
 pub record SameWorkspace (old new : Workspace) : Type 0 where

@@ -1,8 +1,8 @@
 -- How the code says what there may be none of, and what it decides. Assumes nothing: these are definitions.
-use Rattle.std.specs.Prelude.{Bool, true, false, cond, List, ℕ, ltb, eqb, length, Some, None, Result, Ok, Err}
+use Rattle.std.specs.Prelude.{Bool, true, false, cond, if◌then◌else◌, List, ℕ, ltb, eqb, length, Some, None, Result, Ok, Err}
 use Rattle.std.specs.Prelude as code
 use Rattle.std.proofs.Math.Option.{Option, none, some}
-use Rattle.table.specs.Table.{Table}
+use Rattle.table.specs.Table.{Table, down}
 use Rattle.table.specs.declared.faults.Refusal.{Refusal}
 use Rattle.table.specs.Told.{number}
 use Rattle.keeping.specs.declared.Kept.{Kept}
@@ -12,6 +12,10 @@ use Rattle.keeping.specs.Keeping.{step_length, lent_total, fresh_refusal, kept, 
 abbrev pub held : code.Option ℕ → Option ℕ
 held None = none
 held (Some a) = some a
+
+-- the shortest length met so far, where one is: no arc that is listed is down
+abbrev pub met : ℕ → code.Option ℕ
+met d = if eqb d down then None else Some d
 
 -- a step out of a node below n
 abbrev pub step_from : Table → (u v : ℕ) → Option ℕ

@@ -2,26 +2,30 @@
 // input.
 #![tactic(auto)]
 
-ghost use Rattle.std.specs.Prelude.{◌≡◌};
+ghost use Rattle.std.specs.Prelude.{◌≡◌, ◌<◌};
 ghost use Rattle.std.proofs.Math.Option.{some};
+ghost use Rattle.table.specs.Table.{down};
 ghost use Rattle.table.specs.Lent.{table_in};
 ghost use Rattle.table.specs.Refusals.{refusal};
 ghost use Rattle.table.specs.Told.{told};
 ghost use Rattle.keeping.specs.Keeping.{lesser, lent_total, stays, keep, keeps, Part};
-ghost use Rattle.keeper.specs.Totals.{held, step_from, answer, chosen};
+ghost use Rattle.keeper.specs.Totals.{held, met, step_from, answer, chosen};
 
 use forward_star::linked::{LinkedTable, with_star};
 use keeping::Kept;
 use refusals::{Rooms, check_table};
 use table::faults::{Fault, Refusal};
 use table::links::LinkTable;
-use table::{MOST_NODES, NO_ARC};
+use table::{DOWN, MOST_NODES, NO_ARC};
 
-// The lesser of the length met so far, if any, and an arc's, for which std has no one method.
-fn lesser(shortest: Option<u32>, length: u32) -> Option<u32>
-    ensures { held result ≡ lesser (held shortest) (some length) }
+// The lesser of the length met so far, DOWN where there is none yet, and an arc's. No arc that is listed has the length DOWN: with an Option in its place a step
+// along thousands of arcs took longer by a quarter (DECISIONS N12).
+#[tactic(auto, using(crate::proofs::Stepping::lesser_met))]
+fn lesser(shortest: u32, length: u32) -> u32
+    requires { length < down }
+    ensures { held (met result) ≡ lesser (held (met shortest)) (some length) }
 {
-    Some(shortest.map_or(length, |least| least.min(length)))
+    shortest.min(length)
 }
 
 // The length of the shortest arc from one node to another, where there is one. Only the arcs out of the first node are looked at, along its list as in a scan of
@@ -31,7 +35,7 @@ fn step_length(linked: &LinkedTable, from: u16, to: u16) -> Option<u32>
 {
     let star = &linked.star;
     let columns = star.columns;
-    let mut shortest = None;
+    let mut shortest = DOWN;
     let mut p = *star.first.get(usize::from(from))?;
     while p != NO_ARC {
         let i = usize::from(p);
@@ -40,7 +44,10 @@ fn step_length(linked: &LinkedTable, from: u16, to: u16) -> Option<u32>
         }
         p = star.next[i];
     }
-    shortest
+    if shortest == DOWN {
+        return None;
+    }
+    Some(shortest)
 }
 
 // The total of a list, where it is a walk of 1 to MOST_NODES nodes.

@@ -4,11 +4,17 @@ use mathlib.Core.Path.{◌≡◌, refl, ap}
 use mathlib.Core.List.{List, [], ◌∷◌, ◌++◌}
 use Prim.Native.Nat.{ℕ, zero, suc, ◌+◌, ◌*◌, ◌/◌, ◌%◌, ◌^◌, ◌≤◌, ◌<◌}
 use native.Mathlib.Omega.{arith}
-use lib.ListN.{length, take, drop}
-use lib.Seq.{get_or-drop}
+use lib.ListN.{length, take, drop, get_or}
+use lib.Seq.{drop-cons, get_or-drop}
 use Rattle.table.specs.Table.{Below}
 use Rattle.link_format.specs.Format.{bytes}
 use Rattle.link_format.specs.Reading.{number}
+
+-- one byte more, from the highest down
+pub number_more : (k j : ℕ) (part : List ℕ) → j < length part
+    → number (suc k) (drop j part) ≡ number k (drop (suc j) part) * 256 + get_or part j 0
+unfolding number
+number_more k j part h = rw (drop-cons part j 0 h)
 
 pub number_small : (w : ℕ) (bs : List ℕ) → Below 256 bs → number w bs < 256 ^ w
 unfolding number Below
@@ -42,3 +48,11 @@ bytes_number (suc w) (b ∷ bs) h k =
     let low : (number w bs * 256 + b) % 256 ≡ b = omega (arith, h 0) in
     let high : (number w bs * 256 + b) / 256 ≡ number w bs = omega (arith, h 0) in
     rw (low, high, bytes_number w bs (λ (i : ℕ). h (suc i)) (omega arith))
+
+-- a number of at most three bytes leaves room for one more in 32 bits
+pub three_bytes : (k : ℕ) → k ≤ 3 → 256 ^ k ≤ 16777216
+three_bytes zero h = omega arith
+three_bytes (suc zero) h = omega arith
+three_bytes (suc (suc zero)) h = omega arith
+three_bytes (suc (suc (suc zero))) h = omega arith
+three_bytes (suc (suc (suc (suc k)))) h = absurd (omega arith)

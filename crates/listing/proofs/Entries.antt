@@ -3,10 +3,10 @@ use mathlib.Core.Path.{◌≡◌}
 use mathlib.Core.Bool.{true, false, ◌&&◌}
 use mathlib.Core.List.{List, ◌∷◌}
 use mathlib.Core.Option.{none, some}
-use Prim.Native.Nat.{ℕ, suc, ◌<◌}
+use Prim.Native.Nat.{ℕ, suc, ◌≤◌, ◌<◌}
 use lib.Dec.{ltb, eqb}
 use lib.ListN.{length, get_or}
-use borrow.Author.Tests.{ltb-true, eqb-true, lt-ltb, eq-eqb, ne_eqb}
+use borrow.Author.Tests.{ltb-true, eqb-true, lt-ltb, le-ltb, eq-eqb, ne_eqb}
 use Rattle.std.proofs.lemmas.Bool.{and_parts}
 use Rattle.listing.specs.Listing.{Tree, node_count, entry, node_before, leads_back, back_to}
 
@@ -33,6 +33,14 @@ module _ (k : Tree) (v i : ℕ) (read : i ≡ entry k v) where
   pub tail_read : get_or k.tails i 0 ≡ node_before k v
   unfolding node_before
   tail_read = rw read
+
+  pub not_listed : length k.tails ≤ i → leads_back k v ≡ false
+  unfolding leads_back
+  not_listed h = rw (← read, le-ltb i (length k.tails) h)
+
+  pub other_head : i < length k.tails → (get_or k.heads i 0 ≡ v → ⊥) → leads_back k v ≡ false
+  unfolding leads_back
+  other_head h e = rw (← read, lt-ltb i (length k.tails) h, ne_eqb (get_or k.heads i 0) v e)
 
   pub by_tail : i < length k.tails → get_or k.heads i 0 ≡ v → leads_back k v ≡ ltb (get_or k.tails i 0) (node_count k)
   unfolding leads_back

@@ -1,19 +1,18 @@
 -- Writing the nodes of a path on the way back, the last of them first. Assumes nothing.
 use mathlib.Core.Path.{◌≡◌, refl, sym, ap, ◌∙◌}
 use mathlib.Core.List.{List, [], ◌∷◌, ◌++◌, reverse, reverse-cons}
-use mathlib.Core.Logic.{⊎_elim}
+use mathlib.Core.Logic.{◌⊎◌, inl, inr, ⊎_elim}
 use mathlib.Core.Option as wide
-use Prim.Native.Nat.{ℕ, ◌+◌, ◌<◌}
+use Prim.Native.Nat.{ℕ, suc, ◌+◌, ◌<◌}
 use native.Mathlib.Omega.{arith}
 use lib.ListN.{length, set, take}
-use Rattle.std.specs.Prelude.{Option, Some, IsSome}
+use Rattle.std.specs.Prelude.{Some}
 use Rattle.std.proofs.lemmas.Option.{same_Some}
 use Rattle.std.proofs.lemmas.List.{take_more_set, take_all}
 use Rattle.listing.specs.Listing.{Tree, node_count, node_before, back_to, path, nodes_of}
 use Rattle.listing.proofs.Entries.{leads}
 use Rattle.listing.proofs.Ways.{Goes_on, ends_or_goes, path_size}
 use Rattle.paths.specs.Trees.{size}
-use Rattle.paths.proofs.Counting.{before}
 
 -- a path of so many nodes
 pub sized : (p : wide.Option (List ℕ)) (n : ℕ) → size p ≡ Some n → (p ≡ wide.some (nodes_of p)) × (length (nodes_of p) ≡ n)
@@ -21,62 +20,67 @@ unfolding nodes_of
 sized wide.none n e = cc
 sized (wide.some vs) n e = (refl, same_Some _ _ e)
 
--- Where the path `vs` has more nodes than were passed, v is the next one.
-pub record Ahead (o : ℕ) (k : Tree) (vs passed : List ℕ) (next : Option ℕ) : Type 0 where
-  pub v : ℕ
-  pub is : next ≡ Some v
+-- On the way back of the path `vs` we are at v, and the first `at` nodes of that way are written.
+pub record Writing (o : ℕ) (k : Tree) (vs : List ℕ) (v at : ℕ) (output : List ℕ) : Type 0 where
+  -- the nodes behind us, on the path after v
+  pub behind : List ℕ
+  -- none is written yet, or v is the last of those that are
+  pub so_far : ((at ≡ 0) × (behind ≡ [])) ⊎ ((at ≡ suc (length behind)) × (take at output ≡ reverse (v ∷ behind)))
+  -- v is a node
   pub low : v < node_count k
   -- the way back from it gives the whole path
   pub left : ℕ
-  pub whole : back_to left o k v passed ≡ wide.some vs
-
--- The last `at` nodes of the path `vs` are written, the last of them first.
-pub record Writing (o : ℕ) (k : Tree) (vs : List ℕ) (next : Option ℕ) (at : ℕ) (output : List ℕ) : Type 0 where
-  pub passed : List ℕ
-  pub counted : at ≡ length passed
-  pub written : take at output ≡ reverse passed
-  -- what is still to be written
-  pub ahead : at < length vs → Ahead o k vs passed next
-  pub all : at ≡ length vs → passed ≡ vs
+  pub whole : back_to left o k v behind ≡ wide.some vs
 
 module _ (o : ℕ) (k : Tree) (vs output : List ℕ) where
-  pub begins : (node : ℕ) → path o node k ≡ wide.some vs → node < node_count k → Writing o k vs (Some node) 0 output
+  pub begins : (node : ℕ) → path o node k ≡ wide.some vs → node < node_count k → Writing o k vs node 0 output
   unfolding path
   begins node e low =
-      let some_node = path_size (node_count k) o k node [] vs e in
-      record {
-        passed = [];
-        counted = refl;
-        written = refl;
-        ahead = λ h. record { v = node; is = refl; low = low; left = node_count k; whole = e };
-        all = λ h. absurd (omega arith);
-      }
+      record { behind = []; so_far = inl (refl, refl); low = low; left = node_count k; whole = e }
 
-  module _ (next : Option ℕ) (at : ℕ) (w : Writing o k vs next at output) where
-    pub some_next : at < length vs → IsSome next
-    some_next h = let a = w.ahead h in rw a.is refl
-
-    pub low : at < length vs → (v : ℕ) → next ≡ Some v → v < node_count k
-    low h v e = let a = w.ahead h in let same = same_Some a.v v (sym a.is ∙ e) in omega (arith, a.low, same)
-
-    pub goes_on : at < length vs → at < length output → (v : ℕ) → next ≡ Some v → Writing o k vs (before k v) (at + 1) (set output at v)
-    goes_on h inside v e =
-        let a = w.ahead h in
-        let way : back_to a.left o k v w.passed ≡ wide.some vs = ap (λ u. back_to a.left o k u w.passed) (same_Some v a.v (sym e ∙ a.is)) ∙ a.whole in
+  module _ (v at : ℕ) (w : Writing o k vs v at output) where
+    -- before any is written
+    pub first : at ≡ 0 → 0 < length output → Writing o k vs v (at + 1) (set output at v)
+    first z inside =
+        ⊎_elim
+        (λ n.
         record {
-          passed = v ∷ w.passed;
-          counted = omega (arith, w.counted);
-          written = take_more_set output at v inside ∙ ap (λ l. l ++ (v ∷ [])) w.written ∙ sym (reverse-cons v w.passed);
-          ahead = λ more.
-              ⊎_elim (λ (p : vs ≡ v ∷ w.passed). absurd (omega (arith, ap length p, w.counted)))
-              (λ (g : Goes_on o k v w.passed vs).
-              record { v = node_before k v; is = rw g.leads_on refl; low = (leads k v g.leads_on).low; left = g.left; whole = g.whole })
-              (ends_or_goes a.left o k v w.passed vs way);
-          all = λ end.
-              ⊎_elim (λ (p : vs ≡ v ∷ w.passed). sym p)
-              (λ (g : Goes_on o k v w.passed vs). absurd (omega (arith, path_size g.left o k (node_before k v) (v ∷ w.passed) vs g.whole, w.counted)))
-              (ends_or_goes a.left o k v w.passed vs way);
-        }
+          behind = w.behind;
+          so_far = inr (omega (arith, ap length n.1), take_more_set output at v (omega arith) ∙ rw (z, n.1) refl);
+          low = w.low;
+          left = w.left;
+          whole = w.whole;
+        })
+        (λ l. absurd (omega (arith, l.0)))
+        w.so_far
+
+    module _ (some : 0 < at) where
+      written : (at ≡ suc (length w.behind)) × (take at output ≡ reverse (v ∷ w.behind))
+      written = ⊎_elim (λ n. absurd (omega (arith, n.0))) (λ l. l) w.so_far
+
+      -- where the path has more nodes, v's entry leads back
+      pub goes : at < length vs → Goes_on o k v w.behind vs
+      goes h =
+          ⊎_elim (λ (p : vs ≡ v ∷ w.behind). absurd (omega (arith, ap length p, written.0))) (λ (g : Goes_on o k v w.behind vs). g)
+          (ends_or_goes w.left o k v w.behind vs w.whole)
+
+      pub goes_on : at < length vs → at < length output → (u : ℕ) → u ≡ node_before k v → Writing o k vs u (at + 1) (set output at u)
+      goes_on h inside u e =
+          let g = goes h in
+          record {
+            behind = v ∷ w.behind;
+            so_far = inr (omega (arith, written.0), take_more_set output at u inside ∙ ap (λ l. l ++ (u ∷ [])) written.1 ∙ sym (reverse-cons u (v ∷ w.behind)));
+            low = omega (arith, e, (leads k v g.leads_on).low);
+            left = g.left;
+            whole = rw e g.whole;
+          }
 
     pub done : at ≡ length vs → at ≡ length output → output ≡ reverse vs
-    done all end = sym (take_all at output (omega arith)) ∙ w.written ∙ ap reverse (w.all all)
+    done all end =
+        let one = path_size w.left o k v w.behind vs w.whole in
+        let s = written (omega arith) in
+        let here : vs ≡ v ∷ w.behind =
+        ⊎_elim (λ (p : vs ≡ v ∷ w.behind). p)
+        (λ (g : Goes_on o k v w.behind vs). absurd (omega (arith, path_size g.left o k (node_before k v) (v ∷ w.behind) vs g.whole, s.0)))
+        (ends_or_goes w.left o k v w.behind vs w.whole) in
+        sym (take_all at output (omega arith)) ∙ s.1 ∙ ap reverse (sym here)

@@ -15,7 +15,7 @@ pub struct Tree<'a> {
 }
 
 impl Tree<'_> {
-    ghost use Rattle.std.specs.Prelude.{◌<◌, if◌then◌else◌, reverse};
+    ghost use Rattle.std.specs.Prelude.{true, ◌<◌, if◌then◌else◌, reverse};
     ghost use Rattle.listing.specs.Listing.{leads_back, node_before, nodes_of};
     ghost use Rattle.paths.specs.Trees.{tree_of, path_to, size};
 
@@ -48,16 +48,27 @@ impl Tree<'_> {
         None
     }
 
-    // Writes the path's nodes, from the node back to the origin.
+    // The same where the node's entry is known to lead back, as on a path whose nodes have been counted.
+    fn known_before(&self, node: u16) -> u16
+        requires node_in_bounds { node < length self.now.column.now }
+        requires leads { leads_back (tree_of self.now) node ≡ true }
+        ensures { result ≡ node_before (tree_of self.now) node }
+    {
+        self.tails[usize::from(self.column[usize::from(node)])]
+    }
+
+    // Writes the path's nodes, from the node back to the origin, whose own entry is not looked at.
     pub(crate) fn write_back(&self, node: u16, nodes: &mut [u16])
         requires node_in_bounds { node < length self.now.column.now }
         requires count { size (path_to self.now node) ≡ Some (length nodes.old) }
         ensures { nodes.new ≡ reverse (nodes_of (path_to self.now node)) }
     {
-        let mut next = Some(node);
-        for slot in nodes.iter_mut() {
-            *slot = next.unwrap();
-            next = self.node_before(*slot);
+        let mut v = node;
+        for (i, slot) in nodes.iter_mut().enumerate() {
+            if 0 < i {
+                v = self.known_before(v);
+            }
+            *slot = v;
         }
     }
 }

@@ -110,12 +110,12 @@ part_long l n e h = length-take-le n l (omega arith)
 
 -- THE FRESH STATE, as far as it is lent
 pub lent_fresh : (l : LinkTable) (r : RunState) →
-    ((t : Table) → t.origin ≡ l.origin → t.origin < t.n → t.n ≤ most_nodes → held (first_of t.n r) ≡ fresh t) → held (first_of l.n r) ≡ fresh (table_in l)
+    ((t : Table) → t.origin ≡ l.origin → t.origin < t.n → t.n ≤ l.n → held (first_of t.n r) ≡ fresh t) → held (first_of l.n r) ≡ fresh (table_in l)
 lent_fresh l r is_fresh =
     let n = nodes_are l in
     let o = origin_is l in
     subst (λ (m : ℕ). held (first_of m r) ≡ fresh (table_in l)) n
-    (is_fresh (table_in l) o (omega (arith, origin_low l)) (omega (arith, few_nodes l)))
+    (is_fresh (table_in l) o (omega (arith, origin_low l)) (omega (arith, n)))
 
 -- THE TABLE that is not refused is that of the arguments
 pub record Given (l : LinkTable) (n o : ℕ) (ts hs ls ws : List ℕ) : Type 0 where

@@ -25,7 +25,7 @@ fn run_fresh<T, F: FnMut(RunEnd, &[Node]) -> T>(table: &LinkTable, limit: u64, a
     ensures { (end : _) × (nodes : _) × RunEnds table.now limit end nodes.now × F.step answer.old end nodes result answer.new }
 {
     let n = table.n;
-    let fresh = RunState::fresh(table.origin);
+    let fresh = RunState::fresh(table.origin, n);
     let RunState {
         mut path,
         mut nodes,

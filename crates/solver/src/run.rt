@@ -37,7 +37,10 @@ fn first_unreached(from: usize, wanted: &[u16], nodes: &[Node]) -> usize
 fn is_above(limit: u64, least: Option<LeastBid>) -> bool
     ensures { result ≡ is_above limit least }
 {
-    least.is_some_and(|bid| limit < bid.value)
+    match least {
+        None => false,
+        Some(bid) => limit < bid.value,
+    }
 }
 
 // The iterations from the start, until every wanted node has been reached, the origin's price is above the limit, or the origin has no

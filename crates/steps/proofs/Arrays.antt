@@ -1,11 +1,12 @@
 -- What the auction's functions read off the arrays, and what a store does to the state that they hold. Assumes nothing.
 use mathlib.Core.Path.{◌≡◌, refl, sym, ap, ◌∙◌}
-use mathlib.Core.List.{List, [], ◌∷◌, map}
+use mathlib.Core.List.{List, [], ◌∷◌, ◌++◌, map}
 use mathlib.Core.Option.{Option, none, some}
 use Prim.Native.Nat.{ℕ, zero, suc, ◌≤◌, ◌<◌}
 use native.Mathlib.Omega.{arith}
 use lib.ListN.{length, get_or, set, take, replicate}
 use lib.Seq.{take-set-lt, map-set}
+use Rattle.std.proofs.lemmas.List.{take-append-le, length-replicate}
 use borrow.Author.Tests.{ne_eqb, eq-eqb}
 use lib.LanesLaws.{map-replicate}
 use Rattle.table.specs.Table.{Table, no_arc, no_node, no_distance}
@@ -75,6 +76,9 @@ take_replicate m zero a h = refl
 take_replicate zero (suc n) a h = absurd (omega arith)
 take_replicate (suc m) (suc n) a h = ap (λ l. a ∷ l) (take_replicate m n a (omega arith))
 
+pub taken : {A : Type 0} (m n : ℕ) (a : A) → n ≤ m → length (take n (replicate m a)) ≡ n
+taken m n a h = ap length (take_replicate m n a h) ∙ length-replicate n a
+
 path_begins : (m n o : ℕ) → o < n → n ≤ m → get_or (take n (set (replicate m 0) 0 o)) 0 0 ≡ o
 path_begins m zero o h l = absurd (omega arith)
 path_begins zero (suc n) o h l = absurd (omega arith)
@@ -85,16 +89,18 @@ node_filled zero v a h = absurd (omega arith)
 node_filled (suc n) zero a h = refl
 node_filled (suc n) (suc v) a h = node_filled n v a (omega arith)
 
--- as many nodes alike, but one
-module _ (m n v : ℕ) (a b : Node) (low : v < n) (few : n ≤ m) where
-  lent_nodes : take n (set (replicate m a) v b) ≡ set (replicate n a) v b
-  lent_nodes = take-set-lt n (replicate m a) v b low ∙ ap (λ l. set l v b) (take_replicate m n a few)
+-- so many nodes alike, but one, and others behind them
+module _ (rest : List Node) (m n v : ℕ) (a b : Node) (low : v < n) (few : n ≤ m) where
+  lent_nodes : take n (set (replicate m a ++ rest) v b) ≡ set (replicate n a) v b
+  lent_nodes =
+      take-set-lt n (replicate m a ++ rest) v b low
+      ∙ ap (λ l. set l v b) (take-append-le n (replicate m a) rest (omega (arith, length-replicate m a)) ∙ take_replicate m n a few)
 
   module _ {A : Type 0} (f : Node → A) where
-    column_but_one : map f (take n (set (replicate m a) v b)) ≡ set (replicate n (f a)) v (f b)
+    column_but_one : map f (take n (set (replicate m a ++ rest) v b)) ≡ set (replicate n (f a)) v (f b)
     column_but_one = ap (map f) lent_nodes ∙ written f (replicate n a) v b ∙ ap (λ l. set l v (f b)) (map-replicate f n a)
 
-    column_alike : f b ≡ f a → map f (take n (set (replicate m a) v b)) ≡ replicate n (f a)
+    column_alike : f b ≡ f a → map f (take n (set (replicate m a ++ rest) v b)) ≡ replicate n (f a)
     column_alike e =
         ap (map f) lent_nodes ∙ unwritten f (replicate n a) v b (e ∙ sym (ap f (node_filled n v a low))) ∙ map-replicate f n a
 
@@ -102,13 +108,14 @@ module _ (m n v : ℕ) (a b : Node) (low : v < n) (few : n ≤ m) where
 abbrev fresh_node : (bound : ℕ) → Node
 fresh_node b = record { price = 0; bound = b; kept = no_arc; remembered = no_node; status = Unreached }
 
-pub fresh_seen : (m : ℕ) (t : Table) (o at : ℕ) (g : Progress) → at ≡ o → t.origin ≡ o → t.origin < t.n → t.n ≤ m →
+pub fresh_seen : (k m : ℕ) (front rest : List Node) → front ≡ replicate m (fresh_node no_distance) → (t : Table) (o at : ℕ) (g : Progress) →
+    at ≡ o → t.origin ≡ o → t.origin < t.n → t.n ≤ m → m ≤ k →
     (g.depth ≡ 1) → (g.contractions ≡ 0) → (g.extensions ≡ 0) → (g.deletions ≡ 0) →
-    held (first_of t.n (run_of (set (replicate m 0) 0 o) (set (replicate m (fresh_node no_distance)) at (fresh_node 0)) g)) ≡ fresh t
+    held (first_of t.n (run_of (set (replicate k 0) 0 o) (set (front ++ rest) at (fresh_node 0)) g)) ≡ fresh t
 unfolding seen fresh nodes_of
-fresh_seen m t o at g ea eo h l ed ec ee ex =
+fresh_seen k m front rest alike t o at g ea eo h l few ed ec ee ex =
     let n = t.n in
     let a = fresh_node no_distance in
     let b = fresh_node 0 in
     let below : o < n = omega arith in
-    rw (ea, ed, ec, ee, ex, path_begins m n o below l, column_alike m n o a b below l (λ k. k.price) refl, column_but_one m n o a b below l (λ k. k.bound), column_alike m n o a b below l (λ k. k.kept) refl, column_alike m n o a b below l (λ k. status_number k.status) refl, map-set bound_of (replicate n no_distance) o 0, map-replicate bound_of n no_distance, map-replicate arc_of n no_arc, some_bound 0 (λ z. omega arith), no_bound no_distance refl, no_kept no_arc refl, eo)
+    rw (alike, ea, ed, ec, ee, ex, path_begins k n o below (omega arith), column_alike rest m n o a b below l (λ i. i.price) refl, column_but_one rest m n o a b below l (λ i. i.bound), column_alike rest m n o a b below l (λ i. i.kept) refl, column_alike rest m n o a b below l (λ i. status_number i.status) refl, map-set bound_of (replicate n no_distance) o 0, map-replicate bound_of n no_distance, map-replicate arc_of n no_arc, some_bound 0 (λ z. omega arith), no_bound no_distance refl, no_kept no_arc refl, eo)

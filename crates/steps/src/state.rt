@@ -52,6 +52,15 @@ pub struct Node {
 }
 
 impl Node {
+    // Room for a node, of which nothing is read.
+    const ROOM: Node = Node {
+        price: 0,
+        bound: 0,
+        kept: 0,
+        remembered: 0,
+        status: Status::Unreached,
+    };
+
     // A node before anything is reached.
     pub const FRESH: Node = Node {
         price: 0,
@@ -102,15 +111,17 @@ pub struct RunState {
 }
 
 impl RunState {
-    // The state before anything is reached, for any number of nodes above the origin.
-    pub fn fresh(origin: u16) -> RunState
-        requires { origin < most_nodes }
-        ensures so { (t : Table) → t.origin ≡ origin → t.origin < t.n → t.n ≤ most_nodes → held (first_of t.n result) ≡ fresh t }
+    // The state before anything is reached, for any number of nodes above the origin, up to n. No more are made fresh: a small table would wait longer for
+    // those that it has no use for than for its plan (DECISIONS N12).
+    pub fn fresh(origin: u16, n: usize) -> RunState
+        requires { (origin < most_nodes) × (n ≤ most_nodes) }
+        ensures so { (t : Table) → t.origin ≡ origin → t.origin < t.n → t.n ≤ n → held (first_of t.n result) ≡ fresh t }
         ensures long { (length result.path ≡ most_nodes) × (length result.nodes ≡ most_nodes) }
     {
         let mut path = [0; MOST_NODES];
         path[0] = origin;
-        let mut nodes = [Node::FRESH; MOST_NODES];
+        let mut nodes = [Node::ROOM; MOST_NODES];
+        nodes[..n].fill(Node::FRESH);
         let at = usize::from(origin);
         nodes[at] = Node {
             bound: 0,

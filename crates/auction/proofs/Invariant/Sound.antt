@@ -254,6 +254,17 @@ pub reached_low : (t : Table) (x : State) → reached_count t x ≤ t.n
 reached_low t x =
     omega (arith, reached_total t x, total_le t.n (one_if_reached x) (λ v. 1) (λ v l. one_low x v), total_const t.n 1)
 
+-- fewer than n where some node is unreached
+pub reached_fewer : (t : Table) (x : State) (j : ℕ) → j < t.n → status_at x j ≡ unreached → suc (reached_count t x) ≤ t.n
+reached_fewer t x j h z =
+    let a =
+    total_le t.n (λ v. one_if_reached x v + only_at j 1 v) (λ v. 1)
+    (λ v l.
+    ⊎_elim (λ (e : v ≡ j). omega (arith, only_same j 1 v e, unreached_none x v (ap (status_at x) e ∙ z)))
+    (λ (d : v ≡ j → ⊥). omega (arith, only_other j 1 v d, one_low x v))
+    (cases_eq v j)) in
+    omega (arith, a, reached_total t x, total_one t.n (one_if_reached x) j 1 h, total_const t.n 1)
+
 -- one more where j, unreached before, is reached
 pub one_more_reached : (t : Table) (x y : State) (j : ℕ) → j < t.n → status_at x j ≡ unreached → unreached < status_at y j →
     ((v : ℕ) → (v ≡ j → ⊥) → status_at y v ≡ status_at x v) → reached_count t y ≡ suc (reached_count t x)

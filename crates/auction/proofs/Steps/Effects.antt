@@ -70,10 +70,14 @@ pub undeleted_status : (x : State) (v : ℕ) → is_deleted x v ≡ false → st
 unfolding is_deleted
 undeleted_status x v e = eqb-false (status_at x v) deleted e
 
--- a node with a status or a kept arc is below n
+-- a node with a status, a bound or a kept arc is below n
 pub status_in : {t : Table} {x : State} (v : ℕ) → Sizes t x → unreached < status_at x v → v < t.n
 unfolding status_at
 status_in {t} {x} v z h = omega (arith, inside x.status v h, z.statuses)
+
+pub bound_in : {t : Table} {x : State} (v : ℕ) {d : ℕ} → Sizes t x → bound_at x v ≡ some d → v < t.n
+unfolding bound_at
+bound_in {t} {x} v {d} z e = omega (arith, inside_some x.bound v e, z.bounds)
 
 pub kept_below : {t : Table} {x : State} (v : ℕ) {k : ℕ} → Sizes t x → kept_at x v ≡ some k → v < t.n
 unfolding kept_at

@@ -14,6 +14,15 @@ use Rattle.hand_over.proofs.Entries.{column_so}
 use Rattle.hand_over.proofs.Handing.{distance_entry, arc_entry, distances_so, prices_so, tree_so, marks_so, assembled}
 use Rattle.hand_over.proofs.hand_over.Goals as goal
 
+pub returns-clause-same : goal.returns-clause-same
+returns-clause-same c =
+    record {
+      distances_same = record { same = search rules; long = omega arith };
+      prices_same = record { same = search rules; long = omega arith };
+      tree_same = record { same = search rules; long = omega arith };
+      marks_same = record { same = search rules; long = omega arith };
+    }
+
 pub returns-clause-answer : goal.returns-clause-answer
 unfolding answered iterations seen state refusal
 returns-clause-answer c = λ t ws path price nodes held wanted ran routed.

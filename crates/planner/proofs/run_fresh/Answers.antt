@@ -14,7 +14,7 @@ use Rattle.planner.proofs.run_fresh.Goals as goal
 use Rattle.planner.proofs.run_fresh.Goals.{After-run-end}
 
 pub fresh-fresh-requires : goal.fresh-fresh-requires
-fresh-fresh-requires g c = let l = c.args.table.now in omega (arith, origin_low l, few_nodes l)
+fresh-fresh-requires g c = let l = c.args.table.now in (omega (arith, origin_low l, few_nodes l), few_nodes l)
 
 pub slice_bounds-path-end : goal.slice_bounds-path-end
 slice_bounds-path-end g c = omega (arith, c.fresh-fresh.ensures.long.0, few_nodes c.args.table.now)

@@ -30,6 +30,9 @@ module _ (n k : ℕ) (f : IsDigitCount 10 1 n k) where
     few =
         ⊎_elim (λ (h : 20 < k). absurd (omega (arith, too_few 20 (omega arith) h, small))) (λ (h : k ≤ 20). h) (cases_lt 20 k)
 
+    pub fewest_few : k ≤ 20
+    fewest_few = few
+
     pub fewest_places : k ≡ places n
     unfolding places
     fewest_places = sym (found 19 1 (omega arith) f.0 (omega (arith, few)))

@@ -40,6 +40,9 @@ unreached_by : (x : State) (status : List ℕ) (v : ℕ) → x.status ≡ status
 unfolding was_reached status_at
 unreached_by x status v e z = rw e (le-ltb 0 (get_or status v 0) (omega arith))
 
+pub seeks : {from : ℕ} {ws status : List ℕ} → from ≤ length ws → Seeking from ws status from
+seeks h = record { low = h; same = λ x e. refl }
+
 module _ {from : ℕ} {ws status : List ℕ} {w : ℕ} (i : Seeking from ws status w) where
   pub seeks_on : (v : ℕ) → v ≡ get_or ws w 0 → w < length ws → (get_or status v 0 ≡ 0 → ⊥) → Seeking from ws status (w + 1)
   seeks_on v ev h d =

@@ -3,13 +3,14 @@ use mathlib.Core.Path.{◌≡◌, refl, sym, ap, ◌∙◌}
 use mathlib.Core.List.{List}
 use Prim.Native.Nat.{ℕ, ◌+◌, ◌-◌, ◌≤◌}
 use lib.ListN.{set}
+use lib.Seq.{lt-length-set}
 use Rattle.table.specs.Table.{Table, no_node}
 use Rattle.auction.specs.Auction.{deletion, contraction}
 use Rattle.steps.specs.declared.state.Status.TheVariants.{Deleted}
 use Rattle.steps.specs.declared.state.Node.{Node}
 use Rattle.steps.specs.declared.state.Progress.{Progress}
 use Rattle.steps.specs.Seen.{run_of, status_number, prices_in, bounds_in, kepts_in, memory_in, statuses_in}
-use Rattle.steps.specs.Memory.{node_at, forgetting}
+use Rattle.steps.specs.Memory.{node_at, forgetting, HasBefore}
 use Rattle.steps.specs.Steps.{Becomes}
 use Rattle.steps.proofs.Nodes.{written, unwritten, held_with_status, held_with_price, held_with_memory}
 use Rattle.steps.proofs.steps.Stepping.{deleted_so, contracted_origin, contracted_other}
@@ -18,6 +19,11 @@ use Rattle.steps.proofs.steps.Stepping.{deleted_so, contracted_origin, contracte
 pub memory_forgets : (u : ℕ) (ns ms : List Node) → memory_in ns ≡ memory_in ms → memory_in (forgetting u ns) ≡ memory_in (forgetting u ms)
 memory_forgets u ns ms e =
     written (λ m. m.remembered) ns u _ ∙ ap (λ l. set l u no_node) e ∙ sym (written (λ m. m.remembered) ms u _)
+
+-- the node before the terminal one can be looked up still
+pub before_still : {d : ℕ} {p : List ℕ} {ns : List Node} (v : ℕ) (m : Node) → HasBefore d p ns → HasBefore d p (set ns v m)
+before_still {d} {p} {ns} v m h =
+    record { some_node = h.some_node; on_path = h.on_path; inside = lt-length-set ns v m h.inside }
 
 module _ (path : List ℕ) (ns : List Node) (g : Progress) (v u : ℕ) where
   -- the node v is deleted, after u has forgotten

@@ -4,5 +4,5 @@ use Rattle.paths.specs.Trees.{tree_of, path_to}
 use Rattle.paths.proofs.Writing.{Writing}
 use Rattle.paths.proofs.tree.Tree.write_back.Given as goal
 
-abbrev pub invariant-loop-slot : goal.invariant-loop-slot
-invariant-loop-slot l = Writing l.self.origin (tree_of l.self) (nodes_of (path_to l.self l.node)) l.next l.slot-index l.nodes
+abbrev pub invariant-loop-i : goal.invariant-loop-i
+invariant-loop-i l = Writing l.self.origin (tree_of l.self) (nodes_of (path_to l.self l.node)) l.v l.i l.nodes
