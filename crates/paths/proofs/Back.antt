@@ -82,11 +82,12 @@ module _ (o v : ℕ) (k : Tree) (room : ℕ) where
       pub no_room : room < n → (y : Refusal) (before : List ℕ) → tells y ≡ refusal 13 0 → ListsBack (listing o v k room) (Err y) before before
       no_room h y before t = refuses (listing o v k room) (Err y) before 13 (on ∙ too_short room nodes (omega (arith, as_many))) refl t
 
-      pub lists : n ≤ room → (before : List ℕ) → ListsBack (listing o v k room) (Ok n) before (reverse nodes ++ drop n before)
+      -- so many are written, up to the end
+      pub lists : n ≤ room → (before : List ℕ) (end : ℕ) → end ≡ n → ListsBack (listing o v k room) (Ok n) before (reverse nodes ++ drop end before)
       unfolding listed no_refusal
-      lists h before =
+      lists h before end e =
           rw (on ∙ fitting room nodes (omega (arith, as_many)))
-          (record { told = refl; count = sym as_many; output = ap (λ i. reverse nodes ++ drop i before) (sym as_many) })
+          (record { told = refl; count = sym as_many; output = ap (λ i. reverse nodes ++ drop i before) (e ∙ sym as_many) })
 
 -- WHAT IS ANSWERED
 module _ (l : Listing) (answer : Listed) (before after : List ℕ) where

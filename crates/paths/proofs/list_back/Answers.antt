@@ -55,4 +55,5 @@ unfolding early_of
 returns c =
     let at = (goal.at.returns c).In_ok-count in
     let same = c.in_ok-tree.ensures.same in
-    rw (c.write_back.ensures, same.0, same.1) (lists _ _ (k at) _ c.in_ok-tree.ensures.told _ (found at) c.if-output-count.false c.args.output.now)
+    rw (c.write_back.ensures, same.0, same.1)
+    (lists _ _ (k at) _ c.in_ok-tree.ensures.told _ (found at) c.if-output-count.false c.args.output.now _ (omega arith))
