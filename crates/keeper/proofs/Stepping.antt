@@ -47,11 +47,6 @@ lesser_same (some a) none c = refl
 lesser_same (some a) (some b) none = refl
 lesser_same (some a) (some b) (some c) = ap some (least_same a b c)
 
--- ALL ARCS out of u: those from p on are left to compare
-own_shortest : (t : Table) (u v : ℕ) → OwnArcs t u (λ k i. shortest_from k i t u v)
-unfolding shortest_from between lesser
-own_shortest t u v = record { past = λ k i d. rw (ne_eqb (tail_at t i) u d); done = λ i j. refl }
-
 -- what is met: none yet, or a length
 pub none_met : (d : ℕ) → d ≡ down → met d ≡ code.None
 none_met d e = rw (eq-eqb d down e) refl
@@ -71,21 +66,26 @@ lesser_met a l r low e =
     (λ (h : a ≤ l). let same : r ≡ a = omega (arith, e) in rw (same, one_met a (λ z. omega (arith, z, h, low)), le-leb a l h) refl)
     (cases_lt l a)
 
-pub record Uncompared (t : Table) (u v shortest p : ℕ) : Type 0 where
+-- ALL ARCS out of u: those from p on are left to compare
+own_shortest : (t : Table) (u v : ℕ) → OwnArcs t u (λ k i. shortest_from k i t u v)
+unfolding shortest_from between lesser
+own_shortest t u v = record { past = λ k i d. rw (ne_eqb (tail_at t i) u d); done = λ i j. refl }
+
+pub record Uncompared (t : Table) (u v : ℕ) (shortest : code.Option ℕ) (p : ℕ) : Type 0 where
   pub on_list : OnList t u p
-  pub rest : lesser (held (met shortest)) (shortest_from (arc_count t - p) p t u v) ≡ step_length t u v
+  pub rest : lesser (held shortest) (shortest_from (arc_count t - p) p t u v) ≡ step_length t u v
 
 module _ {t : Table} {hs ls first next : List ℕ} (here : Outgoing t (star hs ls first next)) (u v : ℕ) where
-  pub begins : u < t.n → Uncompared t u v down (get_or first u 0)
+  pub begins : u < t.n → Uncompared t u v code.None (get_or first u 0)
   unfolding step_length lesser
   begins below = record { on_list = on_first here u below; rest = own_first here u (own_shortest t u v) below }
 
-  module _ {shortest p : ℕ} (inv : Uncompared t u v shortest p) where
-    pub ends : p ≡ no_arc → held (met shortest) ≡ step_length t u v
+  module _ {shortest : code.Option ℕ} {p : ℕ} (inv : Uncompared t u v shortest p) where
+    pub ends : p ≡ no_arc → held shortest ≡ step_length t u v
     unfolding shortest_from
     ends e =
-        sym (lesser_none (held (met shortest)))
-        ∙ sym (ap (λ (m : ℕ). lesser (held (met shortest)) (shortest_from m p t u v)) (none_left here u p e))
+        sym (lesser_none (held shortest))
+        ∙ sym (ap (λ (m : ℕ). lesser (held shortest) (shortest_from m p t u v)) (none_left here u p e))
         ∙ inv.rest
 
     module _ (more : p ≡ no_arc → ⊥) where
@@ -93,7 +93,7 @@ module _ {t : Table} {hs ls first next : List ℕ} (here : Outgoing t (star hs l
       at = inv.on_list.inside more
 
       -- one arc more has been compared
-      on : (r : ℕ) → held (met r) ≡ lesser (held (met shortest)) (between t u v p) → Uncompared t u v r (get_or next p 0)
+      on : (r : code.Option ℕ) → held r ≡ lesser (held shortest) (between t u v p) → Uncompared t u v r (get_or next p 0)
       unfolding shortest_from
       on r e =
           let left = shortest_from (arc_count t - suc p) (suc p) t u v in
@@ -101,13 +101,13 @@ module _ {t : Table} {hs ls first next : List ℕ} (here : Outgoing t (star hs l
             on_list = (on_next here u inv.on_list more).0;
             rest =
                 ap (λ (o : Option ℕ). lesser o (shortest_from (arc_count t - get_or next p 0) (get_or next p 0) t u v)) e
-                ∙ ap (lesser (lesser (held (met shortest)) (between t u v p))) (sym (own_next here u inv.on_list more (own_shortest t u v)))
-                ∙ sym (lesser_same (held (met shortest)) (between t u v p) left)
-                ∙ sym (ap (λ (m : ℕ). lesser (held (met shortest)) (shortest_from m p t u v)) (here_left here u inv.on_list more))
+                ∙ ap (lesser (lesser (held shortest) (between t u v p))) (sym (own_next here u inv.on_list more (own_shortest t u v)))
+                ∙ sym (lesser_same (held shortest) (between t u v p) left)
+                ∙ sym (ap (λ (m : ℕ). lesser (held shortest) (shortest_from m p t u v)) (here_left here u inv.on_list more))
                 ∙ inv.rest;
           }
 
-      -- the arc that is read, at i: it leads to v, or elsewhere
+      -- the arc that is read, at i, is not down
       module _ (good : Good t) (i : ℕ) (is_p : i ≡ p) where
         long_at : length_at t p ≡ get_or ls i 0
         long_at = sym (here.arc_length p at.0) ∙ ap (λ m. get_or ls m 0) (sym is_p)
@@ -118,14 +118,17 @@ module _ {t : Table} {hs ls first next : List ℕ} (here : Outgoing t (star hs l
             ⊎_elim (λ (e : get_or ls i 0 ≡ down). absurd (present (long_at ∙ e)))
             (λ (d : get_or ls i 0 ≡ down → ⊥). omega (arith, d, good.not_long p at.0, long_at)) (cases_eq (get_or ls i 0) down)
 
-        pub into : get_or hs i 0 ≡ v → (r : ℕ) → held (met r) ≡ lesser (held (met shortest)) (some (get_or ls i 0)) → Uncompared t u v r (get_or next i 0)
+      -- it leads to v, or elsewhere
+      module _ (i : ℕ) (is_p : i ≡ p) where
+        pub into : get_or hs i 0 ≡ v → (r : code.Option ℕ) → held r ≡ lesser (held shortest) (some (get_or ls i 0)) →
+            Uncompared t u v r (get_or next i 0)
         unfolding between
         into e r is =
             let leads : head_at t p ≡ v = sym (here.head p at.0) ∙ rw is_p at e in
-            rw is_p (on r (is ∙ rw (eq-eqb (tail_at t p) u at.1, eq-eqb (head_at t p) v leads, long_at) refl))
+            rw is_p (on r (rw is_p at is ∙ rw (eq-eqb (tail_at t p) u at.1, eq-eqb (head_at t p) v leads, here.arc_length p at.0) refl))
 
         pub elsewhere : (get_or hs i 0 ≡ v → ⊥) → Uncompared t u v shortest (get_or next i 0)
         unfolding between
         elsewhere d =
-            let other : head_at t p ≡ v → ⊥ = λ z. (rw is_p at d) (here.head p at.0 ∙ z) in
-            rw is_p (on shortest (sym (lesser_none (held (met shortest))) ∙ rw (eq-eqb (tail_at t p) u at.1, ne_eqb (head_at t p) v other) refl))
+            let leads : head_at t p ≡ v → ⊥ = λ z. (rw is_p at d) (here.head p at.0 ∙ z) in
+            rw is_p (on shortest (sym (lesser_none (held shortest)) ∙ rw (eq-eqb (tail_at t p) u at.1, ne_eqb (head_at t p) v leads) refl))

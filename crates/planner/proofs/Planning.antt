@@ -23,7 +23,7 @@ use Rattle.auction.proofs.Limit.{unlimited}
 use Rattle.auction.proofs.Made.{rooms_so, unrefused}
 use Rattle.table.specs.declared.links.LinkTable.{LinkTable}
 use Rattle.table.specs.Lent.{table_in}
-use Rattle.forward_star.proofs.Columns.{good_table, nodes_are, origin_is, few_nodes}
+use Rattle.forward_star.proofs.Columns.{good_table, nodes_are, origin_is}
 use Rattle.forward_star.proofs.Columns.{arcs_are, head_held, tail_held, length_held, heads_below, tails_below}
 use Rattle.steps.specs.declared.state.Node.{Node}
 use Rattle.steps.specs.declared.state.RunState.{RunState}

@@ -42,13 +42,13 @@ loop-p-smaller c =
 
 pub loop-p-preserved : goal.loop-p-preserved
 loop-p-preserved c =
-    let l = c.args.linked.now in
-    let good = good_table l.table in
+    let here = c.args.linked.now.listed in
     let more = c.loop-p-test.true in
     elim c.if-columns-i.branch [
       | then-columns-i w ↦
-          rw w.shortest-is (into l.listed _ _ c.loop-p.invariant more good _ c.from-i.ensures w.if-columns-i.true _ w.lesser-shortest.ensures)
-      | else-columns-i w ↦ rw w.shortest-is (elsewhere l.listed _ _ c.loop-p.invariant more good _ c.from-i.ensures w.if-columns-i.false)
+          rw w.shortest-is (into here _ _ c.loop-p.invariant more _ c.from-i.ensures w.if-columns-i.true _ w.lesser-shortest.ensures)
+      | else-columns-i w ↦
+          rw w.shortest-is (elsewhere here _ _ c.loop-p.invariant more _ c.from-i.ensures w.if-columns-i.false)
     ]
 
 pub returns-then-shortest : goal.returns-then-shortest
